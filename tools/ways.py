@@ -11,7 +11,7 @@ import os
 import re
 
 from bodies import lines_of_code
-from shared import crates_of_product, functions, lines_of, types_of
+from shared import crates_of_product, functions, text_of, types_of
 
 # Calls that are joined by words, and such that are joined by arrows.
 NAMED = r"`(?:[A-Z]\w*::)?[a-z]\w*`(?: of \w+)?"
@@ -21,8 +21,13 @@ CALL = re.compile(r"`(?:([A-Z]\w*)::)?(\w+)`(?: of (\w+))?")
 # A crate, with its files.
 PLACE = re.compile(r"\b([a-z_]+)\b((?:, `[\w/]+\.rt`)*)")
 
-Function = collections.namedtuple("Function", "crate file types text")
+Function = collections.namedtuple("Function", "crate file types is_public head text")
 Call = collections.namedtuple("Call", "type name crate")
+
+
+def is_of_trait(line):
+    """Says whether the members after this line are those of a public trait."""
+    return bool(re.match(r"pub trait\b|impl\b.* for ", line))
 
 
 @functools.cache
@@ -34,17 +39,19 @@ def product():
             lines = lines_of_code(file)
             types = [types_of(line) for line in lines]
             for name, start, head, end in functions(lines):
-                is_member = lines[start].startswith(" ")
-                own = next((it for it in reversed(types[:start]) if it and is_member), [])
+                above = range(start if lines[start].startswith(" ") else 0)
+                at = next((it for it in reversed(above) if types[it]), start)
+                is_public = lines[start].lstrip().startswith("pub ") or is_of_trait(lines[at])
+                told = "\n".join(lines[start:head + 1]).partition("{")[0]
                 text = "\n".join(lines[head:end + 1])
-                found[name].append(Function(crate, file, own, text))
+                found[name].append(Function(crate, file, types[at], is_public, told, text))
     return found
 
 
 def rows(page):
     """Yields each row of the tables of a page: its cells, by the headings of their columns."""
     heads = None
-    for line in lines_of(page):
+    for line in text_of(page).split("\n"):
         cells = [it.strip() for it in line.split("|")[1:-1]] if line.startswith("|") else None
         if cells and heads and not line.startswith("|-"):
             yield collections.defaultdict(str, zip(heads, cells))

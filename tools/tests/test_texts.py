@@ -1,5 +1,5 @@
-"""Tests of tools/twins, tools/scripts, tools/named and tools/numbers. The tables of the first and
-the last name crates of this repository, so the tests put other tables in their place."""
+"""Tests of tools/twins, tools/scripts and tools/numbers. The tables of the first and the last name
+crates of this repository, so the tests put other tables in their place."""
 from small import HIGH, LOW, MANUAL, RIGHT, ToolTest
 
 OURS, THEIRS = "crates/low/specs/Twins.antt", "crates/high/specs/Twins.antt"
@@ -32,10 +32,8 @@ SORT = """fn sort({0}: &Word) {{
 SCRIPTS = "crates/example_scripts/src/scripts.rt"
 SCRIPT, TRANSCRIPT = "examples/greeting.script", "examples/greeting.transcript"
 COPY = "crates/high/stdout"
-CONTRACTS, REFUSALS = "docs/CONTRACTS.md", "docs/REFUSALS.md"
-ARCHITECTURE = "docs/ARCHITECTURE.md"
-REFUSING, HELP = "crates/low/src/refusal.rt", "crates/command_line/src/commands.rt"
-OPTIONS = "crates/command_line/src/arguments.rt"
+REFUSALS, REFUSING = "docs/REFUSALS.md", "crates/low/src/refusal.rt"
+HELP, OPTIONS = "crates/command_line/src/commands.rt", "crates/command_line/src/arguments.rt"
 
 
 class Twins(ToolTest):
@@ -103,79 +101,6 @@ class Scripts(ToolTest):
         (self.top / TRANSCRIPT).rename(self.top / "examples/farewell.transcript")
         self.shows(f"examples/farewell.transcript: not in {SCRIPTS}",
             f"{TRANSCRIPT}: missing, but GREETING is in {SCRIPTS}")
-
-
-class Named(ToolTest):
-    words, subject = ["named"], "words"
-    files = RIGHT | {CONTRACTS:
-        "```\npub fn letters(&self) -> usize\n    ensures { result ≡ self.letters }\n```\n"}
-
-    def test_names_each_call_word_and_contract_that_is_not_there(self):
-        self.shows_edits(
-            ("README.md", "letters", "spaces", "README.md: Word has no spaces"),
-            ("README.md", "MAX_LETTERS", "MAX_SPACES", "README.md: no file has MAX_SPACES"),
-            (CONTRACTS, "result ≡ self.letters", "true",
-                f"{CONTRACTS}: no file has pub fn letters(&self) -> usize ensures {{ true }} .."),
-        )
-
-    def test_names_a_call_whose_type_or_parameters_are_not_there(self):
-        self.put({"README.md": "`is_long(word)` `letters()` `is_long(a)` `is_short(word)` "
-            "`Word::letters(self)` `Wort::letters`\n", "wip/next/README.md": "`Kind::Verb`\n"})
-        self.shows("README.md: no file has Wort", "README.md: no function is is_long(a)",
-            "README.md: no function is is_short(word)", "wip/next/README.md: Kind has no Verb")
-
-    def test_names_each_path_that_is_not_there(self):
-        gone = ["docs/MANUEL.md", "docs/MAN", "crates/low/src/words.rt"]
-        self.put({"README.md": "".join(f"`{it}`\n" for it in gone)})
-        self.shows(*(f"README.md: there is no {it}" for it in gone))
-
-    def test_names_the_same_in_a_copy_without_a_repository(self):
-        self.ran("rm", "-r", ".git")
-        self.put({"README.md": "`crates/low/src/lib.rt` `docs/MAN`\n"})
-        self.shows("README.md: there is no docs/MAN")
-
-    def test_lets_pages_name_areas_of_commits_what_is_built_and_names_that_stand_for_any(self):
-        self.put({HIGH: RIGHT[HIGH] + "use std::string::String;\n", MANUAL: "`String::new` "
-            "`docs/manual` `docs/` `crates/low/out/low` `examples/NAME.script` "
-            "`docs/planted/CRATE/NAME.edit` `XView`\n"})
-        self.shows()
-
-
-class Ways(ToolTest):
-    """What tools/named says of arrows."""
-    words, subject = ["named"], "words"
-    rows = ("| Function | Crate | Does |\n|---|---|---|\n"
-        "| `say` → `is_long` of low → `Word::letters`; `say` or `spell` → `put` | {} | says |\n")
-    files = RIGHT | {
-        "crates.txt": RIGHT["crates.txt"] + "# tests: of words\nlow_tests: low  # tests\n",
-        HIGH: RIGHT[HIGH] + "fn say()\n    ensures { true }\n{\n    is_long(word);\n    put();\n}\n"
-            "fn spell() {\n    self.put::<u8>();\n}\nfn put()\n{}\n",
-        ARCHITECTURE: rows.format("high, `lib.rt`; low"),
-    }
-
-    def test_names_each_arrow_to_a_call_that_is_not_made(self):
-        says = "{} calls no {}, or is not in a file of its row".format
-        self.shows_edits(
-            (HIGH, "is_long(word)", "is_short(word)", f"{ARCHITECTURE}: {says('say', 'is_long')}"),
-            (LOW, "word.letters()", "word.len()",
-                f"{ARCHITECTURE}: {says('is_long', 'Word::letters')}"),
-            (HIGH, "self.put::", "self.get::", f"{ARCHITECTURE}: {says('spell', 'put')}"),
-        )
-
-    def test_names_a_call_that_is_in_no_crate_of_its_row(self):
-        self.put({ARCHITECTURE: self.rows.format("high").replace("Word::letters", "put")
-            .replace("`spell`", "`test`"), "crates/low_tests/src/lib.rt": "fn test()\n{}\n"})
-        self.shows(f"{ARCHITECTURE}: is_long calls no put, or is not in a file of its row",
-            f"{ARCHITECTURE}: test is in no crate of its row",
-            f"{ARCHITECTURE}: test calls no put, or is not in a file of its row")
-
-    def test_names_a_file_that_is_not_there_or_has_not_the_call(self):
-        self.put({ARCHITECTURE: self.rows.format("high, `lib.rt`, `gone.rt`; low"),
-            "crates/high/src/other.rt": "fn other()\n{}\n"})
-        self.shows(f"{ARCHITECTURE}: there is no crates/high/src/gone.rt")
-        self.put({ARCHITECTURE: self.rows.format("high, `other.rt`; low")})
-        self.shows(*(f"{ARCHITECTURE}: {one} calls no {other}, or is not in a file of its row"
-            for one, other in (("say", "is_long"), ("say", "put"), ("spell", "put"))))
 
 
 class Numbers(ToolTest):
