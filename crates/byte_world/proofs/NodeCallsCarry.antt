@@ -13,7 +13,7 @@ use Rattle.node_group.specs.node_core.Reading.{open_at}
 use Rattle.node_group.specs.node_moves.Ends.{came_on, piece_on}
 use Rattle.node_group.specs.node_moves.RunProposals.{bytes_on}
 use Rattle.node_group.specs.node_moves.Moves.{NodeCall, NodeMove, MoveTrace, done}
-use Rattle.node_group.specs.node_moves.Moves.NodeCall.{takes, gives}
+use Rattle.node_group.specs.node_moves.Moves.NodeCall.{takes, hands_out}
 use Rattle.node_group.specs.node_moves.Moves.NodeMove.{hears, opens_one, holds, reads_first, reads_later, closes, refuses, loses_one, loses_next, expels_one, cuts_log, crashes, settles, hands}
 use Rattle.node_group.specs.node_moves.Moves.MoveTrace.{rests, goes_on}
 use Rattle.node_group.proofs.of_node_moves.PartsOfMoves.{BeginsWith, IsBare, Part, begins_hearing, part_in, part_of}
@@ -58,7 +58,7 @@ node_call_parts x (takes Cut) core = by (can_cut (replica_of core))
     by true = (refl, refl)
     by false = (refl, refl)
 node_call_parts x (takes Crash) core = (refl, refl)
-node_call_parts x (gives port) core = (refl, refl)
+node_call_parts x (hands_out port) core = (refl, refl)
 
 node_call_sent : (g : Group) (n : ℕ) (core : CoreState) (node_call : NodeCall) → NodeCallWasSent g n core node_call → PartWasSent g n core (part_of node_call core)
 node_call_sent g n core (takes (Peer message)) sent = sent
@@ -74,7 +74,7 @@ node_call_sent g n core (takes Cut) sent = by (can_cut (replica_of core)) sent
     by true reads = reads refl
     by false reads = tt
 node_call_sent g n core (takes Crash) sent = tt
-node_call_sent g n core (gives port) sent = tt
+node_call_sent g n core (hands_out port) sent = tt
 
 -- .. of a move
 move_parts : (x : ConnectionName) {core : CoreState} {outcome : StepOutcome} (m : NodeMove core outcome) → (came_on x m ≡ comes_in x (part_in m) core) × (handed_on x m ≡ goes_out x (part_in m) core)
@@ -191,7 +191,7 @@ node_call_records archive core (takes Cut) = by (can_cut (replica_of core))
     by true = refl
     by false = refl
 node_call_records archive core (takes Crash) = refl
-node_call_records archive core (gives port) = refl
+node_call_records archive core (hands_out port) = refl
 
 -- ---- the laws
 

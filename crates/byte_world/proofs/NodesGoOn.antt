@@ -20,7 +20,7 @@ use Rattle.node_group.specs.node_core.LossyStep.{RunsOn}
 use Rattle.node_group.specs.node_core.Step.{next_name}
 use Rattle.node_group.specs.node_moves.Ends.{IsGiven, IsOrderly}
 use Rattle.node_group.specs.node_moves.Moves.{NodeCall, MoveTrace, done}
-use Rattle.node_group.specs.node_moves.Moves.NodeCall.{takes, gives}
+use Rattle.node_group.specs.node_moves.Moves.NodeCall.{takes, hands_out}
 use Rattle.node_group.specs.node_moves.LossyRuns.{MoveTraceOrLost}
 use Rattle.node_group.specs.node_moves.ItemRuns.{IsRunOn, came_with}
 use Rattle.node_group.specs.node_moves.LossyRuns.MoveTraceOrLost.{rests, goes_on}
@@ -79,7 +79,7 @@ old_or_opened n (takes (Ended port)) core d i = inl (of_each _ (each_was (takes 
 old_or_opened n (takes (Expel client)) core d i = inl (of_each _ (each_was (takes (Expel client)) core tt) i)
 old_or_opened n (takes Cut) core d i = inl (of_each _ (each_was (takes Cut) core tt) i)
 old_or_opened n (takes Crash) core d i = inl (of_each _ (each_was (takes Crash) core tt) i)
-old_or_opened n (gives port) core d i = inl (of_each _ (each_was (gives port) core tt) i)
+old_or_opened n (hands_out port) core d i = inl (of_each _ (each_was (hands_out port) core tt) i)
 
 acts_after : (n : ℕ) (core : CoreState) (node_call : NodeCall) (outcome : StepOutcome) → MoveTrace core outcome → outcome ≡ done node_call core → IsOrderly core → IsAfter (Some (n, node_call)) n core outcome.core
 acts_after n core node_call outcome run is o =
@@ -237,7 +237,7 @@ quiet_with n (takes Cut) core x e = (refl, refl)
 quiet_with n (takes Crash) core x e = (refl, refl)
 quiet_with n (takes (Opened port now)) core x e = absurd (both_ways false refl e)
 quiet_with n (takes (Bytes port piece now)) core x e = absurd (both_ways false refl e)
-quiet_with n (gives port) core x e = absurd (both_ways false refl e)
+quiet_with n (hands_out port) core x e = absurd (both_ways false refl e)
 
 pub is_quiet : (g h : Group) (step : GroupStep g h) → IsFaithful step → is_apart (node_call_of step) ≡ true → (x : ConnectionName) → (comes_up x step ≡ []) × (goes_down x step ≡ [])
 is_quiet g h (node_acts i core node_call outcome run at is first sent) faithful e x =

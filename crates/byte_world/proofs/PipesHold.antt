@@ -23,7 +23,7 @@ use Rattle.node_group.specs.node_core.Handing.{listed_at}
 use Rattle.node_group.specs.node_core.Reading.{open_at}
 use Rattle.node_group.specs.node_moves.Ends.{IsGiven, piece_on}
 use Rattle.node_group.specs.node_moves.Moves.{NodeCall}
-use Rattle.node_group.specs.node_moves.Moves.NodeCall.{takes, gives}
+use Rattle.node_group.specs.node_moves.Moves.NodeCall.{takes, hands_out}
 use Rattle.node_group.specs.node_moves.Puts.{spelled}
 use Rattle.node_group.proofs.of_node_moves.Kept.{left_true, live}
 use Rattle.node_group.proofs.of_node_moves.Views.{found_each, found_passes, some_none}
@@ -75,7 +75,7 @@ opens_in (Some (n, takes (Ended port))) = false
 opens_in (Some (n, takes (Expel client))) = false
 opens_in (Some (n, takes Cut)) = false
 opens_in (Some (n, takes Crash)) = false
-opens_in (Some (n, gives port)) = false
+opens_in (Some (n, hands_out port)) = false
 
 pub none_opens : {g h : Group} (step : GroupStep g h) (n : ℕ) (port : Port) → opens_in (node_call_of step) ≡ false → OpensNone step n port
 none_opens step n port none core d at opened same = both_ways (opens_in (node_call_of step)) none (ap opens_in opened.is)
@@ -251,7 +251,7 @@ others_up x port piece now core y ports apart = by (open_at port core) refl
 
 -- the same for what is handed over
 pub others_down : (x : ConnectionName) (port : Port) (core : CoreState) (y : ConnectionName) → ((d : NodesEnd) → In d core.connections → d.port.0 ≡ port.0 → d.name ≡ x)
-    → (x ≡ y → ⊥) → going_with y (gives port) core ≡ []
+    → (x ≡ y → ⊥) → going_with y (hands_out port) core ≡ []
 others_down x port core y ports apart = by (listed_at port core) refl
   where
     other : (d : NodesEnd) → d.name ≡ x → (b : Bool) → same_connection d.name y ≡ b → (if b then d.pending else []) ≡ []

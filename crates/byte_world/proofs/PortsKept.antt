@@ -35,7 +35,7 @@ use Rattle.node_group.specs.node_core.Reading.{takes_first_packet, changes, port
 use Rattle.node_group.specs.node_core.Step.{acts_on, next_name, with_next_connection, does_item, cuts, with_cut}
 use Rattle.node_group.specs.node_core.Effects.{changes_named, drives, has_room, outcome_of_input, proposes, without_messages, repeated, with_effect}
 use Rattle.node_group.specs.node_moves.Moves.{NodeCall, done}
-use Rattle.node_group.specs.node_moves.Moves.NodeCall.{takes, gives}
+use Rattle.node_group.specs.node_moves.Moves.NodeCall.{takes, hands_out}
 use Rattle.node_group.proofs.of_node_moves.EachKept.{IsKept, each_proposed, each_repeated, each_settled}
 use Rattle.node_group.proofs.of_node_moves.Kept.{failing_over, left_true, live, put_out_name}
 use Rattle.node_group.proofs.of_node_moves.Views.{each_filtered}
@@ -239,7 +239,7 @@ module _ (P : Connection → Type 0) (follows : IsFollowed P) where
   each_done (takes item) core new all =
       each_settled P kept.shut (acts_on item core).core
       (each_repeated P kept (length (does_item item core).core.connections) (does_item item core).core (each_taken item core new all))
-  each_done (gives port) core new all = each_handed port core all
+  each_done (hands_out port) core new all = each_handed port core all
 
 -- ---- where the connections of a node come from
 

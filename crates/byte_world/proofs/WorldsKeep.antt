@@ -28,7 +28,7 @@ use Rattle.node_group.specs.node_core.declared.Connection.{Connection as NodesEn
 use Rattle.node_group.specs.node_core.declared.item.Item.TheVariants.{Peer, Tick, Opened, Bytes, Ended, Expel, Cut, Crash}
 use Rattle.node_group.specs.node_core.Core.{CoreState}
 use Rattle.node_group.specs.node_moves.Moves.{NodeCall}
-use Rattle.node_group.specs.node_moves.Moves.NodeCall.{takes, gives}
+use Rattle.node_group.specs.node_moves.Moves.NodeCall.{takes, hands_out}
 use Rattle.node_group.specs.node_moves.Puts.{spelled}
 use Rattle.node_group.specs.Group.{Group}
 use Rattle.node_group.specs.Steps.{GroupStep, GroupTrace}
@@ -179,7 +179,7 @@ apart_opens_none (Some (n, takes Cut)) e = refl
 apart_opens_none (Some (n, takes Crash)) e = refl
 apart_opens_none (Some (n, takes (Opened port now))) e = absurd (both_ways false refl e)
 apart_opens_none (Some (n, takes (Bytes port piece now))) e = refl
-apart_opens_none (Some (n, gives port)) e = refl
+apart_opens_none (Some (n, hands_out port)) e = refl
 
 unheard_on : {nodes : ℕ} {config : Config} {g h : Group} (went : GroupTrace nodes config g) (step : GroupStep g h) (x : ConnectionName) → (comes_up x step ≡ []) × (goes_down x step ≡ [])
     → IsUnheard went x → IsUnheard (then_went went step) x
@@ -273,10 +273,10 @@ comes_holds v went i j c κ p piece rest now d has cut h =
     }) h
 
 pub goes_holds : {nodes : ℕ} {config : Config} (v : ByteWorld) (went : GroupTrace nodes config v.group) (i j : ℕ) (c : ClientPipes) (κ : ClientConnection) (p : Pipe)
-    (d : DoesCall v.group (Some (p.node, gives p.port))) → HasPipe v i c j κ p → Holds v went
+    (d : DoesCall v.group (Some (p.node, hands_out p.port))) → HasPipe v i c j κ p → Holds v went
     → Holds (with_client i (with_pipe j (record p { down = p.down ++ goes_down κ.name d.step }) c) (record v { group = d.after })) (then_went went d.step)
 goes_holds v went i j c κ p d has h =
-    let carried = carries_with v.group d.after d.step p.node (gives p.port) d.faithful d.is in
+    let carried = carries_with v.group d.after d.step p.node (hands_out p.port) d.faithful d.is in
     let old = h.each i c j κ p has in
     let one = same_core old.placed.core carried.core (sym old.placed.stands ∙ carried.stands) in
     let none : opens_in (node_call_of d.step) ≡ false = ap opens_in d.is in

@@ -8,7 +8,7 @@ use Rattle.node_group.specs.node_core.Reading.{open_at}
 use Rattle.node_group.specs.node_moves.Ends.{piece_on}
 use Rattle.node_group.specs.node_moves.RunProposals.{bytes_on}
 use Rattle.node_group.specs.node_moves.Moves.{NodeCall, MoveTrace}
-use Rattle.node_group.specs.node_moves.Moves.NodeCall.{takes, gives}
+use Rattle.node_group.specs.node_moves.Moves.NodeCall.{takes, hands_out}
 use Rattle.node_group.specs.Group.{Group}
 use Rattle.node_group.specs.Steps.{GroupStep}
 use Rattle.node_group.specs.Steps.GroupStep.{node_acts, node_loses, master_assigns, master_hears, assigns_unheard, answers_unheard}
@@ -21,7 +21,7 @@ coming_with name _ core = []
 
 -- the bytes that are handed over on the connection of a name with a call
 abbrev pub going_with : ConnectionName → NodeCall → CoreState → List ℕ
-going_with name (gives port) core = bytes_named name (listed_at port core)
+going_with name (hands_out port) core = bytes_named name (listed_at port core)
 going_with name _ core = []
 
 -- the moves of a node carry just the bytes of its call
@@ -63,7 +63,7 @@ is_apart (Some (node, takes Cut)) = true
 is_apart (Some (node, takes Crash)) = true
 is_apart (Some (node, takes (Opened port now))) = false
 is_apart (Some (node, takes (Bytes port piece now))) = false
-is_apart (Some (node, gives port)) = false
+is_apart (Some (node, hands_out port)) = false
 
 -- a step of the group with this call, in which just the bytes of the call are carried
 pub record DoesCall (group : Group) (node_call : Option (ℕ × NodeCall)) : Type 0 where

@@ -18,7 +18,7 @@ use Rattle.node_group.specs.node_core.declared.item.Item.TheVariants.{Opened, By
 use Rattle.node_group.specs.node_core.Core.{CoreState}
 use Rattle.node_group.specs.node_core.Handing.{listed_at}
 use Rattle.node_group.specs.node_moves.Moves.{NodeCall}
-use Rattle.node_group.specs.node_moves.Moves.NodeCall.{takes, gives}
+use Rattle.node_group.specs.node_moves.Moves.NodeCall.{takes, hands_out}
 use Rattle.node_group.specs.Streams.{goes_down as goes_down_in}
 use Rattle.byte_world.specs.ClientSteps.{story_alone, after_connecting, after_packet, WritesCanBeSpelled}
 pub use Rattle.byte_world.specs.Carrying.{CarriesItsBytes, DoesCall, IsFaithful, coming_with, node_call_of, going_with, is_apart}
@@ -67,7 +67,7 @@ pub data ByteWorldStep (world : ByteWorld) : ByteWorld → Type 0 where
       (record world { group = done.after }))
   -- a node hands over what it queued
   goes_down : (index nth : ℕ) (client : ClientPipes) (connection : ClientConnection) (pipe : Pipe)
-      (done : DoesCall world.group (Some (pipe.node, gives pipe.port))) →
+      (done : DoesCall world.group (Some (pipe.node, hands_out pipe.port))) →
       HasPipe world index client nth connection pipe →
       ByteWorldStep world (with_client index
       (with_pipe nth

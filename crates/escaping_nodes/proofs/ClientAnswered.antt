@@ -29,7 +29,7 @@ use Rattle.escaping.specs.Delivery.{ReportsItsLosses, heard_by}
 use Rattle.escaping.specs.Waiting.{AwaitsAnswer}
 use Rattle.escaping.specs.Welcome.{IsWelcomedBack}
 use Rattle.world_nodes.specs.node_group.Group.{replica_of}
-use Rattle.escaping.specs.node_moves.Moves.NodeCall.{takes, gives}
+use Rattle.escaping.specs.node_moves.Moves.NodeCall.{takes, hands_out}
 use Rattle.ways_out.specs.snapshots.Moments.{Moment, Moments, whole_moment}
 use Rattle.ways_out.specs.snapshots.World.{messages, outputs}
 use Rattle.escaping.specs.node_core.declared.Connection.{Connection}
@@ -142,11 +142,11 @@ waits_on ballot index port x a b ks d n new (comes_to_master k from asked came m
 waits_on ballot index port x a b ks d n new (hands at node other there more) s calm w =
     waits_on ballot index port x a b ks d _ new more (hands_seen a n at node other there s) (hands_calm ballot n at node other there calm) (by (cases_eq index at))
   where
-    by : (index ≡ at) ⊎ (index ≡ at → ⊥) → StillWaits ballot index port x (after_node_call at node (gives other) n)
-    by (inr apart) = elsewhere ballot index port x n (after_node_call at node (gives other) n) at (record node { core = hands_over other node.core }) apart refl w
+    by : (index ≡ at) ⊎ (index ≡ at → ⊥) → StillWaits ballot index port x (after_node_call at node (hands_out other) n)
+    by (inr apart) = elsewhere ballot index port x n (after_node_call at node (hands_out other) n) at (record node { core = hands_over other node.core }) apart refl w
     by (inl same) =
-        subst (λ i. StillWaits ballot index port x (after_node_call i node (gives other) n)) same
-        (itself ballot index port x n (after_node_call index node (gives other) n) node (record node { core = hands_over other node.core }) here refl
+        subst (λ i. StillWaits ballot index port x (after_node_call i node (hands_out other) n)) same
+        (itself ballot index port x n (after_node_call index node (hands_out other) n) node (record node { core = hands_over other node.core }) here refl
         (leads_with ballot node.core.replica (hands_over other node.core).replica (hands_keep other node.core).0 (subst (λ (c : CountedCore). LeadsAt ballot (replica_of c.core)) one w.leads))
         (handing_keeps_it_waiting port other x node.core (subst (λ (c : CountedCore). AwaitsAnswer port x c.core) one w.waits)))
       where

@@ -17,7 +17,7 @@ use Rattle.escaping.specs.broker_spec.declared.command.Output.{Output}
 use Rattle.escaping.specs.broker_base.State.{State}
 use Rattle.world_nodes.specs.node_group.Group.{replica_of}
 use Rattle.escaping.specs.node_moves.Moves.{NodeCall, done}
-use Rattle.escaping.specs.node_moves.Moves.NodeCall.{takes, gives}
+use Rattle.escaping.specs.node_moves.Moves.NodeCall.{takes, hands_out}
 use Rattle.ways_out.specs.agreement.MasterState.{MasterState}
 use Rattle.ways_out.specs.snapshots.Masters.{activated}
 use Rattle.ways_out.specs.snapshots.Moments.{Moment}
@@ -100,7 +100,7 @@ hands_keep port core = by (listed_at port core)
     )
 
 pub hands_seen : (a : Moment State Command Output) (n : NodesState) (at : ℕ) (node : CountedCore) (port : Port) → slice_get n.nodes at ≡ Some node → IsSeen a n →
-    IsSeen a (after_node_call at node (gives port) n)
+    IsSeen a (after_node_call at node (hands_out port) n)
 hands_seen a n at node port there s =
     record {
       master = s.master;
@@ -113,7 +113,7 @@ hands_seen a n at node port there s =
     }
 
 pub hands_calm : (ballot : ℕ) (n : NodesState) (at : ℕ) (node : CountedCore) (port : Port) → slice_get n.nodes at ≡ Some node → AreCalm ballot n →
-    AreCalm ballot (after_node_call at node (gives port) n)
+    AreCalm ballot (after_node_call at node (hands_out port) n)
 hands_calm ballot n at node port there calm =
     set_calm ballot n.nodes at node (record node { core = hands_over port node.core }) there (now (calm at node there)) calm
   where
@@ -284,7 +284,7 @@ follows ballot a b ks d n new (comes_to_master k from asked came more) s calm =
     record { seen = y.seen; calm = y.calm; names = y.names }
 follows ballot a b ks d n new (hands at node port there more) s calm =
     let y = follows ballot a b ks d _ new more (hands_seen a n at node port there s) (hands_calm ballot n at node port there calm) in
-    record { seen = y.seen; calm = y.calm; names = names_then n at node (gives port) new there (hands_names port node.core) y.names }
+    record { seen = y.seen; calm = y.calm; names = names_then n at node (hands_out port) new there (hands_names port node.core) y.names }
 
 pub deliveries_are_followed : DeliveriesAreFollowed
 deliveries_are_followed ballot a b ks d n new comes s calm = follows ballot a b ks d n new comes s calm

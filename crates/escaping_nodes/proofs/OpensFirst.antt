@@ -14,7 +14,7 @@ use Rattle.escaping.specs.Delivery.{ReportsItsLosses}
 use Rattle.escaping.specs.Opening.{first_name_of_node, with_first_connection}
 use Rattle.escaping.specs.Waiting.{AwaitsConnect}
 use Rattle.world_nodes.specs.node_group.Group.{replica_of}
-use Rattle.escaping.specs.node_moves.Moves.NodeCall.{takes, gives}
+use Rattle.escaping.specs.node_moves.Moves.NodeCall.{takes, hands_out}
 use Rattle.ways_out.specs.snapshots.Moments.{Moment}
 use Rattle.ways_out.specs.snapshots.Whole.{whole}
 use Rattle.ways_out.specs.snapshots.World.{messages}
@@ -88,19 +88,19 @@ module _ (a : Moment State Command Output) (n : NodesState) (ballot index : ℕ)
 
 -- it still awaits it when bytes are handed over
 handed : (a : Moment State Command Output) (n : NodesState) (ballot index : ℕ) (others_of : List ℕ) (log : List Command) (port : Port) (at : ℕ) (other : CountedCore) (p : Port) →
-    slice_get n.nodes at ≡ Some other → IsOpened a n ballot index others_of log port → IsOpened a (after_node_call at other (gives p) n) ballot index others_of log port
+    slice_get n.nodes at ≡ Some other → IsOpened a n ballot index others_of log port → IsOpened a (after_node_call at other (hands_out p) n) ballot index others_of log port
 handed a n ballot index others_of log port at other p there o = by (cases_eq index at)
   where
     after : CountedCore
     after = record other { core = hands_over p other.core }
 
-    seen : IsSeen a (after_node_call at other (gives p) n)
+    seen : IsSeen a (after_node_call at other (hands_out p) n)
     seen = hands_seen a n at other p there o.seen
 
-    calm : AreCalm ballot (after_node_call at other (gives p) n)
+    calm : AreCalm ballot (after_node_call at other (hands_out p) n)
     calm = hands_calm ballot n at other p there o.calm
 
-    by : (index ≡ at) ⊎ (index ≡ at → ⊥) → IsOpened a (after_node_call at other (gives p) n) ballot index others_of log port
+    by : (index ≡ at) ⊎ (index ≡ at → ⊥) → IsOpened a (after_node_call at other (hands_out p) n) ballot index others_of log port
     by (inr apart) =
         record { seen = seen; calm = calm; node = o.node; stands = get_set_other n.nodes at index after apart ∙ o.stands; serves = o.serves; awaits = o.awaits }
     by (inl same) =

@@ -7,7 +7,7 @@ use Rattle.escaping.specs.broker_spec.declared.command.Command.{Command}
 use Rattle.escaping.specs.broker_spec.declared.command.Output.{Output}
 use Rattle.escaping.specs.broker_base.State.{State}
 use Rattle.world_nodes.specs.node_group.Group.{replica_of}
-use Rattle.escaping.specs.node_moves.Moves.NodeCall.{takes, gives}
+use Rattle.escaping.specs.node_moves.Moves.NodeCall.{takes, hands_out}
 use Rattle.ways_out.specs.snapshots.Moments.{Moment}
 use Rattle.escaping.specs.node_core.declared.item.Item.TheVariants.{Peer}
 use Rattle.escaping.specs.node_core.declared.Port.{Port}
@@ -35,7 +35,7 @@ pub data Come : NodesState → List ℕ → NodesState → Type 0 where
   -- a node hands over bytes of a port
   hands : {state new : NodesState} {numbers : List ℕ} (at : ℕ) (node : CountedCore) (port : Port) →
       slice_get state.nodes at ≡ Some node →
-      Come (after_node_call at node (gives port) state) numbers new → Come state numbers new
+      Come (after_node_call at node (hands_out port) state) numbers new → Come state numbers new
 
 -- the master, the replicas, the messages and the record of the nodes are those of the moment
 pub record IsSeen (moment : Moment State Command Output) (state : NodesState) : Type 0 where

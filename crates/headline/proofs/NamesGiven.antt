@@ -21,7 +21,7 @@ use Rattle.node_core.specs.Core.{CoreState, StepOutcome, serves}
 use Rattle.node_core.specs.LossyStep.{RunsOn}
 use Rattle.node_core.specs.Step.{acts_on, next_name, with_next_connection, does_item}
 use Rattle.byte_world.specs.node_moves.Moves.{NodeCall, done}
-use Rattle.byte_world.specs.node_moves.Moves.NodeCall.{takes, gives}
+use Rattle.byte_world.specs.node_moves.Moves.NodeCall.{takes, hands_out}
 use Rattle.byte_world.proofs.of_node_moves.EachKept.{IsKept, each_repeated, each_settled}
 use Rattle.byte_world.proofs.of_node_moves.Kept.{named, put_out_name}
 use Rattle.byte_world.proofs.of_node_moves.Views.{found_each, found_passes}
@@ -70,7 +70,7 @@ done_named (takes (Ended port)) core all = each_done IsNamed later_named (takes 
 done_named (takes (Expel client)) core all = each_done IsNamed later_named (takes (Expel client)) core tt all
 done_named (takes Cut) core all = each_done IsNamed later_named (takes Cut) core tt all
 done_named (takes Crash) core all = each_done IsNamed later_named (takes Crash) core tt all
-done_named (gives port) core all = each_done IsNamed later_named (gives port) core tt all
+done_named (hands_out port) core all = each_done IsNamed later_named (hands_out port) core tt all
 
 -- where something is lost
 lost_named : (item : Item) (core new : CoreState) (messages : List (Effect Command Output)) → RunsOn item core new messages → AreNamed core → AreNamed new

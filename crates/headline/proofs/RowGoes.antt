@@ -18,7 +18,7 @@ use Rattle.node_core.specs.declared.item.Item.TheVariants.{Bytes}
 use Rattle.node_core.specs.declared.Port.{Port}
 use Rattle.node_core.specs.Core.{CoreState}
 use Rattle.byte_world.specs.node_moves.Moves.{NodeCall, done}
-use Rattle.byte_world.specs.node_moves.Moves.NodeCall.{takes, gives}
+use Rattle.byte_world.specs.node_moves.Moves.NodeCall.{takes, hands_out}
 use Rattle.byte_world.specs.node_moves.Puts.{spelled}
 use Rattle.node_group.specs.Group.{Group, group_after_outcome, with_record}
 use Rattle.node_group.specs.Putting.{recorded_in}
@@ -90,10 +90,10 @@ module _ {core : CoreState} {keeper : Keeper} {κ : ClientConnection} {up down h
       }
 
   -- the node hands over what it sent
-  pub row_down : (later : CoreState) (bytes : List ℕ) → going_with κ.name (gives the_port) core ≡ bytes → (done (gives the_port) core).core ≡ later
+  pub row_down : (later : CoreState) (bytes : List ℕ) → going_with κ.name (hands_out the_port) core ≡ bytes → (done (hands_out the_port) core).core ≡ later
       → Row later (client_with keeper κ (pipe_with up (down ++ bytes) held))
   row_down later bytes put is =
-      let t = turned r.group 0 (gives the_port) core later r.stands tt is in
+      let t = turned r.group 0 (hands_out the_port) core later r.stands tt is in
       record {
         group = t.does.after;
         trail = subst (λ (l : List ℕ). Reached 1 one_node (writer ∷ []) (world_with t.does.after (client_with keeper κ (pipe_with up (down ++ l) held)))) (t.down κ.name ∙ put)

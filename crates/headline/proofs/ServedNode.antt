@@ -33,7 +33,7 @@ use Rattle.node_core.specs.Reading.{changes, reads_next}
 use Rattle.node_core.specs.Step.{with_next_connection, settled}
 use Rattle.node_core.specs.Effects.{changes_named, proposes, repeated}
 use Rattle.byte_world.specs.node_moves.Moves.{done}
-use Rattle.byte_world.specs.node_moves.Moves.NodeCall.{takes, gives}
+use Rattle.byte_world.specs.node_moves.Moves.NodeCall.{takes, hands_out}
 use Rattle.exactly_once.specs.Rows.{asks_for_news, news, writer}
 use Rattle.broker_spec.specs.Connection.{first_connection}
 use Rattle.headline.specs.Rows.{list_done, one_node, said}
@@ -102,7 +102,7 @@ pub it_takes : (done (takes (Bytes the_port (spelling publish) 0)) (serving list
 unfolding settled repeated reports_failed changes changes_named reads_next proposes verdict publish_read delivery_at id_at topic_at spelling proposed added commit commit_at number_at text_at length_at is_utf8 chars encode
 it_takes = refl
 
-pub it_hands : (log : List Command) (pending : List ℕ) → (done (gives the_port) (serving log pending)).core ≡ serving log []
+pub it_hands : (log : List Command) (pending : List ℕ) → (done (hands_out the_port) (serving log pending)).core ≡ serving log []
 unfolding hands_over
 it_hands log pending = refl
 

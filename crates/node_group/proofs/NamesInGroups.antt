@@ -19,7 +19,7 @@ use Rattle.node_moves.specs.Ends.{IsOrderly}
 use Rattle.node_moves.specs.Keeping.{AreOfTheBallot}
 use Rattle.node_moves.specs.LossyNames.{AreWhereItServes}
 use Rattle.node_moves.specs.Moves.{NodeCall, done}
-use Rattle.node_moves.specs.Moves.NodeCall.{takes, gives}
+use Rattle.node_moves.specs.Moves.NodeCall.{takes, hands_out}
 use Rattle.node_moves.specs.Moves.NodeMove.{hands}
 use Rattle.node_moves.proofs.Kept.{named}
 use Rattle.node_moves.proofs.NamesKeepTheirBallot.{names_keep_their_ballot}
@@ -66,7 +66,7 @@ pub record IsWell (core : CoreState) : Type 0 where
 
 node_call_ends : (node_call : NodeCall) (core : CoreState) → IsWell core → AreWhereItServes (done node_call core).core → AreOfTheBallot (done node_call core).core
 node_call_ends (takes item) core well of = settled_names (acts_on item core).core of
-node_call_ends (gives port) core well of = names_keep_their_ballot.moves core (done (gives port) core) (hands port) well.orderly refl well.names
+node_call_ends (hands_out port) core well of = names_keep_their_ballot.moves core (done (hands_out port) core) (hands port) well.orderly refl well.names
 
 well_after : (node_call : NodeCall) (core : CoreState) (outcome : StepOutcome) → outcome ≡ done node_call core → IsWell core → IsOrderly outcome.core → AreWhereItServes outcome.core → IsWell outcome.core
 well_after node_call core outcome is well orderly of =

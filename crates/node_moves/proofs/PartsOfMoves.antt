@@ -11,7 +11,7 @@ use Rattle.node_core.specs.Core.{CoreState, StepOutcome}
 use Rattle.node_moves.specs.Hearing.{HearsAtFirst, IsCalm}
 use Rattle.node_moves.specs.Keeping.{moves_replica}
 use Rattle.node_moves.specs.Moves.{NodeCall, NodeMove, MoveTrace}
-use Rattle.node_moves.specs.Moves.NodeCall.{takes, gives}
+use Rattle.node_moves.specs.Moves.NodeCall.{takes, hands_out}
 use Rattle.node_moves.specs.Moves.NodeMove.{hears, holds, cuts_log, hands}
 use Rattle.node_moves.specs.Moves.MoveTrace.{rests, goes_on}
 
@@ -33,7 +33,7 @@ abbrev pub part_of : NodeCall → CoreState → Part
 part_of (takes (Peer message)) core = Part.heard message
 part_of (takes (Bytes port piece now)) core = Part.bytes_in port piece
 part_of (takes Cut) core = if can_cut core.replica.state then Part.cut else Part.nothing
-part_of (gives port) core = Part.bytes_out port
+part_of (hands_out port) core = Part.bytes_out port
 part_of _ core = Part.nothing
 
 -- a move in which the replica receives nothing and does not stop, and no bytes are carried

@@ -29,7 +29,7 @@ use Rattle.node_core.specs.KeepAlive.{ends_if, ends_silent, lowest_silent}
 use Rattle.node_core.specs.Effects.{without_messages, proposes, drives, has_room, repeated}
 use Rattle.node_moves.specs.Hearing.{NodeCallsHearAtFirst}
 use Rattle.node_moves.specs.Moves.{NodeMove, MoveTrace, NodeCall, and_then, done, NodeCallsAreMoves}
-use Rattle.node_moves.specs.Moves.NodeCall.{takes, gives}
+use Rattle.node_moves.specs.Moves.NodeCall.{takes, hands_out}
 use Rattle.node_moves.specs.Moves.NodeMove.{hears, opens_one, holds, reads_first, reads_later, closes, refuses, loses_one, loses_next, expels_one, cuts_log, crashes, settles, hands}
 use Rattle.node_moves.specs.Moves.MoveTrace.{rests, goes_on}
 use Rattle.node_moves.proofs.PartsOfMoves.{BeginsWith, IsBare, IsBareMove, Part, begins_hearing, part_in, part_of}
@@ -273,7 +273,7 @@ step_runs item core =
 -- a call begins with its part, and the moves after it are bare
 pub node_calls_begin : (node_call : NodeCall) (core : CoreState) → First (part_of node_call core) core (done node_call core)
 node_calls_begin (takes item) core = step_runs item core
-node_calls_begin (gives port) core = first_move (hands port)
+node_calls_begin (hands_out port) core = first_move (hands port)
 
 pub node_calls_hear_at_first : NodeCallsHearAtFirst
 node_calls_hear_at_first node_call core = let r = node_calls_begin node_call core in (r.0, begins_hearing (part_of node_call core) r.0 r.1)

@@ -96,12 +96,12 @@ pub data MoveTrace : CoreState → StepOutcome → Type 0 where
 -- a call of a node: it takes an item, or hands over what was queued for a port
 pub data NodeCall : Type 0 where
   takes : Item → NodeCall  -- the call `step` of a node
-  gives : Port → NodeCall  -- the call `outgoing`
+  hands_out : Port → NodeCall  -- the call `outgoing`
 
 -- what a call of a node does: it takes an item, or hands over bytes
 abbrev pub done : NodeCall → CoreState → StepOutcome
 done (takes item) core = node_step item core
-done (gives port) core = without_messages (hands_over port core)
+done (hands_out port) core = without_messages (hands_over port core)
 
 -- one call after another
 abbrev pub all_done : List NodeCall → CoreState → StepOutcome

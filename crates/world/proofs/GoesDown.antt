@@ -12,7 +12,7 @@ use Rattle.node_core.specs.declared.Port.{Port}
 use Rattle.headline.specs.node_connections.Connections.{is_at}
 use Rattle.node_core.specs.Core.{CoreState, CountedCore}
 use Rattle.node_core.specs.Handing.{pending_bytes, listed_at}
-use Rattle.headline.specs.node_moves.Moves.NodeCall.{gives}
+use Rattle.headline.specs.node_moves.Moves.NodeCall.{hands_out}
 use Rattle.headline.proofs.of_node_moves.Views.{found_passes}
 use Rattle.headline.specs.node_group.Streams.{bytes_named}
 use Rattle.headline.specs.node_group.Streams.{goes_down as goes_down_in}
@@ -62,11 +62,11 @@ module _ {nodes : ℕ} {config : Config} {cs : List Client} (m : ByteWorld) (tra
   has = record { client = one.at; connection = x.connection; pipe = x.pipe }
 
   -- with the bytes that it handed over
-  hands_down : (bytes : List ℕ) → NodeDoesCall x.p.node (gives x.p.port) old.nodes new → HandsOver (suc x.p.node) x.p.port old.nodes way.down bytes
+  hands_down : (bytes : List ℕ) → NodeDoesCall x.p.node (hands_out x.p.port) old.nodes new → HandsOver (suc x.p.node) x.p.port old.nodes way.down bytes
       → ModelStepsTo [] m (put_down place.client client (with_down place.at way bytes client.piped) new old)
   hands_down bytes acts over =
       let d = acts m.group s.nodes in
-      let carried = carries_with m.group d.does.after d.does.step x.p.node (gives x.p.port) d.does.faithful d.does.is in
+      let carried = carries_with m.group d.does.after d.does.step x.p.node (hands_out x.p.port) d.does.faithful d.does.is in
       let placed = ((reached_holds m trail).each place.client one.c x.turned.place x.κ x.p has).placed in
       let same : placed.core ≡ carried.core = same_Some placed.core carried.core (sym placed.stands ∙ carried.stands) in
       let named = all_named x.κ.name x.p.port carried.core (λ e i at. placed.ports e (subst (λ (k : CoreState). In e k.connections) (sym same) i) at) in
@@ -121,5 +121,5 @@ puts_down old number place client new later there at puts nodes config cs m trai
         let low : place.node - 1 ≡ x.p.node = omega (arith, number_is) in
         subst (λ (z : Piped). ModelStepsTo [] m (put_down place.client client z new old)) (sym is)
         (hands_down m trail old s place client one way x new bytes
-        (subst (λ (k : ℕ). NodeDoesCall k (gives x.p.port) old.nodes new) low (subst (λ (q : Port). NodeDoesCall (place.node - 1) (gives q) old.nodes new) port_is acts))
+        (subst (λ (k : ℕ). NodeDoesCall k (hands_out x.p.port) old.nodes new) low (subst (λ (q : Port). NodeDoesCall (place.node - 1) (hands_out q) old.nodes new) port_is acts))
         (subst (λ (k : ℕ). HandsOver k x.p.port old.nodes way.down bytes) number_is (subst (λ (q : Port). HandsOver place.node q old.nodes way.down bytes) port_is over)))

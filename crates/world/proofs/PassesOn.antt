@@ -6,7 +6,7 @@ use Rattle.std.proofs.lemmas.Option.{same_Some}
 use Rattle.escaping_client.specs.client.Core.{Core}
 use Rattle.escaping_nodes.specs.Coming.{Come}
 use Rattle.escaping_nodes.specs.Coming.Come.{all_came as none_comes, hands, to_node as comes_to_node, to_master as comes_to_master}
-use Rattle.headline.specs.node_moves.Moves.NodeCall.{gives}
+use Rattle.headline.specs.node_moves.Moves.NodeCall.{hands_out}
 use Rattle.headline.proofs.of_node_group.Placed.{get_mapped}
 use Rattle.node_core.specs.Core.{CountedCore}
 use Rattle.node_core.specs.Handing.{pending_bytes, listed_at}
@@ -96,7 +96,7 @@ handed (Some core) node port before old between is given =
     let acts = gives_acts node port old between (record { core = core; there = sym is; is = given }) in
     record {
       come = subst (λ (n : NodesState). Come old [] n) (sym given) (hands (node - 1) core port (at_place old.nodes node core (sym is)) none_comes);
-      goes = acts_go (Some (node - 1, gives port)) old between acts;
+      goes = acts_go (Some (node - 1, hands_out port)) old between acts;
       may = inr (acts, λ other there. ap (λ (c : CountedCore). before ++ pending_bytes (listed_at port c.core)) (same_Some core other (is ∙ there)));
     }
 

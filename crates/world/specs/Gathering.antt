@@ -1,7 +1,7 @@
 -- What a node queued goes down on its connections, also after it took an item: exactly, or, if
 -- losses are allowed (`whole` is false), perhaps with losses.
 use Rattle.std.specs.Prelude.{◌≡◌, ◌⊎◌, ℕ, zero, suc, ◌-◌, ◌==◌, ◌&&◌, Bool, true, false, ◌++◌, Option, Some, None, length, set}
-use Rattle.headline.specs.node_moves.Moves.NodeCall.{gives}
+use Rattle.headline.specs.node_moves.Moves.NodeCall.{hands_out}
 use Rattle.node_core.specs.Core.{CountedCore}
 use Rattle.node_core.specs.declared.item.Item.{Item}
 use Rattle.world_nodes.specs.ExactSteps.{TakesExactly}

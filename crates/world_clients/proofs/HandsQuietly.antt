@@ -8,7 +8,7 @@ use Rattle.node_core.specs.Losses.{WaitsNothing}
 use Rattle.node_core.specs.declared.Handed.{Handed}
 use Rattle.node_core.specs.declared.Port.{Port}
 use Rattle.node_core.proofs.Calmly.{hands_over_waits, nothing_handed}
-use Rattle.world_nodes.specs.ExactSteps.{GivesExactly}
+use Rattle.world_nodes.specs.ExactSteps.{HandsOutExactly}
 use Rattle.world_nodes.specs.Running.{numbered_node}
 use Rattle.world_nodes.specs.Nodes.{NodesState}
 use Rattle.world_nodes.specs.Quiet.{WaitsAtNone}
@@ -28,7 +28,7 @@ node_set nodes (suc at) core new found there stands =
 pub stays_rest : (node : ℕ) (n m : NodesState) → m ≡ n → StaysQuiet node n m
 stays_rest node n m same = subst (λ (k : NodesState). StaysQuiet node n k) (sym same) (λ holds. (holds, refl))
 
-pub handing_quiet : (r : Result Handed Idle) (X : Type 0) (node : ℕ) (port : Port) (old new : NodesState) → (WaitsAtNone node port old → OnOk r (GivesExactly node port old new))
+pub handing_quiet : (r : Result Handed Idle) (X : Type 0) (node : ℕ) (port : Port) (old new : NodesState) → (WaitsAtNone node port old → OnOk r (HandsOutExactly node port old new))
     → OnErr r ((new ≡ old) × X) → StaysQuiet node old new
 handing_quiet (Err idle) X node port old new hands same = stays_rest node old new same.0
 handing_quiet (Ok handed) X node port old new hands same = λ holds.

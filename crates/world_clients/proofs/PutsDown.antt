@@ -7,7 +7,7 @@ use Rattle.world_nodes.specs.master.declared.event.Idle.{Idle}
 use Rattle.node_core.specs.declared.Handed.{Handed}
 use Rattle.node_core.specs.declared.Port.{Port}
 use Rattle.node_core.specs.Core.{CountedCore}
-use Rattle.byte_world.specs.node_moves.Moves.NodeCall.{gives}
+use Rattle.byte_world.specs.node_moves.Moves.NodeCall.{hands_out}
 use Rattle.world_nodes.specs.Running.{numbered_node}
 use Rattle.world_nodes.specs.Nodes.{NodesState}
 use Rattle.world_nodes.specs.HandingOver.{HandoverOrLost}
@@ -54,7 +54,7 @@ may_hand_down (Err e) node port old new before after does same = inl (nodes_stay
 -- and so the nodes continue
 pub handing_goes : (node : ℕ) (port : Port) (old new : NodesState) (before after : List ℕ) → old.losses ≤ new.losses → MayHandDown node port old before new after → NodesGoOn old new
 handing_goes node port old new before after rises (inl stays) = record { rises = rises; goes = staying_goes old new stays.0 }
-handing_goes node port old new before after rises (inr hands) = record { rises = rises; goes = acts_go (Some (node - 1, gives port)) old new hands.0 }
+handing_goes node port old new before after rises (inr hands) = record { rises = rises; goes = acts_go (Some (node - 1, hands_out port)) old new hands.0 }
 
 -- ---- bytes that are exchanged twice
 

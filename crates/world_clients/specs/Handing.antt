@@ -1,6 +1,6 @@
 -- What a node queued for a connection goes down on it.
 use Rattle.std.specs.Prelude.{◌≡◌, ◌⊎◌, ℕ, ◌-◌, Bool, true, false, List, [], ◌++◌, Option, Some, None, set, slice_get, Result, Ok, Err}
-use Rattle.byte_world.specs.node_moves.Moves.NodeCall.{gives}
+use Rattle.byte_world.specs.node_moves.Moves.NodeCall.{hands_out}
 use Rattle.node_core.specs.Core.{CountedCore}
 use Rattle.node_core.specs.Handing.{handed_after, pending_bytes, listed_at}
 use Rattle.node_core.specs.declared.Handed.{Handed}
@@ -35,7 +35,7 @@ is_reported_open port (Some node) = is_more (handed_after (listed_at port node.c
 abbrev pub HandsOverBytes : Option CountedCore → ℕ → Port → NodesState → NodesState → Type 0
 HandsOverBytes None node port old new = new ≡ old
 HandsOverBytes (Some core) node port old new =
-    new ≡ after_node_call (node - 1) core (gives port) old
+    new ≡ after_node_call (node - 1) core (hands_out port) old
 
 -- a node has nothing to hand over
 abbrev pub HasNothingToHandOver : ℕ → NodesState → Type 0
@@ -74,7 +74,7 @@ PipeBytesDownOrLost at node port old client new later is_open =
 abbrev pub MayHandDown : ℕ → Port → NodesState → List ℕ → NodesState → List ℕ → Type 0
 MayHandDown node port old before new after =
     (NodesStay old new × (after ≡ before))
-    ⊎ (NodeDoesCall (node - 1) (gives port) old new × HandsOver node port old before after)
+    ⊎ (NodeDoesCall (node - 1) (hands_out port) old new × HandsOver node port old before after)
 
 -- a node may hand down what it queued, after what is in transit on the connection at this index
 abbrev pub MayPutDown : ℕ → ℕ → Port → NodesState → Piped → NodesState → Piped → Type 0

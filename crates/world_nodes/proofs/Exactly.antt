@@ -6,9 +6,9 @@ use Rattle.std.proofs.lemmas.Option.{none-some}
 use Rattle.node_core.specs.declared.item.Item.{Item}
 use Rattle.node_core.specs.declared.Port.{Port}
 use Rattle.node_core.specs.Core.{CountedCore}
-use Rattle.byte_world.specs.node_moves.Moves.NodeCall.{takes, gives}
+use Rattle.byte_world.specs.node_moves.Moves.NodeCall.{takes, hands_out}
 use Rattle.world_nodes.specs.Nodes.{NodesState}
-use Rattle.world_nodes.specs.ExactSteps.{NodeDoesCall, GivesExactly, TakesExactly, after_node_call}
+use Rattle.world_nodes.specs.ExactSteps.{NodeDoesCall, HandsOutExactly, TakesExactly, after_node_call}
 use Rattle.world_nodes.specs.Running.{numbered_node}
 use Rattle.world_nodes.specs.Steps.{ActsWithLosses, NodeItemOrLost, NodesLoseNothing}
 use Rattle.world_nodes.proofs.Acts.{acts, not_one_more}
@@ -25,7 +25,7 @@ pub at_place : (nodes : List CountedCore) (node : ℕ) (core : CountedCore) → 
 at_place nodes zero core there = absurd (none-some core there)
 at_place nodes (suc n) core there = subst (λ (k : ℕ). slice_get nodes k ≡ Some core) (let e : n ≡ suc n - 1 = omega arith in e) there
 
-pub gives_acts : (node : ℕ) (port : Port) (old new : NodesState) → GivesExactly node port old new → NodeDoesCall (node - 1) (gives port) old new
+pub gives_acts : (node : ℕ) (port : Port) (old new : NodesState) → HandsOutExactly node port old new → NodeDoesCall (node - 1) (hands_out port) old new
 gives_acts node port old new g =
-    subst (λ (n : NodesState). NodeDoesCall (node - 1) (gives port) old n) (sym g.is)
-    (acts old (node - 1) g.core (gives port) (at_place old.nodes node g.core g.there) (λ h s. tt))
+    subst (λ (n : NodesState). NodeDoesCall (node - 1) (hands_out port) old n) (sym g.is)
+    (acts old (node - 1) g.core (hands_out port) (at_place old.nodes node g.core g.there) (λ h s. tt))

@@ -10,7 +10,7 @@ use Rattle.node_core.specs.Core.{CountedCore}
 use Rattle.node_core.specs.Handing.{handed_after, pending_bytes, hands_over, listed_at}
 use Rattle.byte_world.proofs.of_node_group.Placed.{set_same}
 use Rattle.world_nodes.specs.Nodes.{NodesState}
-use Rattle.world_nodes.specs.ExactSteps.{AnswersFor, GivesExactly, HandsOver}
+use Rattle.world_nodes.specs.ExactSteps.{AnswersFor, HandsOutExactly, HandsOver}
 use Rattle.world_nodes.specs.Running.{numbered_node}
 
 there : (nodes : List CountedCore) (at : ℕ) (z : CountedCore) → at < length nodes → z ≡ get_or nodes at z → slice_get nodes at ≡ Some z
@@ -34,7 +34,7 @@ abbrev pub with_node : ℕ → CountedCore → NodesState → NodesState
 with_node at node old = record old { nodes = slice_set old.nodes at node }
 
 pub hands : (old : NodesState) (node : ℕ) (z new : CountedCore) (port : Port) → numbered_node old.nodes node ≡ Some z
-    → new ≡ record z { core = hands_over port z.core } → GivesExactly node port old (with_node (node - 1) new old)
+    → new ≡ record z { core = hands_over port z.core } → HandsOutExactly node port old (with_node (node - 1) new old)
 hands old node z new port there is =
     record {
       core = z;

@@ -15,7 +15,7 @@ use Rattle.node_core.specs.declared.item.Item.TheVariants.{Cut, Peer}
 use Rattle.node_core.specs.declared.Port.{Port}
 use Rattle.node_core.specs.Handing.{handed_after, pending_bytes, listed_at}
 use Rattle.byte_world.specs.node_moves.Moves.{NodeCall, done}
-use Rattle.byte_world.specs.node_moves.Moves.NodeCall.{takes, gives}
+use Rattle.byte_world.specs.node_moves.Moves.NodeCall.{takes, hands_out}
 use Rattle.byte_world.specs.node_group.Group.{Group}
 use Rattle.byte_world.specs.Steps.{DoesCall}
 use Rattle.world_nodes.specs.Nodes.{NodesState, NodesStandFor}
@@ -48,10 +48,10 @@ pub record CutsExactly (node : ℕ) (old new : NodesState) : Type 0 where
   }
 
 -- the node of this number exists, running or not, and handed over what it queued for a port
-pub record GivesExactly (node : ℕ) (port : Port) (old new : NodesState) : Type 0 where
+pub record HandsOutExactly (node : ℕ) (port : Port) (old new : NodesState) : Type 0 where
   pub core : CountedCore
   pub there : numbered_node old.nodes node ≡ Some core
-  pub is : new ≡ after_node_call (node - 1) core (gives port) old
+  pub is : new ≡ after_node_call (node - 1) core (hands_out port) old
 
 -- a group does a call of a node, or of the master, exactly or with losses, and then corresponds to
 -- these nodes

@@ -3,7 +3,7 @@ use Rattle.std.specs.Prelude.{◌≡◌, ◌⊎◌, ℕ, List}
 use Rattle.node_core.specs.declared.Handed.{Handed}
 use Rattle.node_core.specs.declared.Handed.TheVariants as answers
 use Rattle.node_core.specs.declared.Port.{Port}
-use Rattle.world_nodes.specs.ExactSteps.{AnswersFor, GivesExactly, HandsOver}
+use Rattle.world_nodes.specs.ExactSteps.{AnswersFor, HandsOutExactly, HandsOver}
 use Rattle.world_nodes.specs.Nodes.{NodesState}
 use Rattle.world_nodes.specs.Steps.{nodes_with_loss}
 
@@ -11,6 +11,6 @@ use Rattle.world_nodes.specs.Steps.{nodes_with_loss}
 -- nothing was, more may come, and that is counted.
 abbrev pub HandoverOrLost : ℕ → Port → NodesState → NodesState → List ℕ → List ℕ → Handed → Type 0
 HandoverOrLost node port old new before after handed =
-    (GivesExactly node port old new × HandsOver node port old before after
+    (HandsOutExactly node port old new × HandsOver node port old before after
     × AnswersFor node port old handed)
     ⊎ ((new ≡ nodes_with_loss old) × (after ≡ before) × (handed ≡ answers.Open))

@@ -7,7 +7,7 @@ ghost use Rattle.master.specs.agreement.World.{can_open};
 ghost use Rattle.byte_world.specs.node_group.Group.{Group, opening_group};
 ghost use Rattle.byte_world.specs.node_moves.Moves.NodeCall.{takes};
 ghost use Rattle.world_nodes.specs.Nodes.{NodesState, NodesStandFor};
-ghost use Rattle.world_nodes.specs.ExactSteps.{NodeDoesCall, AnswersFor, MessageArrives, ComesToNobody, CutsExactly, GivesExactly, HandsOver, TakesExactly, after_giving};
+ghost use Rattle.world_nodes.specs.ExactSteps.{NodeDoesCall, AnswersFor, MessageArrives, ComesToNobody, CutsExactly, HandsOutExactly, HandsOver, TakesExactly, after_giving};
 ghost use Rattle.world_nodes.specs.Running.{cutting, is_running, numbered_node, proposing, running};
 ghost use Rattle.world_nodes.specs.Quiet.{ComesUnheeded, RestsAt, WaitsAtNone};
 ghost use Rattle.world_nodes.specs.Steps.{DeliveryOrLost, NewBallotOrLost, NodeCutOrLost, NodeExpelOrLost, NodeItemOrLost, NodesLoseNothing};
@@ -308,7 +308,7 @@ impl Nodes {
     /// and the step is counted; it does not run out if nothing was queued.
     pub fn hand_over(&mut self, node: u8, port: Port, out: &mut Vec<u8>) -> Result<Handed, Idle>
         ensures exact { NodesLoseNothing self.old self.new →
-            OnOk result (GivesExactly node port self.old self.new) }
+            OnOk result (HandsOutExactly node port self.old self.new) }
         ensures bytes { NodesLoseNothing self.old self.new →
             OnOk result (HandsOver node port self.old out.old.items out.new.items) }
         ensures answer { NodesLoseNothing self.old self.new →
@@ -316,7 +316,7 @@ impl Nodes {
         ensures lossy { IfOk result (λ handed.
             HandoverOrLost node port self.old self.new out.old.items out.new.items handed) }
         ensures quiet { WaitsAtNone node port self.old →
-            OnOk result (GivesExactly node port self.old self.new) }
+            OnOk result (HandsOutExactly node port self.old self.new) }
         ensures rises { self.old.losses ≤ self.new.losses }
         ensures idle { IsErr result ↔ (numbered_node self.old.nodes node ≡ None) }
         ensures same { OnErr result ((self.new ≡ self.old) × (out.new.items ≡ out.old.items)) }

@@ -1,5 +1,5 @@
 use Rattle.std.proofs.Common.{◌≡◌, ◌≤◌, ◌-◌, ◌∙◌, inl, inr, length, Some, refl, ap, arith}
-use Rattle.byte_world.specs.node_moves.Moves.NodeCall.{gives}
+use Rattle.byte_world.specs.node_moves.Moves.NodeCall.{hands_out}
 use Rattle.world_nodes.specs.Running.{numbered_node}
 use Rattle.world_nodes.specs.Nodes.{NodesState}
 use Rattle.world_nodes.specs.Steps.{nodes_with_loss}
@@ -111,7 +111,7 @@ invariant_of-self c =
     let below : c.args.node ≤ length c.self.inside.nodes.items = omega (arith, c.self.inside.nodes.ok.0, c.len.ensures, c.if-node-len.false) in
     let found = stands_there c.self.inside.nodes.items c.args.node c.index_mut-core.result.now c.if-node-eq0.false below c.index_mut-core.ensures.value in
     let is : numbered_node c.self.inside.nodes.items c.args.node ≡ Some c.index_mut-core.result.now = is_there c.self.inside.nodes.items c.args.node c.index_mut-core.result.now c.if-node-eq0.false found in
-    acts_counting _ _ (c.args.node - 1) (gives c.args.port) c.self.inside.counters.told c.self.inside.counters.next c.self.inside.counters.told c.self.inside.counters.next c.self.invariant
+    acts_counting _ _ (c.args.node - 1) (hands_out c.args.port) c.self.inside.counters.told c.self.inside.counters.next c.self.inside.counters.told c.self.inside.counters.next c.self.invariant
     (gives_acts c.args.node c.args.port _ _ (hands (let old : NodesState = record {
       master = c.self.inside.master;
       nodes = c.self.inside.nodes.items;
