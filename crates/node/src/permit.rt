@@ -11,8 +11,8 @@ use std::sync::MutexGuard;
 /// How many items may be taken at once if there is no gate.
 const MAX_AT_ONCE: u32 = 16;
 
-/// The permit to take items of a node. Only a node's `pass` gives it: with a gate after asking it,
-/// for one item.
+/// The permit to take items of a node. Only `begin_taking` of a node gives it: with a gate after
+/// asking it, for one item.
 #[derive(Drop)]
 pub struct Permit<'n> {
     // The number of the taking, if there is a gate.

@@ -163,7 +163,7 @@ impl<'g, J: NodeNaming, S: Stated<J>, G: Gate> Node<'g, J, S, G> {
     /// Begins a taking: waits until the gate opens for the node's next taking, if it opens in time.
     /// Without a gate it does not wait. With a gate, takings come one after another: until this one
     /// is done no other begins. No clause says how long it waits, or what another thread may begin.
-    pub fn pass<R: Wait + Clock>(&self, rt: &R) -> Permit<'_>
+    pub fn begin_taking<R: Wait + Clock>(&self, rt: &R) -> Permit<'_>
         ensures one { IfSome result.taking (λ _. result.most ≡ 1) }
 
         // A gate was asked for this node and the number of the taking, and the permit says what it
@@ -200,7 +200,7 @@ impl<'g, J: NodeNaming, S: Stated<J>, G: Gate> Node<'g, J, S, G> {
     }
 
     /// Ends a taking: informs the gate that it is done.
-    pub fn done<R: Wait>(&self, rt: &R, permit: Permit<'_>)
+    pub fn end_taking<R: Wait>(&self, rt: &R, permit: Permit<'_>)
         ensures { self.now.is_gated ≡ true → IfSome permit.entry.taking (λ taking.
             WasInformed G.hears self.now.number taking) }
     {

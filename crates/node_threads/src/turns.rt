@@ -66,9 +66,9 @@ impl<'a, J: NodeNaming, S: Stated<J>, G: Gate> Shared<'a, J, S, G> {
         // If none waits, all was taken that the lane sent.
         ensures none { result ≡ false → lane.new ≡ all_met lane.old }
     {
-        let permit = self.node.pass(rt);
+        let permit = self.node.begin_taking(rt);
         let more = self.take_and_queue_given(rt, &permit, lane);
-        self.node.done(rt, permit);
+        self.node.end_taking(rt, permit);
         more
     }
 

@@ -105,7 +105,7 @@ where
     S: Stated<J>,
     R: Wait + Clock,
 {
-    let permit = node.pass(rt);
+    let permit = node.begin_taking(rt);
     let took = {
         let mut locked = node.lock(rt);
         let state = locked.state();
@@ -113,7 +113,7 @@ where
         let receipt = state.receipt();
         permit.is_for(state) && state.take_one(rt, &mut effects, receipt) && effects.is_empty()
     };
-    node.done(rt, permit);
+    node.end_taking(rt, permit);
     took
 }
 
