@@ -25,4 +25,4 @@ pub use node_state::NodeState;
 pub use overdue::is_overdue;
 pub use permit::Permit;
 pub use report::Report;
-pub use running::{Node, Stated};
+pub use running::{HasState, Node};

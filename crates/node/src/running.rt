@@ -26,12 +26,12 @@ const ASK_MILLIS: u64 = 1;
 /// What the lock of a node holds. Code that starts threads is generic in this type. So it is proved
 /// once that the whole may be handed from thread to thread, and not part by part at each thread
 /// that is started.
-pub trait Stated<J: NodeNaming>: Drop {
+pub trait HasState<J: NodeNaming>: Drop {
     /// Returns the node's state.
     fn state(&mut self) -> &mut NodeState<J>;
 }
 
-impl<J: NodeNaming> Stated<J> for NodeState<J> {
+impl<J: NodeNaming> HasState<J> for NodeState<J> {
     fn state(&mut self) -> &mut NodeState<J> {
         self
     }
@@ -40,7 +40,7 @@ impl<J: NodeNaming> Stated<J> for NodeState<J> {
 /// A node that runs: its state under a lock, and the gate before each of its takings. It has no
 /// thread of its own: whoever sent it an item takes what waits, one thread after another.
 #[derive(Drop)]
-pub struct Node<'g, J: NodeNaming, S: Stated<J>, G: Gate> {
+pub struct Node<'g, J: NodeNaming, S: HasState<J>, G: Gate> {
     // The node with its receiver. One thread at a time takes items.
     state: Mutex<S>,
     // The number of the node, which is that of its inbox.
@@ -57,7 +57,7 @@ pub struct Node<'g, J: NodeNaming, S: Stated<J>, G: Gate> {
     naming: PhantomData<J>,
 }
 
-impl<'g, J: NodeNaming, S: Stated<J>, G: Gate> Model for Node<'g, J, S, G> {
+impl<'g, J: NodeNaming, S: HasState<J>, G: Gate> Model for Node<'g, J, S, G> {
     ghost use Rattle.std.specs.Prelude.{is_some, length};
     ghost use Rattle.node.specs.Report.{HasCapacity};
     ghost use Rattle.node.specs.Running.{NodeView};
@@ -132,7 +132,7 @@ impl<'g, J: NodeNaming, G: Gate> Node<'g, J, NodeState<J>, G> {
     }
 }
 
-impl<'g, J: NodeNaming, S: Stated<J>, G: Gate> Node<'g, J, S, G> {
+impl<'g, J: NodeNaming, S: HasState<J>, G: Gate> Node<'g, J, S, G> {
     /// Returns the node's number, that of its inbox.
     pub fn number(&self) -> u8
         ensures { result ≡ self.now.number }

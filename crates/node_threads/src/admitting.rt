@@ -3,7 +3,7 @@
 ghost use Rattle.std.specs.Prelude.{◌≡◌, ◌≤◌, IfSome, None, length};
 
 use crate::shared::Shared;
-use node::{Gate, NodeNaming, PIECE_BYTES, Port, Standing, Stated};
+use node::{Gate, HasState, NodeNaming, PIECE_BYTES, Port, Standing};
 use post::AdmittedBytes;
 use std::sync::Wait;
 use std::thread;
@@ -12,7 +12,7 @@ use std::time::{Clock, Duration};
 /// How long a thread sleeps before it asks again whether the node takes more, in milliseconds.
 const ADMIT_LOOK_MILLIS: u64 = 1;
 
-impl<'a, J: NodeNaming, S: Stated<J>, G: Gate> Shared<'a, J, S, G> {
+impl<'a, J: NodeNaming, S: HasState<J>, G: Gate> Shared<'a, J, S, G> {
     /// Waits until the node takes this many more bytes from its clients, and counts them as in
     /// transit. None count if there is only one node, the node has closed the connection, or the
     /// listener is closed.

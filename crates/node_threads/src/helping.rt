@@ -1,7 +1,7 @@
 // Turns of nodes that a thread of another node does, since it queued something for them.
 
 use crate::served_node::ServedNode;
-use node::{Gate, NodeNaming, Stated};
+use node::{Gate, HasState, NodeNaming};
 use std::sync::Wait;
 use std::time::Clock;
 use writer::FIRST_INDEX;
@@ -11,7 +11,7 @@ use writer::FIRST_INDEX;
 /// what came meanwhile.
 const ROUNDS: u32 = 4;
 
-impl<'a, J: NodeNaming, S: Stated<J>, G: Gate> ServedNode<'a, J, S, G> {
+impl<'a, J: NodeNaming, S: HasState<J>, G: Gate> ServedNode<'a, J, S, G> {
     /// Does the turns of all nodes for which something waits and whose own threads sleep, including
     /// this one, unless another thread does them. Threads call this after their own turns, and hold
     /// no lock. The caller writes what this node queued. If there is a gate, each node's own thread

@@ -6,7 +6,7 @@ ghost use Rattle.node_threads.specs.Serving.{client_bytes};
 use crate::served_node::ServedNode;
 use connection::Hearer;
 use mailbox::Lane;
-use node::{Gate, Item, NodeNaming, PIECE_BYTES, Standing, Stated};
+use node::{Gate, HasState, Item, NodeNaming, PIECE_BYTES, Standing};
 use std::alloc::Global;
 use std::sync::{Arc, Wait};
 use std::time::Clock;
@@ -14,7 +14,7 @@ use streams::Link;
 
 /// A connection's lane. What is reported to it is what the lane sent.
 #[derive(Drop)]
-pub(crate) struct LaneReporter<'e, 'a, J: NodeNaming, S: Stated<J>, G: Gate> {
+pub(crate) struct LaneReporter<'e, 'a, J: NodeNaming, S: HasState<J>, G: Gate> {
     /// The node to which the connection is reported.
     pub(crate) served: &'e ServedNode<'a, J, S, G>,
     /// All nodes of the program. Those for which something was queued have their turns.
@@ -25,7 +25,7 @@ pub(crate) struct LaneReporter<'e, 'a, J: NodeNaming, S: Stated<J>, G: Gate> {
     pub(crate) lane: Lane<Item, J>,
 }
 
-impl<'e, 'a, J: NodeNaming, S: Stated<J>, G: Gate> Hearer for LaneReporter<'e, 'a, J, S, G> {
+impl<'e, 'a, J: NodeNaming, S: HasState<J>, G: Gate> Hearer for LaneReporter<'e, 'a, J, S, G> {
     ghost heard = { λ reporter. reporter.lane.sent };
 
     // What decides is under a lock, of which no clause says anything.

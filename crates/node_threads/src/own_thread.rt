@@ -10,7 +10,7 @@ use crate::own_lane::OwnLane;
 use crate::served_node::ServedNode;
 use crate::shared::Shared;
 use mailbox::Lane;
-use node::{Gate, Item, NodeNaming, Stated, cuts_after, is_overdue};
+use node::{Gate, HasState, Item, NodeNaming, cuts_after, is_overdue};
 use std::hint;
 use std::sync::Wait;
 use std::time::{Clock, Duration};
@@ -37,7 +37,7 @@ struct LastTick {
     ticks: u64,
 }
 
-impl<'a, J: NodeNaming, S: Stated<J>, G: Gate> ServedNode<'a, J, S, G> {
+impl<'a, J: NodeNaming, S: HasState<J>, G: Gate> ServedNode<'a, J, S, G> {
     /// Works as the node's own thread until it sees the listener closed. Returns the witness.
     pub(crate) fn run_own_thread<R: Wait + Clock>(&self, rt: &R) -> Closed
         ensures { result ≡ self.now.number }
@@ -72,7 +72,7 @@ impl<'a, J: NodeNaming, S: Stated<J>, G: Gate> ServedNode<'a, J, S, G> {
     }
 }
 
-impl<'a, J: NodeNaming, S: Stated<J>, G: Gate> Shared<'a, J, S, G> {
+impl<'a, J: NodeNaming, S: HasState<J>, G: Gate> Shared<'a, J, S, G> {
     // Does the node's turn by its own lane: takes what was queued for the node, gives it the time
     // and has its log cut, if that is due. Returns when the node got the time last.
     fn do_turn_by<R: Wait + Clock>(&self, rt: &R, own: &mut OwnLane<J>, last: LastTick) -> LastTick

@@ -11,7 +11,7 @@ use crate::own_lane::OwnLane;
 use crate::shared::Shared;
 use crate::working::{LANES, LaneSlot, LaneSlots, THREADS, run};
 use mailbox::Lane;
-use node::{Config, Gate, Item, Memory, Node, NodeNaming, NodeState, Report, Stated};
+use node::{Config, Gate, HasState, Item, Memory, Node, NodeNaming, NodeState, Report};
 use std::alloc::Global;
 use std::mem;
 use std::net::{Net, TcpStream};
@@ -23,7 +23,7 @@ use writer::BlockedLinks;
 
 /// A node that serves: what its threads share, and their lanes.
 #[derive(Drop)]
-pub struct ServedNode<'a, J: NodeNaming, S: Stated<J>, G: Gate> {
+pub struct ServedNode<'a, J: NodeNaming, S: HasState<J>, G: Gate> {
     /// The node's number, which is that of its listener.
     pub number: u8,
     /// What its threads share.
@@ -112,7 +112,7 @@ impl<'a, J: NodeNaming, G: Gate> ServedNode<'a, J, NodeState<J>, G> {
     }
 }
 
-impl<'a, J: NodeNaming, S: Stated<J>, G: Gate> ServedNode<'a, J, S, G> {
+impl<'a, J: NodeNaming, S: HasState<J>, G: Gate> ServedNode<'a, J, S, G> {
     /// Ends all connections of the node, and admits no more: its threads return. Returns the
     /// witness that its listener is closed. No clause says more than whose witness it is.
     pub fn close_listener<R: Wait + Clock + Net<Stream = TcpStream>>(&self, rt: &R) -> Closed
@@ -125,7 +125,7 @@ impl<'a, J: NodeNaming, S: Stated<J>, G: Gate> ServedNode<'a, J, S, G> {
 impl<'a, J, S, G> ServedNode<'a, J, S, G>
 where
     J: NodeNaming + Send + Sync,
-    S: Stated<J> + Send,
+    S: HasState<J> + Send,
     G: Gate + Sync,
 {
     /// Works with each lane by a thread of its own, until the listener is closed. No clause says

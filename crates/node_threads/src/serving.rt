@@ -9,7 +9,7 @@ use crate::served_node::ServedNode;
 use crate::shared::Shared;
 use connection::{Counted, report_connection};
 use mailbox::Lane;
-use node::{Gate, Item, NodeNaming, Port, Stated};
+use node::{Gate, HasState, Item, NodeNaming, Port};
 use std::alloc::Global;
 use std::net::TcpStream;
 use std::sync::{Arc, Wait};
@@ -19,7 +19,7 @@ use streams::{Closed, Link, forget, port_of};
 /// How many connections a lane serves, each at a port of its own.
 const MAX_CONNECTIONS_OF_LANE: u64 = 1 << 56;
 
-impl<'a, J: NodeNaming, S: Stated<J>, G: Gate> ServedNode<'a, J, S, G> {
+impl<'a, J: NodeNaming, S: HasState<J>, G: Gate> ServedNode<'a, J, S, G> {
     /// Serves one client after another by a lane until it sees the listener closed. Returns the
     /// lane and the witness, or no witness if all ports are used. For each connection, one after
     /// another, the lane sent the whole report, at a port that no other has, and nothing else.
@@ -109,7 +109,7 @@ impl<'a, J: NodeNaming, S: Stated<J>, G: Gate> ServedNode<'a, J, S, G> {
     }
 }
 
-impl<'a, J: NodeNaming, S: Stated<J>, G: Gate> Shared<'a, J, S, G> {
+impl<'a, J: NodeNaming, S: HasState<J>, G: Gate> Shared<'a, J, S, G> {
     // Returns the connection of a stream, which is accepted now.
     fn link<R: Clock>(
         &self,

@@ -7,7 +7,7 @@ ghost use Rattle.node.specs.State.{EachOpensAs};
 
 use crate::node_context::NodeContext;
 use mailbox::Lane;
-use node::{Config, Gate, Item, Memory, Node, NodeNaming, NodeState, Report, Stated};
+use node::{Config, Gate, HasState, Item, Memory, Node, NodeNaming, NodeState, Report};
 use std::alloc::Global;
 use std::sync::Wait;
 use writer::{BlockedLinks, Writer};
@@ -15,7 +15,7 @@ use writer::{BlockedLinks, Writer};
 /// What the threads of a node share. No thread holds one of the locks while it waits, except its
 /// turn at a gate.
 #[derive(Drop)]
-pub(crate) struct Shared<'a, J: NodeNaming, S: Stated<J>, G: Gate> {
+pub(crate) struct Shared<'a, J: NodeNaming, S: HasState<J>, G: Gate> {
     /// The allocator of connections and lists.
     pub(crate) alloc: Global,
     /// The node, under its lock.
@@ -56,7 +56,7 @@ impl<'a, J: NodeNaming, G: Gate> Shared<'a, J, NodeState<J>, G> {
     }
 }
 
-impl<'a, J: NodeNaming, S: Stated<J>, G: Gate> Shared<'a, J, S, G> {
+impl<'a, J: NodeNaming, S: HasState<J>, G: Gate> Shared<'a, J, S, G> {
     /// Returns what writes to the node's connections.
     pub(crate) fn writer(&self) -> Writer<'_, 'a, J, S, G>
         ensures { result.listener.now.number ≡ self.now.context.listener.now.number }

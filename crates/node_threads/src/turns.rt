@@ -8,13 +8,13 @@ ghost use Rattle.node_threads.specs.Turns.{Turns};
 
 use crate::shared::Shared;
 use mailbox::Lane;
-use node::{Gate, Item, NodeNaming, NodeState, Permit, Stated};
+use node::{Gate, HasState, Item, NodeNaming, NodeState, Permit};
 use post::Given;
 use std::alloc::Global;
 use std::sync::Wait;
 use std::time::Clock;
 
-impl<'a, J: NodeNaming, S: Stated<J>, G: Gate> Shared<'a, J, S, G> {
+impl<'a, J: NodeNaming, S: HasState<J>, G: Gate> Shared<'a, J, S, G> {
     /// Sends an item by a lane, and then takes what waits in the inbox, including that item. Once
     /// it returns the node has taken all that the lane sent, and the lane knows it. What the node
     /// queued for connections is not written yet.

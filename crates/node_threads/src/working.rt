@@ -5,7 +5,7 @@ ghost use Rattle.node_threads.specs.Working.{Returns};
 
 use crate::served_node::ServedNode;
 use mailbox::Lane;
-use node::{Gate, Item, NodeNaming, Stated};
+use node::{Gate, HasState, Item, NodeNaming};
 use std::marker::Model;
 use std::sync::Wait;
 use std::thread;
@@ -83,7 +83,7 @@ pub(crate) fn run<'a, J, S, G, R>(
 )
 where
     J: NodeNaming + Send + Sync,
-    S: Stated<J> + Send,
+    S: HasState<J> + Send,
     G: Gate + Sync,
     R: Threads + Wait + Clock + Sync,
     ensures { (index : ℕ) (other : _) → index < length slots.old → Returns node.now.number
@@ -97,7 +97,7 @@ where
     );
 }
 
-impl<'a, J: NodeNaming, S: Stated<J>, G: Gate> ServedNode<'a, J, S, G> {
+impl<'a, J: NodeNaming, S: HasState<J>, G: Gate> ServedNode<'a, J, S, G> {
     // Works with a slot. If it has a lane, its thread serves connections by that, and puts it back.
     fn run_slot<R: Wait + Clock>(
         &self,

@@ -3,7 +3,7 @@
 ghost use Rattle.std.specs.Prelude.{◌≡◌, ◌≤◌, [], length, map, vec_capacity};
 
 use crate::outcome::Outcome;
-use node::{Gate, NodeNaming, NodeState, Stated};
+use node::{Gate, HasState, NodeNaming, NodeState};
 use node_threads::ServedNode;
 use std::net::{Net, TcpStream};
 use std::sync::Wait;
@@ -19,7 +19,7 @@ pub(crate) fn close_all<J, S, G, R>(
 ) -> Vec<Closed>
 where
     J: NodeNaming,
-    S: Stated<J>,
+    S: HasState<J>,
     G: Gate,
     R: Wait + Clock + Net<Stream = TcpStream>,
     requires empty { closings_with_capacity.items ≡ [] }

@@ -10,7 +10,7 @@ use crate::opening::open_all;
 use crate::outcome::Outcome;
 use crate::serve_error::ServeError;
 use crate::starting::can_start;
-use node::{Config, Gate, NoGate, NodeNaming, NodeState, OpeningError, Stated};
+use node::{Config, Gate, HasState, NoGate, NodeNaming, NodeState, OpeningError};
 use node_threads::{NodeContexts, NodeReport, OpenedNode, ServedNode, THREADS, start_all};
 use post::Cluster;
 use std::alloc::Global;
@@ -211,7 +211,7 @@ fn serve_by<J, S, R, G, T, F>(
 ) -> Served<T>
 where
     J: NodeNaming + Send + Sync,
-    S: Stated<J> + Send,
+    S: HasState<J> + Send,
     R: Threads + Wait + Clock + Sync + Net<Stream = TcpStream>,
     G: Gate + Sync,
     T: Drop,

@@ -6,7 +6,7 @@ ghost use Rattle.streams.specs.WriteTokens.{IsTokenOf};
 
 use crate::blocked_links::empty_list;
 use crate::writer::Writer;
-use node::{Gate, NodeNaming, Standing, Stated};
+use node::{Gate, HasState, NodeNaming, Standing};
 use std::alloc::Global;
 use std::mem;
 use std::sync::{Arc, Wait};
@@ -23,7 +23,7 @@ const FIRST_PAUSE_MILLIS: u64 = 1;
 /// How long it sleeps at most before it tries them again, in milliseconds.
 const MAX_PAUSE_MILLIS: u64 = 16;
 
-impl<'e, 'a, J: NodeNaming, S: Stated<J>, G: Gate> Writer<'e, 'a, J, S, G> {
+impl<'e, 'a, J: NodeNaming, S: HasState<J>, G: Gate> Writer<'e, 'a, J, S, G> {
     /// Goes on with connections whose sockets were full until it sees the listener closed. Returns
     /// the witness. No thread waits for this one, and it waits for no socket: between its tries it
     /// sleeps, longer each time while all stay full. The clause says only whose witness it is.

@@ -4,7 +4,7 @@ ghost use Rattle.std.specs.Prelude.{◌≡◌, []};
 ghost use Rattle.node.specs.State.{EachOpensAs};
 
 use crate::blocked_links::BlockedLinks;
-use node::{Config, Gate, Node, NodeNaming, Stated};
+use node::{Config, Gate, HasState, Node, NodeNaming};
 use std::alloc::Global;
 use std::sync::{Arc, Wait};
 use streams::{IdleLanes, Link, Listener, MAX_CONNECTIONS};
@@ -19,7 +19,7 @@ pub const FIRST_INDEX: usize = 0;
 /// What writes to the connections of a node. It holds no lock while it writes or sleeps. No clause
 /// says so, or which connections a call writes to.
 #[derive(Drop)]
-pub struct Writer<'e, 'a, J: NodeNaming, S: Stated<J>, G: Gate> {
+pub struct Writer<'e, 'a, J: NodeNaming, S: HasState<J>, G: Gate> {
     /// Where its lists are allocated.
     pub alloc: Global,
     /// The node, which queues bytes for its connections.
@@ -34,7 +34,7 @@ pub struct Writer<'e, 'a, J: NodeNaming, S: Stated<J>, G: Gate> {
     pub ghost opens: { EachOpensAs config.now J.first_of },
 }
 
-impl<'e, 'a, J: NodeNaming, S: Stated<J>, G: Gate> Writer<'e, 'a, J, S, G> {
+impl<'e, 'a, J: NodeNaming, S: HasState<J>, G: Gate> Writer<'e, 'a, J, S, G> {
     /// Writes what the node queued for its connections, to the one at this index first. `waits`
     /// says whether it waits for a full socket, for a short time.
     pub fn write_busy<R: Wait>(&self, rt: &R, first: usize, waits: bool) {

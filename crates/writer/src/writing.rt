@@ -6,19 +6,19 @@ ghost use Rattle.streams.specs.WriteTokens.{HasWholeStream, IsTokenOf};
 
 use crate::writer::Writer;
 use connection::{Flow, Outlet};
-use node::{Gate, Handed, Memory, NodeNaming, Stated};
+use node::{Gate, Handed, HasState, Memory, NodeNaming};
 use std::alloc::Global;
 use std::sync::{Arc, Wait};
 use streams::{Link, PortTap, WriteToken};
 
 // The node under its lock, which queued bytes for its connections.
 #[derive(Drop)]
-struct Source<'e, 'a, J: NodeNaming, S: Stated<J>, G: Gate> {
+struct Source<'e, 'a, J: NodeNaming, S: HasState<J>, G: Gate> {
     // Has the node, and writes to its connections.
     writer: &'e Writer<'e, 'a, J, S, G>,
 }
 
-impl<'e, 'a, J: NodeNaming, S: Stated<J>, G: Gate> Outlet<PortTap> for Source<'e, 'a, J, S, G> {
+impl<'e, 'a, J: NodeNaming, S: HasState<J>, G: Gate> Outlet<PortTap> for Source<'e, 'a, J, S, G> {
     fn hand_over<R: Wait>(
         &mut self,
         rt: &R,
@@ -30,7 +30,7 @@ impl<'e, 'a, J: NodeNaming, S: Stated<J>, G: Gate> Outlet<PortTap> for Source<'e
     }
 }
 
-impl<'e, 'a, J: NodeNaming, S: Stated<J>, G: Gate> Writer<'e, 'a, J, S, G> {
+impl<'e, 'a, J: NodeNaming, S: HasState<J>, G: Gate> Writer<'e, 'a, J, S, G> {
     /// Writes what the node queued for a connection, unless another thread writes there: then that
     /// one will look again. What a full socket does not take is left to the blocked writer. `waits`
     /// says whether this thread may sleep a moment for a full socket: the node's own one may not.

@@ -5,7 +5,7 @@ ghost use Rattle.std.specs.Prelude.{◌≡◌};
 use super::nodes::send;
 use super::starts::{Start, fresh_two};
 use mailbox::Lane;
-use node::{Gate, Item, Node, NodeNaming, NodeState, Report, Stated};
+use node::{Gate, HasState, Item, Node, NodeNaming, NodeState, Report};
 use std::alloc::Global;
 use std::marker::Brand;
 use std::sync::{Mutex, Wait};
@@ -102,7 +102,7 @@ impl Gate for Meeting {
 fn take_one<J, S, R>(rt: &R, alloc: Global, node: &Node<'_, J, S, Meeting>) -> bool
 where
     J: NodeNaming,
-    S: Stated<J>,
+    S: HasState<J>,
     R: Wait + Clock,
 {
     let permit = node.begin_taking(rt);
@@ -121,7 +121,7 @@ where
 fn take_all<J, S, R>(rt: &R, alloc: Global, node: &Node<'_, J, S, Meeting>, count: u64) -> bool
 where
     J: NodeNaming,
-    S: Stated<J>,
+    S: HasState<J>,
     R: Wait + Clock,
 {
     (0..count).all(|_| take_one(rt, alloc, node))
@@ -137,7 +137,7 @@ fn take_both<J, S, R>(
 ) -> bool
 where
     J: NodeNaming + Send + Sync,
-    S: Stated<J> + Send,
+    S: HasState<J> + Send,
     R: Threads + Wait + Clock + Sync,
 {
     let (one, other) = thread::join(
