@@ -9,7 +9,7 @@ ghost use Rattle.node_threads.specs.Turns.{Turns};
 use crate::shared::Shared;
 use mailbox::Lane;
 use node::{Gate, HasState, Item, NodeNaming, NodeState, Permit};
-use post::Given;
+use post::GivenEffects;
 use std::alloc::Global;
 use std::sync::Wait;
 use std::time::Clock;
@@ -110,7 +110,7 @@ fn take_as_permitted<J: NodeNaming, R: Wait>(
     node: &mut NodeState<J>,
     permit: &Permit<'_>,
     lane: &mut Lane<Item, J>,
-) -> (bool, Given)
+) -> (bool, GivenEffects)
     requires inbox { lane.old.inbox ≡ node.old.receiver.inbox }
     requires opens { EachOpens J.first_of }
     requires next { IsNext permit.now node.old }
@@ -127,8 +127,8 @@ fn take_as_permitted<J: NodeNaming, R: Wait>(
         let receipt = lane.receipt();
         if !node.take_one(rt, &mut effects, receipt) {
             node.meet(lane);
-            return (false, Given::new(effects));
+            return (false, GivenEffects::new(effects));
         }
     }
-    (true, Given::new(effects))
+    (true, GivenEffects::new(effects))
 }

@@ -10,7 +10,7 @@ ghost use Rattle.post.specs.Numbers.{are_nodes, is_node, peer_numbers};
 use crate::addressed_message::AddressedMessage;
 use crate::choosing::{Shown, primary_of};
 use crate::peer::Peer;
-use crate::queuing::{Given, Receivers, queue_all};
+use crate::queuing::{GivenEffects, Receivers, queue_all};
 use ballot::MASTER;
 use master::{AssignError, config_of};
 use node::{Config, Memory, NodeNaming, NodeState, OpeningError, Status};
@@ -206,7 +206,12 @@ impl Cluster {
     /// for a number that no node has is lost. A message of a node wakes nobody: the caller has it
     /// taken, or calls [`Cluster::wake_urgent`], once it has released the lock. No clause says that
     /// a message waits in an outbox afterwards.
-    pub fn queue_given<J: NodeNaming, R: Wait>(&self, rt: &R, giver: &NodeState<J>, given: Given) {
+    pub fn queue_given<J: NodeNaming, R: Wait>(
+        &self,
+        rt: &R,
+        giver: &NodeState<J>,
+        given: GivenEffects,
+    ) {
         // Evidence alone: nothing of it is read.
         let _ = giver;
         queue_all(rt, &mut NodesAndMaster { cluster: self }, given);

@@ -14,4 +14,4 @@ pub use cluster::Cluster;
 pub use master::Idle;
 pub use outbox::OrderError;
 pub use peer::{AdmittedBytes, Peer};
-pub use queuing::{Given, Receivers, queue_all};
+pub use queuing::{GivenEffects, Receivers, queue_all};

@@ -14,12 +14,12 @@ use std::sync::Wait;
 /// [`Cluster::queue_given`] take it, so the code that has it queues it.
 ///
 /// [`Cluster::queue_given`]: crate::Cluster::queue_given
-pub struct Given {
+pub struct GivenEffects {
     // Messages and outputs. A step of a node gave each.
     effects: Vec<Effect<Command, Output>>,
 }
 
-impl Model for Given {
+impl Model for GivenEffects {
     ghost use Rattle.std.specs.Prelude.{List};
     ghost use Rattle.node.specs.broker_spec.declared.command.Command.{Command};
     ghost use Rattle.node.specs.broker_spec.declared.command.Output.{Output};
@@ -34,13 +34,13 @@ impl Model for Given {
     ghost invariant = { λ given. Each WasGiven given.effects.items };
 }
 
-impl Given {
+impl GivenEffects {
     /// Returns what steps of a node gave.
-    pub fn new(effects: Vec<Effect<Command, Output>>) -> Given
+    pub fn new(effects: Vec<Effect<Command, Output>>) -> GivenEffects
         requires { Each WasGiven effects.items }
         ensures { result ≡ effects.items }
     {
-        Given { effects }
+        GivenEffects { effects }
     }
 }
 
@@ -60,10 +60,10 @@ pub trait Receivers {
 
 /// Queues all that steps of a node gave for others, in order, each message once. Outputs are for no
 /// other node.
-pub fn queue_all<C: Receivers, R: Wait>(rt: &R, receivers: &mut C, given: Given)
+pub fn queue_all<C: Receivers, R: Wait>(rt: &R, receivers: &mut C, given: GivenEffects)
     ensures { QueuesAll C.queues receivers.old (messages_of given) receivers.new }
 {
-    let Given { effects } = given;
+    let GivenEffects { effects } = given;
     queue_each(rt, receivers, effects);
 }
 
