@@ -179,35 +179,38 @@ pub(crate) fn publish(alloc: Global, fields: &[&str]) -> Result<ScriptLine, Fiel
     ensures value { IfOk result (λ line. parse_publish (texts fields.now) ≡ Some line) }
     ensures form { IsErrOf result FieldFault.Form → parse_publish (texts fields.now) ≡ None }
 {
-    let [name, about, quality, keep, bytes] = fields else {
+    let [name, topic_field, qos_field, retain_field, payload_field] = fields else {
         return Err(FieldFault::Form);
     };
     let name = client(alloc, name)?;
-    Ok(ScriptLine::Publish(name, publication(alloc, about, quality, keep, bytes)?))
+    let sent = publication(alloc, topic_field, qos_field, retain_field, payload_field)?;
+    Ok(ScriptLine::Publish(name, sent))
 }
 
 // Returns the publication of the last four fields.
 #[tactic(auto, unfolding(crate::specs::Inside::LineReading::parse_publication))]
 fn publication(
     alloc: Global,
-    about: &str,
-    quality: &str,
-    keep: &str,
-    bytes: &str,
+    topic_field: &str,
+    qos_field: &str,
+    retain_field: &str,
+    payload_field: &str,
 ) -> Result<Publication, FieldFault>
     ensures value { IfOk result (λ sent.
-        parse_publication about.now quality.now keep.now bytes.now ≡ Some sent) }
+        parse_publication topic_field.now qos_field.now retain_field.now payload_field.now
+        ≡ Some sent) }
     ensures form { IsErrOf result FieldFault.Form
-        → parse_publication about.now quality.now keep.now bytes.now ≡ None }
+        → parse_publication topic_field.now qos_field.now retain_field.now payload_field.now
+        ≡ None }
 {
-    let about = topic(alloc, about)?;
-    let quality = qos(quality)?;
-    let keep = retain(keep)?;
+    let topic = topic(alloc, topic_field)?;
+    let qos = qos(qos_field)?;
+    let retain = retain(retain_field)?;
     Ok(Publication {
-        retain: keep,
-        qos: quality,
-        topic: about,
-        payload: payload(alloc, bytes)?,
+        retain,
+        qos,
+        topic,
+        payload: payload(alloc, payload_field)?,
     })
 }
 
@@ -216,12 +219,12 @@ pub(crate) fn subscribe(alloc: Global, fields: &[&str]) -> Result<ScriptLine, Fi
     ensures value { IfOk result (λ line. parse_subscribe (texts fields.now) ≡ Some line) }
     ensures form { IsErrOf result FieldFault.Form → parse_subscribe (texts fields.now) ≡ None }
 {
-    let [name, pattern, quality] = fields else {
+    let [name, filter_field, qos_field] = fields else {
         return Err(FieldFault::Form);
     };
     let name = client(alloc, name)?;
-    let pattern = filter(alloc, pattern)?;
-    Ok(ScriptLine::Subscribe(name, pattern, qos(quality)?))
+    let filter = filter(alloc, filter_field)?;
+    Ok(ScriptLine::Subscribe(name, filter, qos(qos_field)?))
 }
 
 /// Reads the fields of `unsubscribe b t/#`: client b unsubscribes.
@@ -231,9 +234,9 @@ pub(crate) fn unsubscribe(alloc: Global, fields: &[&str]) -> Result<ScriptLine, 
     ensures form { IsErrOf result FieldFault.Form
         → two lines.Unsubscribe parse_client parse_filter (texts fields.now) ≡ None }
 {
-    let [name, pattern] = fields else {
+    let [name, filter_field] = fields else {
         return Err(FieldFault::Form);
     };
     let name = client(alloc, name)?;
-    Ok(ScriptLine::Unsubscribe(name, filter(alloc, pattern)?))
+    Ok(ScriptLine::Unsubscribe(name, filter(alloc, filter_field)?))
 }
