@@ -68,7 +68,7 @@ pub fn wait_for_all(group: &mut Group<Tally>) -> Option<&'static str> {
 // A command is appended, held, answered and committed; a message may come twice.
 #[test]
 fn an_answer_waits_for_all_members(rt: HostRuntime) {
-    assert_eq!(rt; first_fault(rt.alloc(), 2, &[1, 2], Run::WaitsForAll), None);
+    assert_eq!(rt; first_fault(rt.alloc(), 2, &[1, 2], Run::WaitForAll), None);
 }
 
 const APPENDED: &[Row] = &[(Arrives(0), Sent(2), Left(0), Agreed(1))];
@@ -94,7 +94,7 @@ pub fn agree_on_one(group: &mut Group<Tally>) -> Option<&'static str> {
 // What only the primary holds is not agreed.
 #[test]
 fn the_primarys_last_command_is_not_agreed(rt: HostRuntime) {
-    assert_eq!(rt; first_fault(rt.alloc(), 2, &[1, 2], Run::AgreesOnOne), None);
+    assert_eq!(rt; first_fault(rt.alloc(), 2, &[1, 2], Run::AgreeOnOne), None);
 }
 
 const ALONE: &[TallyCommand] = &[
@@ -127,5 +127,5 @@ pub fn count_alone(group: &mut Group<Tally>) -> Option<&'static str> {
 // A sole member answers at once: 2, nothing at the start of a ballot, and 5.
 #[test]
 fn a_sole_member_answers_at_once(rt: HostRuntime) {
-    assert_eq!(rt; first_fault(rt.alloc(), 1, &[1], Run::CountsAlone), None);
+    assert_eq!(rt; first_fault(rt.alloc(), 1, &[1], Run::CountAlone), None);
 }

@@ -43,7 +43,7 @@ pub fn change_members(group: &mut Group<Tally>, alloc: Global) -> Option<&'stati
 // NewBallot, Join, State, Install, Installed, Activate, Activated, Append, Held, Commit.
 #[test]
 fn a_new_configuration_takes_the_log_over(rt: HostRuntime) {
-    assert_eq!(rt; first_fault(rt.alloc(), 2, &[1], Run::Changes), None);
+    assert_eq!(rt; first_fault(rt.alloc(), 2, &[1], Run::ChangeMembers), None);
 }
 
 const WAITING: &[Row] = &[
@@ -104,7 +104,7 @@ pub fn supersede(group: &mut Group<Tally>, alloc: Global) -> Option<&'static str
 // Superseded(2).
 #[test]
 fn a_ballot_is_superseded(rt: HostRuntime) {
-    assert_eq!(rt; first_fault(rt.alloc(), 3, &[1], Run::IsSuperseded), None);
+    assert_eq!(rt; first_fault(rt.alloc(), 3, &[1], Run::Supersede), None);
 }
 
 // Proposes a number to add to a node, and lets all messages come. Returns whether it was taken.
@@ -153,7 +153,10 @@ pub fn stop_and_take_over(group: &mut Group<Tally>, alloc: Global) -> Option<&'s
 // answers the next command from there on.
 #[test]
 fn a_new_primary_takes_over(rt: HostRuntime) {
-    assert_eq!(rt; first_fault(rt.alloc(), 3, &[1, 2], Run::TakesOver), None);
+    assert_eq!(rt;
+        first_fault(rt.alloc(), 3, &[1, 2], Run::StopAndTakeOver),
+        None
+    );
 }
 
 const LEFT_BEHIND: &[Row] = &[
@@ -194,5 +197,5 @@ pub fn replace_log(group: &mut Group<Tally>, alloc: Global) -> Option<&'static s
 // the result of them later changes nothing.
 #[test]
 fn a_stale_primary_has_a_longer_log(rt: HostRuntime) {
-    assert_eq!(rt; first_fault(rt.alloc(), 2, &[1, 2], Run::IsReplaced), None);
+    assert_eq!(rt; first_fault(rt.alloc(), 2, &[1, 2], Run::ReplaceLog), None);
 }

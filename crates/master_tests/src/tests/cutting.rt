@@ -48,7 +48,10 @@ pub fn cut_what_is_applied(group: &mut Group<Tally>) -> Option<&'static str> {
 // Cutting changes nothing that is seen of a group.
 #[test]
 fn a_cut_changes_nothing_that_is_seen(rt: HostRuntime) {
-    assert_eq!(rt; first_fault(rt.alloc(), 2, &[1, 2], Run::Cuts), None);
+    assert_eq!(rt;
+        first_fault(rt.alloc(), 2, &[1, 2], Run::CutWhatIsApplied),
+        None
+    );
 }
 
 // The messages 0 to 9 of the change: NewBallot, Join, State, Install, Installed, Activate,
@@ -112,5 +115,8 @@ fn count_on(group: &mut Group<Tally>) -> Option<&'static str> {
 // A sole member cuts its log, and node 2 becomes the primary of both.
 #[test]
 fn a_snapshot_goes_over_to_a_new_primary(rt: HostRuntime) {
-    assert_eq!(rt; first_fault(rt.alloc(), 2, &[1], Run::TakesASnapshot), None);
+    assert_eq!(rt;
+        first_fault(rt.alloc(), 2, &[1], Run::TakeOverFromASnapshot),
+        None
+    );
 }

@@ -71,7 +71,10 @@ pub fn idle_where_nothing_can_happen(group: &mut Group<Tally>) -> Option<&'stati
 // continues after them.
 #[test]
 fn what_cannot_happen_is_idle(rt: HostRuntime) {
-    assert_eq!(rt; first_fault(rt.alloc(), 2, &[1, 2], Run::IsIdle), None);
+    assert_eq!(rt;
+        first_fault(rt.alloc(), 2, &[1, 2], Run::IdleWhereNothingCanHappen),
+        None
+    );
 }
 
 #[test]

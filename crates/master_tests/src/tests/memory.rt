@@ -68,7 +68,7 @@ pub fn serve_on(group: &mut Group<Tally>, alloc: Global) -> Option<&'static str>
 #[test]
 fn a_refused_growth_is_counted(rt: HostRuntime) {
     assert_eq!(rt;
-        first_fault_if_opened(rt.alloc(), 3, &[1, 2, 3], Run::ServesOn),
+        first_fault_if_opened(rt.alloc(), 3, &[1, 2, 3], Run::ServeOn),
         None
     );
 }
@@ -156,7 +156,7 @@ pub fn cut_on(group: &mut Group<Tally>, alloc: Global) -> Option<&'static str> {
 #[test]
 fn a_refused_cut_is_counted(rt: HostRuntime) {
     assert_eq!(rt;
-        first_fault_if_opened(rt.alloc(), 2, &[1], Run::CutsOn),
+        first_fault_if_opened(rt.alloc(), 2, &[1], Run::CutOn),
         None
     );
 }

@@ -9,20 +9,20 @@ use std::alloc::Global;
 /// What a group is to go through.
 #[derive(Clone, Copy)]
 pub enum Run {
-    WaitsForAll,
-    AgreesOnOne,
-    CountsAlone,
-    Changes,
-    IsSuperseded,
-    TakesOver,
-    IsReplaced,
-    Cuts,
-    TakesASnapshot,
-    IsIdle,
-    ServesOn,
-    CutsOn,
-    ServesInTurn,
-    LeavesLate,
+    WaitForAll,
+    AgreeOnOne,
+    CountAlone,
+    ChangeMembers,
+    Supersede,
+    StopAndTakeOver,
+    ReplaceLog,
+    CutWhatIsApplied,
+    TakeOverFromASnapshot,
+    IdleWhereNothingCanHappen,
+    ServeOn,
+    CutOn,
+    ServeInTurn,
+    OutputLate,
 }
 
 /// What a group shows: how many messages were sent, how many outputs left and how many places are
@@ -46,20 +46,20 @@ pub enum Fault {
 // Returns the first step that fails in a run, in words.
 fn step_of(alloc: Global, group: &mut Group<Tally>, run: Run) -> Option<&'static str> {
     match run {
-        Run::WaitsForAll => answers::wait_for_all(group),
-        Run::AgreesOnOne => answers::agree_on_one(group),
-        Run::CountsAlone => answers::count_alone(group),
-        Run::Changes => changes::change_members(group, alloc),
-        Run::IsSuperseded => changes::supersede(group, alloc),
-        Run::TakesOver => changes::stop_and_take_over(group, alloc),
-        Run::IsReplaced => changes::replace_log(group, alloc),
-        Run::Cuts => cutting::cut_what_is_applied(group),
-        Run::TakesASnapshot => cutting::take_over_from_a_snapshot(group, alloc),
-        Run::IsIdle => idle::idle_where_nothing_can_happen(group),
-        Run::ServesOn => memory::serve_on(group, alloc),
-        Run::CutsOn => memory::cut_on(group, alloc),
-        Run::ServesInTurn => takeovers::serve_in_turn(group, alloc),
-        Run::LeavesLate => takeovers::output_late(group, alloc),
+        Run::WaitForAll => answers::wait_for_all(group),
+        Run::AgreeOnOne => answers::agree_on_one(group),
+        Run::CountAlone => answers::count_alone(group),
+        Run::ChangeMembers => changes::change_members(group, alloc),
+        Run::Supersede => changes::supersede(group, alloc),
+        Run::StopAndTakeOver => changes::stop_and_take_over(group, alloc),
+        Run::ReplaceLog => changes::replace_log(group, alloc),
+        Run::CutWhatIsApplied => cutting::cut_what_is_applied(group),
+        Run::TakeOverFromASnapshot => cutting::take_over_from_a_snapshot(group, alloc),
+        Run::IdleWhereNothingCanHappen => idle::idle_where_nothing_can_happen(group),
+        Run::ServeOn => memory::serve_on(group, alloc),
+        Run::CutOn => memory::cut_on(group, alloc),
+        Run::ServeInTurn => takeovers::serve_in_turn(group, alloc),
+        Run::OutputLate => takeovers::output_late(group, alloc),
     }
 }
 

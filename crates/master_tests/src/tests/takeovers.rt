@@ -129,7 +129,7 @@ pub fn serve_in_turn(group: &mut Group<Tally>, alloc: Global) -> Option<&'static
 #[test]
 fn takeovers_lose_nothing(rt: HostRuntime) {
     assert_eq!(rt;
-        first_fault(rt.alloc(), 15, &[1, 2, 3], Run::ServesInTurn),
+        first_fault(rt.alloc(), 15, &[1, 2, 3], Run::ServeInTurn),
         None
     );
 }
@@ -192,5 +192,5 @@ pub fn output_late(group: &mut Group<Tally>, alloc: Global) -> Option<&'static s
 // has returned the output of place 2 by then.
 #[test]
 fn a_late_answer_leaves_after_later_ones(rt: HostRuntime) {
-    assert_eq!(rt; first_fault(rt.alloc(), 3, &[1, 2], Run::LeavesLate), None);
+    assert_eq!(rt; first_fault(rt.alloc(), 3, &[1, 2], Run::OutputLate), None);
 }
