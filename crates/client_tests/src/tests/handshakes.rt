@@ -53,7 +53,7 @@ const REQUESTS: &[Row<'static>] = &[
     (Act::Publish(QoS::AtLeastOnce, b'y'), None, FIRST, 2, 0),
 ];
 
-// SUBACK gives its identifier up, and does not answer an UNSUBSCRIBE.
+// A SUBACK does not answer an UNSUBSCRIBE, whose identifier stays in use until its UNSUBACK.
 #[test]
 fn only_its_own_answer_ends_a_request(rt: HostRuntime) {
     assert_eq!(rt; first_fault(rt.alloc(), REQUESTS), None);

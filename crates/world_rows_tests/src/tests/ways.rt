@@ -216,17 +216,20 @@ const NOBODY: &[Action] = &[Action::Crash(1), Action::Crash(2)];
 // What is asked of a world in which client `a` was answered.
 #[derive(Clone, Copy)]
 enum Asked<'a> {
-    // Whether the client comes back at node 2 as sole member.
+    // That the client comes back at node 2 as sole member.
     ComesBack,
-    // Whether there is no way out for these members and the client.
+    // That there is no way out for these members and the client.
     IsIdle(&'a [u8]),
-    // Whether an allocation that fails is reported.
+    // That an allocation that fails is reported.
     IsReported,
 }
 
+// The first step that fails, if one does.
+type Answer = Result<(), &'static str>;
+
 // Answers it after these events, for this client. None if they cannot happen, or it ran out of
 // memory.
-fn answer(alloc: Global, actions: &[Action], client: &str, asked: Asked<'_>) -> Option<bool> {
+fn answer(alloc: Global, actions: &[Action], client: &str, asked: Asked<'_>) -> Option<Answer> {
     match opened(alloc, 2, &[1, 2]) {
         Some(mut world) => {
             let answer = answer_in(alloc, &mut world, actions, client, asked);
@@ -244,16 +247,21 @@ fn answer_in(
     actions: &[Action],
     client: &str,
     asked: Asked<'_>,
-) -> Option<bool> {
+) -> Option<Answer> {
     if !all_hold(alloc, world, WAITS) || !let_all_happen(alloc, world, actions) {
         return None;
     }
     let name = named(alloc, client)?;
-    match asked {
+    Some(match asked {
         Asked::ComesBack => bring_back(world, &name),
-        Asked::IsIdle(members) => Some(has_no_way_out(world, members, &name)),
-        Asked::IsReported => Some(is_reported(world, &name)),
-    }
+        Asked::IsIdle(members) => find_no_way_out(world, members, &name),
+        Asked::IsReported => lead_out_or_report(world, &name),
+    })
+}
+
+// Returns this step if it fails.
+fn unless(holds: bool, step: &'static str) -> Answer {
+    if holds { Ok(()) } else { Err(step) }
 }
 
 // Says whether these events can happen, one after another.
@@ -266,70 +274,85 @@ fn let_all_happen(alloc: Global, world: &mut World, actions: &[Action]) -> bool 
     true
 }
 
-// Says whether a client comes back at node 2 as sole member. None if no way out is returned.
-fn bring_back(world: &mut World, client: &ClientId) -> Option<bool> {
+// Brings a client back at node 2 as sole member.
+fn bring_back(world: &mut World, client: &ClientId) -> Answer {
     match world.escape(&[2], client) {
         Ok(way) => bring_back_by(world, way.as_slice(), client),
-        Err(_) => None,
+        Err(_) => Err("there is a way out"),
     }
 }
 
-// Says whether it is back after these events: before the last one its CONNACK waits, and at the end
-// three commands are agreed in ballot 2.
-fn bring_back_by(world: &mut World, way: &[Event], client: &ClientId) -> Option<bool> {
-    let (last, front) = way.split_last()?;
+// Brings it back by these events: before the last one its CONNACK waits, and at the end three
+// commands are agreed in ballot 2.
+fn bring_back_by(world: &mut World, way: &[Event], client: &ClientId) -> Answer {
+    let Some((last, front)) = way.split_last() else {
+        return Err("the way has events");
+    };
+    unless(way.len() == 10, "the way has ten events")?;
     world.run(front);
-    let waits = world.down(2) == PRESENT;
-    let comes = world.step(last).is_ok() && is_online_with_session(world, client);
-    let ends = world.agreed_len() == 3 && world.active().0 == 2 && world.losses() == 0;
-    Some(way.len() == 10 && waits && comes && ends)
+    unless(
+        world.down(2) == PRESENT,
+        "its CONNACK waits before the last event",
+    )?;
+    unless(world.step(last).is_ok(), "the last event happens")?;
+    unless(
+        is_online_with_session(world, client),
+        "it is online with its session",
+    )?;
+    unless(world.agreed_len() == 3, "three commands are agreed")?;
+    unless(world.active().0 == 2, "ballot 2 is active")?;
+    unless(world.losses() == 0, "nothing was lost")
 }
 
-// Says whether there is no way out for these members and this client.
-fn has_no_way_out(world: &World, members: &[u8], client: &ClientId) -> bool {
+// Looks for a way out for these members and this client, where there is none.
+fn find_no_way_out(world: &World, members: &[u8], client: &ClientId) -> Answer {
     match world.escape(members, client) {
-        Ok(_) => false,
-        Err(error) => error == EscapeError::Idle,
+        Ok(_) => Err("there is no way out"),
+        Err(error) => unless(error == EscapeError::Idle, "the answer is Idle"),
     }
 }
 
-// Says whether an allocation that fails is reported: no way is returned because memory ran out, or
-// a way that leads to its end, or a loss is counted on it.
-fn is_reported(world: &mut World, client: &ClientId) -> bool {
+// Leads a client out where an allocation may fail: then no way is returned because memory ran out,
+// or a loss is counted on a way, or it leads to its end.
+fn lead_out_or_report(world: &mut World, client: &ClientId) -> Answer {
     match world.escape(&[2], client) {
         Ok(way) => {
             world.run(way.as_slice());
-            world.losses() > 0 || (world.active().0 == 2 && is_online_with_session(world, client))
+            let is_out = world.active().0 == 2 && is_online_with_session(world, client);
+            unless(
+                world.losses() > 0 || is_out,
+                "the way has its end, or a loss",
+            )
         }
-        Err(error) => error == EscapeError::Memory,
+        Err(error) => unless(error == EscapeError::Memory, "memory ran out"),
     }
 }
 
 // For `tools/refused-memory`. Without memory for the world nothing is asked of it.
 #[test]
 fn a_way_out_without_memory_is_refused_or_counted(rt: HostRuntime) {
-    let is_reported = answer(rt.alloc(), &[], "a", Asked::IsReported).unwrap_or(true);
-    assert!(rt; is_reported, "it has no end, and no loss");
+    let reported = answer(rt.alloc(), &[], "a", Asked::IsReported).unwrap_or(Ok(()));
+    assert_eq!(rt; reported, Ok(()));
 }
 
 #[test]
 fn a_client_comes_back(rt: HostRuntime) {
     let alloc = rt.alloc();
     let back = answer(alloc, &[], "a", Asked::ComesBack);
-    assert_eq!(rt; back, Some(true), "a comes back");
+    assert_eq!(rt; back, Some(Ok(())), "a comes back");
     let back = answer(alloc, CRASHED, "a", Asked::ComesBack);
-    assert_eq!(rt; back, Some(true), "a comes back after a crash");
+    assert_eq!(rt; back, Some(Ok(())), "a comes back after a crash");
     let idle = answer(alloc, CRASHED, "a", Asked::IsIdle(&[1]));
-    assert_eq!(rt; idle, Some(true), "a crashed member has no way out");
+    assert_eq!(rt; idle, Some(Ok(())), "a crashed member has no way out");
     let idle = answer(alloc, &[], "z", Asked::IsIdle(&[2]));
-    assert_eq!(rt; idle, Some(true), "an unknown client has no way out");
+    assert_eq!(rt; idle, Some(Ok(())), "an unknown client has no way out");
 }
 
 #[test]
 fn nothing_leads_out_where_nobody_lives(rt: HostRuntime) {
     for members in LISTS {
         let idle = answer(rt.alloc(), NOBODY, "a", Asked::IsIdle(*members));
-        assert_eq!(rt; idle, Some(true), "{members:?}");
+        assert_eq!(rt; idle, Some(Ok(())), "{members:?}");
     }
 }
 
