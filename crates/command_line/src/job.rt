@@ -36,7 +36,7 @@ pub struct Publish<'a> {
     pub message: &'a str,
     /// Whether a server is to keep it for later subscribers (RETAIN).
     pub retain: bool,
-    /// How many connections are opened at most, 1 to 1000.
+    /// How many connections are opened at most, 1 to 1,000.
     pub tries: u32,
     /// The addresses of servers, at least one, which are not checked here.
     pub addresses: Vec<&'a str>,
@@ -53,7 +53,7 @@ pub struct Subscribe<'a> {
     pub qos: QoS,
     /// How many publications are printed, 1 to 1,000,000.
     pub count: u32,
-    /// How many connections are opened at most, 1 to 1000.
+    /// How many connections are opened at most, 1 to 1,000.
     pub tries: u32,
     /// The addresses of servers, at least one, which are not checked here.
     pub addresses: Vec<&'a str>,
