@@ -34,7 +34,7 @@ PipeGrows =
     → Spells packet bytes → IsPacket packet →
     IsPiped (written ++ packet ∷ []) handled stream (in_transit ++ bytes)
 
--- bytes are carried, cut anywhere
+-- bytes are carried, split anywhere
 abbrev pub PipeCarries : Type 0
 PipeCarries =
     (written handled : List Packet) (stream : Stream) (piece in_transit : List ℕ)
