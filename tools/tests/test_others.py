@@ -1,4 +1,4 @@
-"""Tests of tools/where, tools/clauses, tools/paths, tools/look and verdicts of tools/planted."""
+"""Tests of tools/where, tools/clauses, tools/look, and verdicts and pages of tools/planted."""
 from small import HIGH, LOW, RIGHT, SENTENCES, WORDS, ToolTest, parts
 
 DETOUR = "Rattle.middle.specs.low.Words"
@@ -44,12 +44,6 @@ class Counts(ToolTest):
         self.assertEqual(self.ended(), ([said.format(0)], 0))
         self.put({LOW: RIGHT[LOW].replace("ensures", "requires")})
         self.assertEqual(self.ended(), (["low: 1 of 2: Word::letters", said.format(1)], 0))
-
-    def test_paths_doubles_with_each_crate_that_names_all_below_it(self):
-        lines = [f"c{at}: {' '.join(f'c{it}' for it in range(at))}\n" for at in range(10)]
-        self.put({"crates.txt": "".join(lines)})
-        self.words = ["paths"]
-        self.assertEqual(self.ended(), (["     512 c9", "    1023 all"], 0))
 
     def test_look_counts_the_tools_that_found_something(self):
         self.words, self.tables = ["look"], {"LOOKS": (["true"], ["false"])}
