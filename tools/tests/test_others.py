@@ -1,4 +1,7 @@
 """Tests of tools/where, tools/clauses, tools/look, and verdicts and pages of tools/planted."""
+import contextlib
+import io
+
 from small import HIGH, LOW, RIGHT, SENTENCES, WORDS, ToolTest, parts
 
 DETOUR = "Rattle.middle.specs.low.Words"
@@ -60,3 +63,12 @@ class Counts(ToolTest):
         exec(parts("planted")[0], made)
         for said, file, verdict in VERDICTS:
             self.assertEqual(made["judge"](said, {file: ""}), verdict)
+
+    def test_planted_names_a_page_that_is_not_up_to_date(self):
+        made, told = {}, io.StringIO()
+        exec(parts("planted")[0], made)
+        same, other = f"{self.top}/{WORDS}", f"{self.top}/{LOW}"
+        with contextlib.redirect_stdout(told):
+            self.assertEqual(made["check"]({same: RIGHT[WORDS], other: ""}), 1)
+        said = f"{other}: not up to date; run tools/planted --write\n"
+        self.assertEqual(told.getvalue(), said)
