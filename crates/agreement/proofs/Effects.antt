@@ -1,14 +1,14 @@
 -- The messages and the outputs among effects.
 use Rattle.std.proofs.Common.{◌≡◌, ℕ, List, [], ◌∷◌, ◌++◌, map, refl, ap}
-use Rattle.whole.specs.Messages.{Message, Body, Effect}
-use Rattle.whole.specs.Messages.Effect.{To, Out}
-use Rattle.whole.specs.ballot_base.declared.status.Progress.{Progress}
-use Rattle.whole.specs.Losses.{Thinned}
-use Rattle.whole.specs.Losses.Thinned.{none, keeps, loses}
-use Rattle.whole.specs.Sending.{message_to_followed}
+use Rattle.agreement.specs.whole_logs.Messages.{Message, Body, Effect}
+use Rattle.agreement.specs.whole_logs.Messages.Effect.{To, Out}
+use Rattle.ballot_base.specs.declared.status.Progress.{Progress}
+use Rattle.agreement.specs.whole_logs.Losses.{Thinned}
+use Rattle.agreement.specs.whole_logs.Losses.Thinned.{none, keeps, loses}
+use Rattle.agreement.specs.whole_logs.Sending.{message_to_followed}
 use Rattle.agreement.specs.World.{messages, outputs}
-use Rattle.whole.specs.lists.Lists.{In}
-use Rattle.whole.specs.lists.Lists.In.{here, there}
+use Rattle.lists.specs.Lists.{In}
+use Rattle.lists.specs.Lists.In.{here, there}
 
 -- messages and outputs of effects that are joined
 pub messages-append : {C O : Type 0} (xs ys : List (Effect C O)) → messages (xs ++ ys) ≡ messages xs ++ messages ys

@@ -3,10 +3,10 @@ use Rattle.std.proofs.Common.{◌≡◌, ℕ, ◌+◌, ◌-◌, ◌<◌, ◌⊎�
 use Rattle.std.specs.Prelude.{◌==◌, ◌&&◌, nat_le, nat_lt}
 use Rattle.std.specs.List.{list_any}
 use Rattle.std.proofs.lemmas.Bool.{and_parts, or_cases, eqb-true, ltb-true}
-use Rattle.whole.specs.ballot_base.LawfulConfig.{are_rising, is_lawful}
-use Rattle.whole.specs.ballot_base.declared.config.Config.{Config}
-use Rattle.whole.specs.lists.Lists.{In}
-use Rattle.whole.specs.lists.Lists.In.{here, there}
+use Rattle.ballot_base.specs.LawfulConfig.{are_rising, is_lawful}
+use Rattle.ballot_base.specs.declared.config.Config.{Config}
+use Rattle.lists.specs.Lists.{In}
+use Rattle.lists.specs.Lists.In.{here, there}
 
 -- each member is above what comes before it
 rising_above : (last : ℕ) (members : List ℕ) (m : ℕ) → are_rising last members ≡ true → In m members → last < m

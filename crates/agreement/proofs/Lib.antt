@@ -1,3 +1,5 @@
+pub mod of_cut_logs
+pub mod of_whole_logs
 pub mod Agreed
 pub mod Changing
 pub mod Effects
@@ -10,6 +12,3 @@ pub mod Orders
 pub mod Runs
 pub mod Serving
 pub mod Starts
-pub use Rattle.whole.proofs.of_ballot_base as of_ballot_base
-pub use Rattle.whole.proofs.of_lists as of_lists
-pub use Rattle.whole.proofs as of_whole

@@ -2,9 +2,10 @@
 use Rattle.std.specs.Prelude.{ℕ, true, false, ◌≤◌, ◌≡◌, ◌==◌, List, [], ◌∷◌, ◌++◌}
 use Rattle.std.specs.Prelude.{length, if◌then◌else◌}
 use Rattle.machine.specs.Machine.{Rules}
-use Rattle.whole.specs.Applying.{outputs_between}
-use Rattle.whole.specs.ballot_base.declared.config.Config.{Config}
-use Rattle.whole.specs.Replica.{ReplicaState, is_active}
+use Rattle.agreement.specs.whole_logs.Applying.{outputs_between}
+use Rattle.ballot_base.specs.declared.config.Config.{Config}
+use Rattle.agreement.specs.whole_logs.Replica.{ReplicaState}
+use Rattle.ballot_base.specs.Replica.{is_active}
 use Rattle.agreement.specs.MasterState.{MasterState}
 use Rattle.agreement.specs.Moments.{Learns, Moment, Moments}
 use Rattle.agreement.specs.Moments.Moments.{began, went_on, learned}

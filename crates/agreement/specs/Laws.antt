@@ -2,10 +2,10 @@
 use Rattle.std.specs.Prelude.{ℕ, Bool, ◌≤◌, ◌≡◌, List, [], ◌∷◌, ◌++◌, filter, length}
 use Rattle.std.specs.Prelude.{slice_get, Some}
 use Rattle.machine.specs.Machine.{Rules}
-use Rattle.whole.specs.lists.Lists.{In, IsPrefixOf}
-use Rattle.whole.specs.Applying.{outputs_between}
-use Rattle.whole.specs.ballot_base.declared.config.Config.{Config}
-use Rattle.whole.specs.Replica.{ReplicaState}
+use Rattle.lists.specs.Lists.{In, IsPrefixOf}
+use Rattle.agreement.specs.whole_logs.Applying.{outputs_between}
+use Rattle.ballot_base.specs.declared.config.Config.{Config}
+use Rattle.agreement.specs.whole_logs.Replica.{ReplicaState}
 use Rattle.agreement.specs.Agreement.{Agrees, Holds}
 use Rattle.agreement.specs.Giving.{GivesNext, LeadsOn, given_in, given_of}
 use Rattle.agreement.specs.Leaving.{LeftInOrder}

@@ -2,8 +2,8 @@
 use Rattle.std.specs.Prelude.{ℕ, ◌<◌, ◌≤◌, ◌≡◌, ◌⊎◌, List, length, slice_get, Some}
 use Rattle.std.specs.List.{flat_map}
 use Rattle.machine.specs.Machine.{Rules}
-use Rattle.whole.specs.lists.Lists.{In}
-use Rattle.whole.specs.Applying.{outputs_between}
+use Rattle.lists.specs.Lists.{In}
+use Rattle.agreement.specs.whole_logs.Applying.{outputs_between}
 use Rattle.agreement.specs.Moments.{Moment, WasActive}
 use Rattle.agreement.specs.World.{GroupWorld, outputs}
 

@@ -1,3 +1,5 @@
+pub mod cut_logs
+pub mod whole_logs
 pub mod Agreement
 pub mod Giving
 pub mod Inside
@@ -10,7 +12,3 @@ pub mod Proposals
 pub mod Replays
 pub mod Steps
 pub mod World
-pub use Rattle.whole.specs.ballot_base as ballot_base
-pub use Rattle.whole.specs.lists as lists
-pub use Rattle.whole.specs.machine as machine
-pub use Rattle.whole.specs as whole

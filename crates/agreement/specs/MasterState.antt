@@ -2,10 +2,10 @@
 pub use Rattle.machine.specs.Ballots.{max_ballot}
 use Rattle.std.specs.Prelude.{ℕ, Bool, true, ◌+◌, ◌==◌, List, Option, Some, None, if◌then◌else◌}
 use Rattle.std.specs.Prelude.{◌^◌, nat_le}
-use Rattle.whole.specs.ballot_base.declared.config.Config.{Config}
-use Rattle.whole.specs.ballot_base.LawfulConfig.{is_lawful}
-use Rattle.whole.specs.Messages.{Body}
-use Rattle.whole.specs.Messages.Body.{NewBallot, Activated, Superseded}
+use Rattle.ballot_base.specs.declared.config.Config.{Config}
+use Rattle.ballot_base.specs.LawfulConfig.{is_lawful}
+use Rattle.agreement.specs.whole_logs.Messages.{Body}
+use Rattle.agreement.specs.whole_logs.Messages.Body.{NewBallot, Activated, Superseded}
 
 -- the active ballot and its members, the ballot that waits to be activated, and how many were given
 pub record MasterState : Type 0 where

@@ -1,12 +1,13 @@
 -- The moments of a group from its opening on, and what its members acknowledged in each ballot.
 use Rattle.std.specs.Prelude.{ℕ, true, false, ◌+◌, ◌≤◌, ◌≡◌, ◌⊎◌, List, [], ◌∷◌, length, slice_get}
 use Rattle.std.specs.Prelude.{take, Some}
-use Rattle.whole.specs.lists.Lists.{In, IsPrefixOf}
+use Rattle.lists.specs.Lists.{In, IsPrefixOf}
 use Rattle.machine.specs.Machine.{Rules}
-use Rattle.whole.specs.Messages.Body.{Held, Installed}
-use Rattle.whole.specs.Applying.{applied_to}
-use Rattle.whole.specs.ballot_base.declared.config.Config.{Config}
-use Rattle.whole.specs.Replica.{ReplicaState, is_active}
+use Rattle.agreement.specs.whole_logs.Messages.Body.{Held, Installed}
+use Rattle.agreement.specs.whole_logs.Applying.{applied_to}
+use Rattle.ballot_base.specs.declared.config.Config.{Config}
+use Rattle.agreement.specs.whole_logs.Replica.{ReplicaState}
+use Rattle.ballot_base.specs.Replica.{is_active}
 use Rattle.agreement.specs.Steps.{MayHappen}
 use Rattle.agreement.specs.MasterState.{MasterState, opening_master}
 use Rattle.agreement.specs.World.{GroupWorld, can_open, moved, opening_world}

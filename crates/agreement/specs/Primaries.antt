@@ -1,6 +1,7 @@
 -- Who is the active primary of a ballot.
 use Rattle.std.specs.Prelude.{ℕ, true, ◌≡◌, slice_get, Some}
-use Rattle.whole.specs.Replica.{ReplicaState, is_active}
+use Rattle.agreement.specs.whole_logs.Replica.{ReplicaState}
+use Rattle.ballot_base.specs.Replica.{is_active}
 use Rattle.agreement.specs.World.{GroupWorld}
 
 -- the node at an index is the active primary of a ballot, which it has joined

@@ -1,7 +1,7 @@
 -- The machine of a node that runs is the replay of the places that it applied.
 use Rattle.std.specs.Prelude.{ℕ, false, ◌≡◌, take, slice_get, Some}
 use Rattle.machine.specs.Machine.{Rules, replay}
-use Rattle.whole.specs.Replica.{ReplicaState}
+use Rattle.agreement.specs.whole_logs.Replica.{ReplicaState}
 use Rattle.agreement.specs.World.{GroupWorld}
 
 -- the machine of one replica is the replay of the places that it applied

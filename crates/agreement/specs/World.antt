@@ -3,11 +3,11 @@ use Rattle.std.specs.Prelude.{Option, Some, None, ℕ, zero, suc, Bool, ◌+◌,
 use Rattle.std.specs.Prelude.{slice_set, ◌&&◌, nat_le}
 use Rattle.std.specs.List.{list_all}
 use Rattle.machine.specs.Machine.{Rules}
-use Rattle.whole.specs.ballot_base.LawfulConfig.{is_lawful, max_node}
-use Rattle.whole.specs.ballot_base.declared.config.Config.{Config}
-use Rattle.whole.specs.Messages.{Message, Effect}
-use Rattle.whole.specs.Messages.Effect.{To, Out}
-use Rattle.whole.specs.Replica.{ReplicaState, opening}
+use Rattle.ballot_base.specs.LawfulConfig.{is_lawful, max_node}
+use Rattle.ballot_base.specs.declared.config.Config.{Config}
+use Rattle.agreement.specs.whole_logs.Messages.{Message, Effect}
+use Rattle.agreement.specs.whole_logs.Messages.Effect.{To, Out}
+use Rattle.agreement.specs.whole_logs.Replica.{ReplicaState, opening}
 
 -- the nodes, number n + 1 at index n, the messages with their receivers in the order of sending,
 -- and the outputs that left with their places

@@ -2,7 +2,9 @@
 //! code runs here; the laws are contracts of calls that do nothing.
 #![tactic(auto)]
 
+pub mod cut_logs;
 mod laws;
+pub mod whole_logs;
 
 pub use laws::{
     agreed_grows, answers_at_the_next_places, answers_while_it_leads, has_agreed, keeps_the_order,

@@ -18,7 +18,7 @@ use Rattle.ballot_base.proofs.StepRows.{commit_at-goes}
 use Rattle.ballot_base.proofs.MessageRows.{commit_at-raised, progress_raised, on_append-takes, on_held-raises, on_commit-takes}
 use Rattle.ballot_base.specs.Sends.{Sends}
 use Rattle.ballot.specs.Inside.{MessagesOrLost, PlainStepOrLost, ReadingStepOrLost}
-use Rattle.ballot_base.specs.lists.Lists.{IsPrefixOf}
+use Rattle.lists.specs.Lists.{IsPrefixOf}
 
 -- such a step is one with losses that was counted
 pub went_stepped : {S C O : Type 0} {rules : Rules S C O} {old : CountedReplica S C} {o : Outcome S C O} {unread : Bool} {new : CountedReplica S C} {before later : List (Effect C O)} →

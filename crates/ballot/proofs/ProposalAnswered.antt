@@ -10,8 +10,8 @@ use Rattle.ballot_base.specs.Losses.{AppendedStepOrLost, ReplicaStepOrLost, Step
 use Rattle.ballot_base.specs.Sending.{Outcome, nothing_done}
 use Rattle.ballot_base.specs.Serving.{added, max_places, proposed}
 use Rattle.ballot_base.proofs.StepRows.{proposed-adds}
-use Rattle.ballot_errors.specs.declared.error.ProposeError.{ProposeError}
-use Rattle.ballot_errors.specs.declared.error.ProposeError.TheVariants.{NotActive, LogFull, Memory, Halted}
+use Rattle.ballot_base.specs.declared.errors.error.ProposeError.{ProposeError}
+use Rattle.ballot_base.specs.declared.errors.error.ProposeError.TheVariants.{NotActive, LogFull, Memory, Halted}
 use Rattle.ballot.specs.Inside.{Lacks}
 
 -- what a step leaves as it is was done

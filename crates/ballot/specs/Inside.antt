@@ -9,8 +9,8 @@ use Rattle.ballot_base.specs.Sending.{Outcome, message_to_followed}
 use Rattle.ballot_base.specs.Sends.{Sends}
 use Rattle.ballot_base.specs.Serving.{commit}
 use Rattle.ballot_base.specs.declared.message.Body.TheVariants.{Append}
-use Rattle.ballot_errors.specs.declared.error.ProposeError.{ProposeError}
-use Rattle.ballot_errors.specs.declared.error.ProposeError.TheVariants.{NotActive, LogFull, Memory, Halted}
+use Rattle.ballot_base.specs.declared.errors.error.ProposeError.{ProposeError}
+use Rattle.ballot_base.specs.declared.errors.error.ProposeError.TheVariants.{NotActive, LogFull, Memory, Halted}
 
 -- a replica sent messages, and counted it if some were lost
 pub record MessagesOrLost {S C O : Type 0} (old : CountedReplica S C) (wanted : List (Effect C O))

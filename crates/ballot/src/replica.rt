@@ -4,7 +4,7 @@ ghost use Rattle.std.specs.Prelude.{◌≡◌, ◌≤◌, ◌<◌, ◌↔◌, �
 ghost use Rattle.std.specs.Prelude.{IsErrOf, MatchResult};
 ghost use Rattle.ballot_base.specs.Sends.{Sends};
 ghost use Rattle.ballot.specs.Inside.{Lacks};
-ghost use Rattle.ballot_base.specs.lists.Lists.{IsPrefixOf};
+ghost use Rattle.lists.specs.Lists.{IsPrefixOf};
 ghost use Rattle.ballot_base.specs.LawfulConfig.{is_lawful};
 ghost use Rattle.ballot_base.specs.Logs.{places};
 ghost use Rattle.ballot_base.specs.Losses.{AppendedStepOrLost, StepMessagesOrLost, halted, one_more};
@@ -13,11 +13,11 @@ ghost use Rattle.ballot_base.specs.Replica.{progress_at, status_of};
 ghost use Rattle.ballot_base.specs.Sending.{message_to_followed};
 ghost use Rattle.ballot_base.specs.Serving.{added, commit_at, max_places, proposed};
 
+use ballot_base::errors::{OpeningError, ProposeError};
 use ballot_base::{
     Body, Config, Effect, Log, MAX_NODE, MAX_PLACES, Members, Progress, Role, Status, apply_places,
     counted, least_held, progress_of_others, send_appends, send_commits,
 };
-use ballot_errors::{OpeningError, ProposeError};
 use machine::{Halted, Machine, Memory};
 use std::alloc::Global;
 use std::marker::Model;

@@ -8,4 +8,3 @@ pub mod PlacesApplied
 pub mod SendsJoin
 pub mod StepRows
 pub mod ThinnedEffects
-pub use Rattle.lists.proofs as of_lists

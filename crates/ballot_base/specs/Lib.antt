@@ -1,3 +1,4 @@
+pub mod errors
 pub mod Activating
 pub mod Applying
 pub mod Changing
@@ -12,5 +13,3 @@ pub mod Sends
 pub mod Serving
 pub mod Taking
 pub mod Unread
-pub use Rattle.lists.specs as lists
-pub use Rattle.machine.specs as machine

@@ -6,6 +6,7 @@
 mod applying;
 mod config;
 mod copying;
+pub mod errors;
 mod following;
 mod limits;
 mod log;

@@ -2,10 +2,10 @@
 
 use anyhow::{Result, ensure};
 use bench_base::nanos_each;
-use packet::{ClientId, QoS};
+use packet_base::{ClientId, QoS};
 use std::alloc::Global;
 use std::time::CpuClock;
-use subs::{ListIndex, SubIndex};
+use subs_base::{ListIndex, SubIndex};
 use topics::{Filter, TopicName};
 
 const FILTERS: u32 = 64;

@@ -3,7 +3,8 @@
 ghost use Rattle.packet.specs.Spelling.{IsListed};
 
 use anyhow::Result;
-use packet::{Delivery, Packet, Payload, Publish, encode};
+use packet::{Delivery, Packet, Publish, encode};
+use packet_base::Payload;
 use std::alloc::Global;
 use topics::TopicName;
 

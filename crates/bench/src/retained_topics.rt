@@ -2,7 +2,7 @@
 
 use anyhow::{Result, ensure};
 use bench_base::nanos_each;
-use packet::{Payload, QoS};
+use packet_base::{Payload, QoS};
 use retained::RetainedStore;
 use std::alloc::Global;
 use std::time::CpuClock;

@@ -3,10 +3,11 @@
 
 use anyhow::{Result, ensure};
 use bench_base::{nanos_each, print_memory};
-use packet::{ClientId, QoS};
+use packet_base::{ClientId, QoS};
 use std::alloc::Global;
 use std::time::CpuClock;
-use subs::{ListIndex, SubIndex, TreeIndex};
+use subs::TreeIndex;
+use subs_base::{ListIndex, SubIndex};
 use topics::{Filter, TopicName};
 
 const FILTERS: u32 = 64;

@@ -3,7 +3,8 @@
 
 use anyhow::Result;
 use bench_base::nanos_each;
-use packet::{Delivery, Packet, Payload, QoS};
+use packet::{Delivery, Packet};
+use packet_base::{Payload, QoS};
 use session::Session;
 use session_base::Publication;
 use std::time::CpuClock;

@@ -1,12 +1,12 @@
 -- Crossing.antt: a machine may be handed from thread to thread, since each of its parts may.
 use denote.Param.Send.{IsSend, sendable}
 use Rattle.broker.specs.contracts.broker_machine.BrokerMachine as BrokerMachine
-use Rattle.broker_tables.proofs.of_broker_session.client_row.ClientRow.TheSendSync.{the_send as row_send}
+use Rattle.broker.proofs.one_session.client_row.ClientRow.TheSendSync.{the_send as row_send}
 use Rattle.packet_base.proofs.client_id.ClientId.TheSendSync.{the_send as client_send}
-use Rattle.broker_tables.proofs.of_retained.retained_store.RetainedStore.TheSendSync.{the_send as store_send}
+use Rattle.retained.proofs.retained_store.RetainedStore.TheSendSync.{the_send as store_send}
 use Rattle.std.proofs.Crossing.{crosses}
 use Rattle.std.proofs.MapsCrossing as maps
-use Rattle.broker_tables.proofs.of_subs.tree_index.TreeIndex.TheSendSync.{the_send as tree_send}
+use Rattle.subs.proofs.tree_index.TreeIndex.TheSendSync.{the_send as tree_send}
 
 ruleset owning = (sendable, crosses, maps.crosses)
 

@@ -10,7 +10,7 @@ use Rattle.std.specs.Map.{keys_of}
 use Rattle.std.proofs.lemmas.Cmp.{nat_list_cmp_total}
 use Rattle.session_base.specs.Counted.{check_form, last_of}
 use Rattle.broker_spec.specs.Place.{by_bytes}
-use Rattle.broker_form.specs.Follows.{is_after}
+use Rattle.broker_base.specs.form.Follows.{is_after}
 
 less : (o : Ordering) → is_lt o ≡ true → o ≡ Less
 less Less e = refl

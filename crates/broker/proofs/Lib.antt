@@ -1,3 +1,5 @@
+pub mod of_one_session
+pub mod of_tables
 pub mod Crossing
 pub mod LastRows
 pub mod OwnersOfLast

@@ -5,13 +5,13 @@ use Rattle.std.specs.Prelude.{option_map, is_some}
 use Rattle.broker_spec.specs.Connection.{ConnectionName, same_connection}
 use Rattle.broker_spec.specs.Place.{Client}
 use Rattle.broker_spec.specs.Sessions.{any_connection}
-use Rattle.broker_tables.specs.broker_base.ClientSession.{ClientSession}
-use Rattle.broker_tables.specs.broker_base.State.{Sessions, owner_in}
-use Rattle.broker_tables.proofs.of_broker_base.ConnectionsOfSessions.{same_turned}
-use Rattle.broker_tables.specs.broker_rows.Owners.{owners_in, owned_by}
-use Rattle.broker_tables.proofs.of_broker_rows.OwnersRow.{on_is}
+use Rattle.broker_base.specs.ClientSession.{ClientSession}
+use Rattle.broker_base.specs.State.{Sessions, owner_in}
+use Rattle.broker_base.proofs.ConnectionsOfSessions.{same_turned}
+use Rattle.broker_base.specs.rows.Owners.{owners_in, owned_by}
+use Rattle.broker_base.proofs.of_rows.OwnersRow.{on_is}
 use Rattle.session_base.specs.Counted.{last_of}
-use Rattle.broker_form.specs.Follows.{is_after, is_owned, row_follows}
+use Rattle.broker_base.specs.form.Follows.{is_after, is_owned, row_follows}
 
 abbrev Row : Type 0
 Row = Client × ClientSession

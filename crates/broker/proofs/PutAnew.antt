@@ -8,18 +8,18 @@ use Rattle.packet_base.specs.declared.qos.QoS.{QoS}
 use Rattle.session_base.specs.Subscriptions.{GrantedSubscription}
 use Rattle.session_base.specs.KeepingLaws.{AreFiltersApart}
 use Rattle.broker_spec.specs.Place.{Client, same_client}
-use Rattle.broker_tables.specs.broker_base.ClientSession.{ClientSession}
-use Rattle.broker_tables.specs.broker_base.State.{Sessions, session_in}
-use Rattle.broker_tables.specs.broker_base.StateLaws.{AllSound, AreByClient}
+use Rattle.broker_base.specs.ClientSession.{ClientSession}
+use Rattle.broker_base.specs.State.{Sessions, session_in}
+use Rattle.broker_base.specs.StateLaws.{AllSound, AreByClient}
 use Rattle.broker_spec.proofs.ClientsInOrder.{same_is}
-use Rattle.broker_tables.proofs.of_broker_base.SessionsStayByClient.{ComesBefore}
-use Rattle.broker_tables.specs.subs_base.Content.{Content, last_qos_in, no_subscriptions, with_client_filters}
-use Rattle.broker_tables.specs.broker_rows.Indexed.{subscribed_in, content_in}
+use Rattle.broker_base.proofs.SessionsStayByClient.{ComesBefore}
+use Rattle.subs_base.specs.Content.{Content, last_qos_in, no_subscriptions, with_client_filters}
+use Rattle.broker_base.specs.rows.Indexed.{subscribed_in, content_in}
 use Rattle.broker_spec.specs.Subscriptions.{qos_asked}
-use Rattle.broker_tables.proofs.of_broker_rows.ConnectSteps.{no_session}
-use Rattle.broker_tables.proofs.of_broker_rows.publications.GreatestGranted.{none_held}
-use Rattle.broker_tables.proofs.of_broker_rows.maps.FiltersHeld.{bytes_back}
-use Rattle.broker_tables.proofs.of_broker_rows.maps.ContentOfStart.{same_bytes}
+use Rattle.broker_base.proofs.of_rows.ConnectSteps.{no_session}
+use Rattle.broker_base.proofs.of_rows.publications.GreatestGranted.{none_held}
+use Rattle.broker_base.proofs.of_rows.maps.FiltersHeld.{bytes_back}
+use Rattle.broker_base.proofs.of_rows.maps.ContentOfStart.{same_bytes}
 use Rattle.broker.specs.Inside.{all_put}
 
 -- the first of two that is there

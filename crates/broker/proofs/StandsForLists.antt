@@ -5,10 +5,10 @@ use Rattle.broker_spec.specs.Place.{Past, Limits}
 use Rattle.broker_spec.specs.AnswersInOrder.{answers_of}
 use Rattle.broker_spec.specs.Commands.{is_start, past_from, past_of, place_of, limits_with, limits_from, window_from}
 use Rattle.broker_spec.specs.declared.command.Command.{Command}
-use Rattle.broker_tables.specs.broker_base.State.{state_of}
-use Rattle.broker_tables.specs.broker_base.Step.{step, IsWindow}
-use Rattle.broker_tables.proofs.of_broker_base.StepByStep.{step_stands, growing_lists_stand}
-use Rattle.broker_form.proofs.Thawing.{frozen_before_is_thawed}
+use Rattle.broker_base.specs.State.{state_of}
+use Rattle.broker_base.specs.Step.{step, IsWindow}
+use Rattle.broker_base.proofs.StepByStep.{step_stands, growing_lists_stand}
+use Rattle.broker_base.proofs.of_form.Thawing.{frozen_before_is_thawed}
 use Rattle.broker.specs.StandsFor.{BeginsEmpty, GoesOnStanding, GoesOnFromFormOne, UsualIsWide}
 
 -- one more command at the end of a list

@@ -4,10 +4,10 @@ use Rattle.std.specs.List.{AllByRecursion}
 use Rattle.retained.specs.Retained.{RetainedTopics}
 use Rattle.session_base.proofs.Writable.{has_length}
 use Rattle.broker_spec.specs.Commands.{usual_limits}
-use Rattle.broker_tables.specs.broker_base.State.{Sessions, State}
-use Rattle.broker_tables.specs.broker_base.StateLaws.{AllSound}
-use Rattle.broker_form.specs.InRange.{IsBrokerState, IsRetained, IsSession, as_publication}
-use Rattle.broker_form.proofs.RowsAgain.{has_form}
+use Rattle.broker_base.specs.State.{Sessions, State}
+use Rattle.broker_base.specs.StateLaws.{AllSound}
+use Rattle.broker_base.specs.form.InRange.{IsBrokerState, IsRetained, IsSession, as_publication}
+use Rattle.broker_base.proofs.of_form.RowsAgain.{has_form}
 use Rattle.broker.specs.Inside.{AreRows, ArePayloads}
 
 rows_have_forms : (rows : Sessions) → AllSound rows → AllByRecursion (λ row. IsSession usual_limits row.0 row.1) rows → AreRows rows

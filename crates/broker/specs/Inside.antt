@@ -2,12 +2,12 @@
 use Rattle.std.specs.Prelude.{◌≡◌, ℕ, ◌^◌, ◌<◌, length, List, [], ◌∷◌}
 use Rattle.std.specs.List.{AllByRecursion}
 use Rattle.retained.specs.Retained.{RetainedTopics}
-use Rattle.broker_tables.specs.subs_base.Content.{Content, last_qos_in, with_client_filters}
+use Rattle.subs_base.specs.Content.{Content, last_qos_in, with_client_filters}
 use Rattle.session_base.specs.FormLaws.{HasForm}
 use Rattle.broker_spec.specs.Connection.{ConnectionName}
-use Rattle.broker_tables.specs.broker_base.State.{Sessions, State}
-use Rattle.broker_tables.specs.broker_rows.Owners.{owners_in}
-use Rattle.broker_tables.specs.Tables.{owners_at}
+use Rattle.broker_base.specs.State.{Sessions, State}
+use Rattle.broker_base.specs.rows.Owners.{owners_in}
+use Rattle.broker.specs.tables.Tables.{owners_at}
 use Rattle.broker.specs.declared.rows.Rows.{Rows}
 
 -- each of these sessions has a form

@@ -4,11 +4,11 @@ use Rattle.broker_spec.specs.AnswersInOrder.{answers_of}
 use Rattle.broker_spec.specs.Commands.{past_of, limits_from, usual_limits}
 use Rattle.broker_spec.specs.Window.{narrow_window, wide_window}
 use Rattle.broker_spec.specs.declared.command.Command.{Command}
-use Rattle.broker_tables.specs.broker_base.State.{State, state_of, empty_state}
-use Rattle.broker_form.specs.BrokerRules.{after, answers}
-use Rattle.broker_form.specs.Form.{thawed}
-use Rattle.broker_form.specs.Writing.{frozen_before}
-use Rattle.broker_form.specs.FormLaws.{IsUsualState}
+use Rattle.broker_base.specs.State.{State, state_of, empty_state}
+use Rattle.broker_base.specs.form.BrokerRules.{after, answers}
+use Rattle.broker_base.specs.form.Form.{thawed}
+use Rattle.broker_base.specs.form.Writing.{frozen_before}
+use Rattle.broker_base.specs.form.FormLaws.{IsUsualState}
 
 -- the state is the one that this list of commands means, if the window was this one at first
 abbrev pub StateStandsFor : ℕ → State → List Command → Type 0

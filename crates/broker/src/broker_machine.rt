@@ -1,10 +1,10 @@
 // The machine that a replica drives.
 
 use crate::freezing::freeze_tables;
+use crate::tables::Tables;
 use crate::thawing::thawed_tables;
-use broker_form::thawed_is_in_range;
+use broker_base::form::thawed_is_in_range;
 use broker_spec::{Command, Output};
-use broker_tables::Tables;
 use machine::{Halted, Machine, Memory, ThawFault};
 use packet_base::Stop;
 use std::alloc::Global;
@@ -25,9 +25,9 @@ impl Drop for BrokerMachine {
 }
 
 impl Model for BrokerMachine {
-    ghost use Rattle.broker_tables.specs.broker_base.State.{State};
-    ghost use Rattle.broker_form.specs.FormLaws.{IsUsualState};
-    ghost use Rattle.broker_tables.specs.Tables.{IsTied, state_in};
+    ghost use Rattle.broker_base.specs.State.{State};
+    ghost use Rattle.broker_base.specs.form.FormLaws.{IsUsualState};
+    ghost use Rattle.broker.specs.tables.Tables.{IsTied, state_in};
 
     ghost Value = { State };
 
@@ -40,10 +40,10 @@ impl Model for BrokerMachine {
 // It is frozen to form 2, and thawed from form 1 too.
 impl Machine for BrokerMachine {
     ghost use Rattle.broker_spec.specs.Logged.{IsBrokerCommand};
-    ghost use Rattle.broker_form.specs.FormLaws.{IsUsualState};
-    ghost use Rattle.broker_form.proofs.Thawing.{frozen_is_thawed};
-    ghost use Rattle.broker_form.specs.BrokerRules.{broker_rules};
-    ghost use Rattle.broker_form.proofs.UsualStates.{empty_is_usual, stays_usual};
+    ghost use Rattle.broker_base.specs.form.FormLaws.{IsUsualState};
+    ghost use Rattle.broker_base.proofs.of_form.Thawing.{frozen_is_thawed};
+    ghost use Rattle.broker_base.specs.form.BrokerRules.{broker_rules};
+    ghost use Rattle.broker_base.proofs.of_form.UsualStates.{empty_is_usual, stays_usual};
 
     type Command = Command;
 

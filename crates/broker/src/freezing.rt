@@ -4,15 +4,16 @@ ghost use Rattle.std.specs.Prelude.{◌≡◌, ◌^◌, ◌<◌, ◌++◌, lengt
 ghost use Rattle.std.specs.List.{flat_map, AllByRecursion};
 ghost use Rattle.session_base.specs.FormLaws.{HasForm};
 ghost use Rattle.broker_spec.specs.Commands.{usual_limits};
-ghost use Rattle.broker_form.specs.InRange.{IsBrokerState};
-ghost use Rattle.broker_form.specs.Writing.{connection_bytes, frozen, retained_bytes};
-ghost use Rattle.broker_form.specs.Writing.{row_bytes, wide_number};
-ghost use Rattle.broker_tables.specs.Tables.{state_in};
+ghost use Rattle.broker_base.specs.form.InRange.{IsBrokerState};
+ghost use Rattle.broker_base.specs.form.Writing.{connection_bytes, frozen, retained_bytes};
+ghost use Rattle.broker_base.specs.form.Writing.{row_bytes, wide_number};
+ghost use Rattle.broker.specs.tables.Tables.{state_in};
 ghost use Rattle.broker.specs.Inside.{AreRows, ArePayloads};
 
+use crate::one_session::ClientRow;
+use crate::tables::Tables;
 use broker_spec::ConnectionName;
-use broker_tables::{ClientRow, Tables};
-use packet::ClientId;
+use packet_base::ClientId;
 use retained::{RetainedPublication, RetainedStore};
 use session_base::{write_number, write_payload, write_text};
 use std::alloc::AllocError;

@@ -5,8 +5,10 @@
 mod broker_machine;
 mod freezing;
 mod laws;
+pub mod one_session;
 mod reading;
 mod rows;
+pub mod tables;
 mod thawing;
 
 pub use broker_machine::BrokerMachine;

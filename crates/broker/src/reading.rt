@@ -5,13 +5,13 @@ ghost use Rattle.std.specs.Prelude.{◌≡◌, true, IfOk};
 ghost use Rattle.packet_base.specs.ClientId.{is_client};
 ghost use Rattle.packet_base.specs.Outcome.{Gives, Reads};
 ghost use Rattle.session_base.specs.Counted.{check_form};
-ghost use Rattle.broker_form.specs.Form.{client_at, connection_at, head_at, name_at, retainable};
-ghost use Rattle.broker_form.specs.Form.{retained_at, row_at, size_at, wide_number_at};
+ghost use Rattle.broker_base.specs.form.Form.{client_at, connection_at, head_at, name_at, retainable};
+ghost use Rattle.broker_base.specs.form.Form.{retained_at, row_at, size_at, wide_number_at};
 
+use crate::one_session::ClientRow;
 use broker_spec::{ConnectionName, Window};
-use broker_tables::ClientRow;
-use packet::{ClientId, MAX_BODY};
-use packet_base::{OUT_OF_MEMORY, Reader, Stop};
+use packet::MAX_BODY;
+use packet_base::{ClientId, OUT_OF_MEMORY, Reader, Stop};
 use retained::RetainedPublication;
 use session::Session;
 use session_base::{
@@ -24,7 +24,7 @@ use topics::{MalformedKind, TopicName};
 
 /// Reads the number of the form, and the window: form 1 has the narrow one, and form 2 names its
 /// own. Other bytes stop the reading.
-#[tactic(auto, unfolding(broker_form::specs::Form::head_at))]
+#[tactic(auto, unfolding(broker_base::specs::form::Form::head_at))]
 pub(crate) fn read_head(reader: &mut Reader) -> Result<Window, Stop>
     ensures { Reads (λ value. value) result reader.new (head_at reader.old) }
 {
@@ -37,7 +37,7 @@ pub(crate) fn read_head(reader: &mut Reader) -> Result<Window, Stop>
 }
 
 // Reads the window, one of the two.
-#[tactic(auto, unfolding(broker_form::specs::Form::size_at))]
+#[tactic(auto, unfolding(broker_base::specs::form::Form::size_at))]
 fn read_window(reader: &mut Reader) -> Result<Window, Stop>
     ensures { Reads (λ value. value) result reader.new (size_at reader.old) }
 {
@@ -51,7 +51,7 @@ fn read_window(reader: &mut Reader) -> Result<Window, Stop>
 
 /// Reads a client with its session. A clean session has a connection, and no more of a session is
 /// in flight than the window allows; other bytes stop the reading.
-#[tactic(auto, unfolding(broker_form::specs::Form::row_at))]
+#[tactic(auto, unfolding(broker_base::specs::form::Form::row_at))]
 pub(crate) fn read_row(
     alloc: Global,
     window: Window,
@@ -73,7 +73,7 @@ pub(crate) fn read_row(
 }
 
 // Reads a Client Identifier.
-#[tactic(auto, unfolding(broker_form::specs::Form::client_at))]
+#[tactic(auto, unfolding(broker_base::specs::form::Form::client_at))]
 fn read_client(alloc: Global, reader: &mut Reader) -> Result<ClientId, Stop>
     ensures { Reads (λ value. value) result reader.new (client_at reader.old) }
 {
@@ -98,7 +98,7 @@ fn client_of(alloc: Global, text: &str) -> Result<ClientId, Stop>
 }
 
 // Reads whether there is a connection, and which.
-#[tactic(auto, unfolding(broker_form::specs::Form::connection_at))]
+#[tactic(auto, unfolding(broker_base::specs::form::Form::connection_at))]
 fn read_connection(reader: &mut Reader) -> Result<Option<ConnectionName>, Stop>
     ensures { Reads (λ value. value) result reader.new (connection_at reader.old) }
 {
@@ -110,7 +110,7 @@ fn read_connection(reader: &mut Reader) -> Result<Option<ConnectionName>, Stop>
 }
 
 // Reads the name of a connection.
-#[tactic(auto, unfolding(broker_form::specs::Form::name_at))]
+#[tactic(auto, unfolding(broker_base::specs::form::Form::name_at))]
 fn read_name(reader: &mut Reader) -> Result<Option<ConnectionName>, Stop>
     ensures { Reads (λ value. value) result reader.new (name_at reader.old) }
 {
@@ -123,7 +123,7 @@ fn read_name(reader: &mut Reader) -> Result<Option<ConnectionName>, Stop>
 }
 
 // Reads a number of eight bytes, the high one first.
-#[tactic(auto, unfolding(broker_form::specs::Form::wide_number_at))]
+#[tactic(auto, unfolding(broker_base::specs::form::Form::wide_number_at))]
 fn read_wide_number(reader: &mut Reader) -> Result<u64, Stop>
     ensures { Reads (λ value. value) result reader.new (wide_number_at reader.old) }
 {
@@ -136,7 +136,7 @@ fn read_wide_number(reader: &mut Reader) -> Result<u64, Stop>
 // ---- a retained publication
 
 /// Reads a topic with what is retained of it. Other bytes stop the reading.
-#[tactic(auto, unfolding(broker_form::specs::Form::retained_at))]
+#[tactic(auto, unfolding(broker_base::specs::form::Form::retained_at))]
 pub(crate) fn read_topic(
     alloc: Global,
     reader: &mut Reader,

@@ -7,27 +7,28 @@ ghost use Rattle.std.specs.Ordering.{nat_cmp};
 ghost use Rattle.packet_base.specs.Outcome.{Gives, Reads};
 ghost use Rattle.packet_base.specs.Reading.{number_at};
 ghost use Rattle.session_base.specs.Counted.{counted_items_at, items_after, last_of, AddsItem};
-ghost use Rattle.broker_tables.specs.subs_base.Content.{last_qos_in, no_subscriptions};
-ghost use Rattle.broker_tables.specs.subs_base.ListIndex.{content_of};
-ghost use Rattle.broker_form.specs.Form.{broker_at, retained_at};
-ghost use Rattle.broker_form.specs.Follows.{is_after, topic_follows};
-ghost use Rattle.broker_tables.specs.Tables.{IsTied, state_in};
+ghost use Rattle.subs_base.specs.Content.{last_qos_in, no_subscriptions};
+ghost use Rattle.subs_base.specs.ListIndex.{content_of};
+ghost use Rattle.broker_base.specs.form.Form.{broker_at, retained_at};
+ghost use Rattle.broker_base.specs.form.Follows.{is_after, topic_follows};
+ghost use Rattle.broker.specs.tables.Tables.{IsTied, state_in};
 ghost use Rattle.retained.specs.Retained.{IsRising};
 ghost use Rattle.broker.specs.Inside.{AreOwned, state_read, all_put};
 
+use crate::one_session::ClientRow;
 use crate::reading::{read_head, read_topic};
 use crate::rows::Rows;
-use broker_form::thawed_is_in_range;
+use crate::tables::Tables;
+use broker_base::form::thawed_is_in_range;
 use broker_spec::Window;
-use broker_tables::{ClientRow, Tables};
-use packet::{ClientId, QoS};
-use packet_base::{OUT_OF_MEMORY, Reader, Stop};
+use packet_base::{ClientId, OUT_OF_MEMORY, QoS, Reader, Stop};
 use retained::{MAX_TOPICS, RetainedPublication, RetainedStore};
 use session::Session;
 use session_base::check_form;
 use std::alloc::{AllocError, Global};
 use std::collections::BTreeMap;
-use subs::{ListIndex, SubIndex, TreeIndex};
+use subs::TreeIndex;
+use subs_base::{ListIndex, SubIndex};
 use topics::{Filter, TopicName};
 
 /// Returns the tables of the broker that these bytes are frozen from. Bytes that are not of the
@@ -50,7 +51,7 @@ pub(crate) fn thawed_tables(alloc: Global, bytes: &[u8]) -> Result<Tables, Stop>
 }
 
 // Reads the parts of the bytes, one after another.
-#[tactic(auto, unfolding(broker_form::specs::Form::broker_at))]
+#[tactic(auto, unfolding(broker_base::specs::form::Form::broker_at))]
 fn read_broker(alloc: Global, bytes: &[u8]) -> Result<(Window, Rows, RetainedStore), Stop>
     ensures exact { Gives state_read result (broker_at bytes.now) }
     ensures owned { IfOk result (λ read. AreOwned read.1) }

@@ -1,6 +1,6 @@
 -- What is sent after a client's answer, as what is kept of its session says.
 use Rattle.std.proofs.Common.{◌≡◌, ℕ, ◌<◌, suc, Bool, false, ◌==◌, Option, Some, None, List, [], ◌∷◌, ◌++◌, length, map, refl, ap, ap₂, ◌∙◌, sym, arith}
-use Rattle.session_base.specs.packet.declared.packet.Packet.{Packet}
+use Rattle.packet.specs.declared.packet.Packet.{Packet}
 use Rattle.session_base.specs.Sending.{fill_sends}
 use Rattle.broker_spec.specs.Connection.{ConnectionName}
 use Rattle.broker_spec.specs.Place.{Client, Mark, Place, Past, Limits}

@@ -1,8 +1,8 @@
 -- What the state decides of a command is what the past decides.
 use Rattle.std.proofs.Common.{◌≡◌, suc, Bool, true, false, ◌||◌, nat_lt, if◌then◌else◌, Option, Some, None, List, [], ◌∷◌, length, filter, refl, ap, ap₂, ◌∙◌}
 use Rattle.std.specs.Prelude.{option_map, is_some}
-use Rattle.session_base.specs.packet.declared.packet.Packet.{Packet}
-use Rattle.session_base.specs.packet.declared.packet.Packet.TheVariants as packets
+use Rattle.packet.specs.declared.packet.Packet.{Packet}
+use Rattle.packet.specs.declared.packet.Packet.TheVariants as packets
 use Rattle.session_base.specs.Publication.{publication_of}
 use Rattle.broker_spec.specs.Connection.{ConnectionName, same_connection}
 use Rattle.broker_spec.specs.Place.{Client, Mark, Past, Limits}

@@ -1,9 +1,9 @@
 -- A step keeps no more of a session's entries in flight than the window allows, if the window does
 -- not shrink.
 use Rattle.std.proofs.Common.{ℕ, ◌≤◌, suc, Bool, true, false, not, ◌&&◌, ◌||◌, if◌then◌else◌, Option, Some, None, List, [], ◌∷◌, length, filter, arith}
-use Rattle.session_base.specs.packet.declared.packet.Packet.TheVariants as packets
-use Rattle.broker_spec.specs.retained.Retained.{RetainedTopics}
-use Rattle.session_base.specs.lists.Lists.{IsDistinct}
+use Rattle.packet.specs.declared.packet.Packet.TheVariants as packets
+use Rattle.retained.specs.Retained.{RetainedTopics}
+use Rattle.lists.specs.Lists.{IsDistinct}
 use Rattle.session_base.specs.declared.publication.Publication.{Publication}
 use Rattle.session_base.specs.Publication.{is_answered}
 use Rattle.session_base.specs.Queue.{Flight, Queue, ids_of, awaits_puback, awaits_pubcomp, on_puback, on_pubrec, on_pubcomp, enqueue, filled}

@@ -1,6 +1,6 @@
 -- If none of the sessions opens a connection, a connection stays that of one session at most.
 use Rattle.std.proofs.Common.{◌≡◌, ℕ, Some, None, [], ◌∷◌, ◌∙◌, sym}
-use Rattle.broker_spec.specs.retained.Retained.{RetainedTopics}
+use Rattle.retained.specs.Retained.{RetainedTopics}
 use Rattle.broker_spec.specs.Connection.{ConnectionName}
 use Rattle.broker_spec.specs.Place.{Place}
 use Rattle.broker_spec.specs.Sessions.{accepts}

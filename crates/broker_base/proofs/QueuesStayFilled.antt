@@ -2,11 +2,11 @@
 -- otherwise nothing makes it less so.
 use Rattle.std.proofs.Common.{◌≡◌, ℕ, Bool, true, false, not, ◌&&◌, ◌||◌, inl, inr, if◌then◌else◌, Option, Some, None, List, [], ◌∷◌, refl, ap, ◌∙◌, sym, subst}
 use Rattle.std.proofs.lemmas.Bool.{or_parts}
-use Rattle.session_base.specs.packet.declared.packet.Packet.TheVariants as packets
-use Rattle.broker_spec.specs.retained.Retained.{RetainedTopics}
+use Rattle.packet.specs.declared.packet.Packet.TheVariants as packets
+use Rattle.retained.specs.Retained.{RetainedTopics}
 use Rattle.session_base.specs.declared.publication.Publication.{Publication}
 use Rattle.session_base.specs.Publication.{is_answered}
-use Rattle.session_base.specs.lists.Lists.{IsDistinct}
+use Rattle.lists.specs.Lists.{IsDistinct}
 use Rattle.session_base.specs.Laws.{IsFilledQueue}
 use Rattle.session_base.specs.Queue.{Queue, ids_of, on_puback, on_pubrec, on_pubcomp, enqueue, filled}
 use Rattle.session_base.specs.Copies.{copies_left}

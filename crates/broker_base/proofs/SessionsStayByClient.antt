@@ -7,7 +7,7 @@ use Rattle.std.specs.List.{AllByRecursion}
 use Rattle.std.specs.List.Sorted.{IsStrictlySortedBy}
 use Rattle.std.specs.Map.{keys_of}
 use Rattle.std.proofs.lemmas.Cmp.{nat_list_cmp_total}
-use Rattle.broker_spec.specs.retained.Retained.{RetainedTopics}
+use Rattle.retained.specs.Retained.{RetainedTopics}
 use Rattle.broker_spec.specs.Place.{Client, by_bytes, Mark, Place}
 use Rattle.broker_base.specs.ClientSession.{ClientSession}
 use Rattle.broker_base.specs.SessionStep.{session_connected}

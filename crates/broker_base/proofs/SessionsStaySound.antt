@@ -4,9 +4,9 @@ use Rattle.std.proofs.Common.{◌≡◌, ℕ, Bool, true, false, not, ◌&&◌, 
 use Rattle.std.specs.Prelude.{is_some}
 use Rattle.std.specs.Ordering.{nat_cmp}
 use Rattle.std.specs.List.Sorted.{IsStrictlySortedBy}
-use Rattle.session_base.specs.packet.declared.delivery.Delivery.{Delivery}
-use Rattle.session_base.specs.packet.declared.delivery.Delivery.TheVariants as deliveries
-use Rattle.session_base.specs.packet.declared.packet.Packet.TheVariants as packets
+use Rattle.packet.specs.declared.delivery.Delivery.{Delivery}
+use Rattle.packet.specs.declared.delivery.Delivery.TheVariants as deliveries
+use Rattle.packet.specs.declared.packet.Packet.TheVariants as packets
 use Rattle.session_base.specs.Identifiers.{without_id}
 use Rattle.session_base.specs.Subscriptions.{GrantedSubscription, with_subscription, with_subscriptions, without_filter, without_filters}
 use Rattle.session_base.specs.KeepingLaws.{AreFiltersApart}
@@ -14,10 +14,10 @@ use Rattle.session_base.proofs.FiltersApart.{filters_stay_apart}
 use Rattle.session_base.proofs.ReceivedRise.{received_rise}
 use Rattle.broker_spec.specs.Subscriptions.{as_granted, granted_of, subscriptions_after}
 use Rattle.broker_spec.specs.Received.{receives, received_by}
-use Rattle.broker_spec.specs.retained.Retained.{RetainedTopics}
+use Rattle.retained.specs.Retained.{RetainedTopics}
 use Rattle.session_base.specs.declared.publication.Publication.{Publication}
 use Rattle.session_base.specs.Publication.{is_answered}
-use Rattle.session_base.specs.lists.Lists.{IsDistinct}
+use Rattle.lists.specs.Lists.{IsDistinct}
 use Rattle.session_base.specs.OrderLaws.{IsReleasedFirst}
 use Rattle.session_base.specs.Queue.{Flight, Queue, ids_of, on_puback, on_pubrec, on_pubcomp, enqueue, fill, filled}
 use Rattle.session_base.specs.Copies.{copies_left}

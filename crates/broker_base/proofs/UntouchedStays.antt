@@ -2,15 +2,15 @@
 use Rattle.std.proofs.Common.{◌≡◌, ℕ, Bool, true, false, not, ◌&&◌, ◌||◌, if◌then◌else◌, Option, Some, None, List, [], ◌∷◌, refl, ap, ap₂, ◌∙◌}
 use Rattle.std.proofs.lemmas.Bool.{or_parts}
 use Rattle.session_base.specs.Subscriptions.{GrantedSubscription, granted_qos}
-use Rattle.session_base.specs.packet.declared.packet.Packet.TheVariants as packets
-use Rattle.broker_spec.specs.retained.Retained.{RetainedTopics}
+use Rattle.packet.specs.declared.packet.Packet.TheVariants as packets
+use Rattle.retained.specs.Retained.{RetainedTopics}
 use Rattle.session_base.specs.Queue.{Queue}
 use Rattle.broker_spec.specs.Connection.{ConnectionName}
 use Rattle.broker_spec.specs.Place.{Client, same_client, Mark, Place, Past, Limits, only_if}
 use Rattle.broker_spec.specs.Sessions.{accepts, any_connection, ends, expels, ends_any}
 use Rattle.session_base.specs.Publication.{publication_of}
-use Rattle.session_base.specs.packet.packet_base.QoS.{lower_qos}
-use Rattle.session_base.specs.packet.packet_base.declared.qos.QoS.{QoS}
+use Rattle.packet_base.specs.QoS.{lower_qos}
+use Rattle.packet_base.specs.declared.qos.QoS.{QoS}
 use Rattle.std.specs.Prelude.{option_map, is_some}
 use Rattle.broker_spec.specs.Subscriptions.{subscriptions_after}
 use Rattle.broker_spec.specs.Received.{received_by}

@@ -2,15 +2,15 @@
 use Rattle.std.specs.Prelude.{Bool, false, not, ◌&&◌, ◌||◌, ◌==◌, nat_lt, nat_le, if◌then◌else◌}
 use Rattle.std.specs.Prelude.{length, Option, Some, None, is_some, is_none, option_map}
 use Rattle.std.specs.List.{list_any}
-use Rattle.session_base.specs.packet.declared.delivery.Delivery.{Delivery}
-use Rattle.session_base.specs.packet.declared.delivery.Delivery.TheVariants as deliveries
-use Rattle.session_base.specs.packet.declared.packet.Packet.{Packet}
-use Rattle.session_base.specs.packet.declared.packet.Packet.TheVariants as packets
-use Rattle.broker_spec.specs.retained.Retained.{RetainedTopics, is_empty, publication_on}
+use Rattle.packet.specs.declared.delivery.Delivery.{Delivery}
+use Rattle.packet.specs.declared.delivery.Delivery.TheVariants as deliveries
+use Rattle.packet.specs.declared.packet.Packet.{Packet}
+use Rattle.packet.specs.declared.packet.Packet.TheVariants as packets
+use Rattle.retained.specs.Retained.{RetainedTopics, is_empty, publication_on}
 use Rattle.session_base.specs.declared.publication.Publication.{Publication}
 use Rattle.session_base.specs.Publication.{publication_of}
-use Rattle.session_base.specs.packet.packet_base.QoS.{lower_qos}
-use Rattle.session_base.specs.lists.Lists.{has_id}
+use Rattle.packet_base.specs.QoS.{lower_qos}
+use Rattle.lists.specs.Lists.{has_id}
 use Rattle.session_base.specs.Queue.{room}
 use Rattle.broker_spec.specs.Place.{Client, Mark, Place, Limits}
 use Rattle.session_base.specs.Subscriptions.{granted_qos}

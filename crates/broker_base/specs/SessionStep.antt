@@ -1,10 +1,10 @@
 -- How one command changes a client's session (MQTT 3.1.2.4, 3.1.4, 3.3.5, 3.8.4, 4.3, 4.4, 4.6).
 use Rattle.std.specs.Prelude.{ℕ, Bool, not, ◌&&◌, ◌||◌, if◌then◌else◌, List, [], Option, Some, None, option_map}
-use Rattle.session_base.specs.packet.declared.packet.Packet.TheVariants as packets
-use Rattle.broker_spec.specs.retained.Retained.{RetainedTopics}
+use Rattle.packet.specs.declared.packet.Packet.TheVariants as packets
+use Rattle.retained.specs.Retained.{RetainedTopics}
 use Rattle.session_base.specs.declared.publication.Publication.{Publication}
 use Rattle.session_base.specs.Publication.{publication_of}
-use Rattle.session_base.specs.packet.packet_base.QoS.{lower_qos}
+use Rattle.packet_base.specs.QoS.{lower_qos}
 use Rattle.session_base.specs.Subscriptions.{GrantedSubscription, granted_qos}
 use Rattle.session_base.specs.Session.{empty_session}
 use Rattle.session_base.specs.Queue.{Flight, Queue, on_puback, on_pubrec, on_pubcomp, fill, filled}

@@ -2,7 +2,7 @@
 use Rattle.std.specs.Prelude.{ℕ, if◌then◌else◌, List, [], ◌∷◌, Option, Some, None}
 use Rattle.std.specs.BTreeMap.{insert_entry, is_at}
 use Rattle.std.specs.Map.{lookup}
-use Rattle.broker_spec.specs.retained.Retained.{RetainedTopics}
+use Rattle.retained.specs.Retained.{RetainedTopics}
 use Rattle.broker_spec.specs.Connection.{ConnectionName, same_connection}
 use Rattle.broker_spec.specs.Place.{Client, by_bytes, Past, Limits}
 use Rattle.broker_spec.specs.Sessions.{any_connection}

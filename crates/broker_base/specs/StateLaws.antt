@@ -7,7 +7,7 @@ use Rattle.std.specs.List.Sorted.{IsStrictlySortedBy}
 use Rattle.std.specs.Map.{keys_of}
 use Rattle.std.specs.Ordering.{nat_cmp}
 use Rattle.session_base.specs.Queue.{ids_of}
-use Rattle.session_base.specs.lists.Lists.{IsDistinct}
+use Rattle.lists.specs.Lists.{IsDistinct}
 use Rattle.session_base.specs.Laws.{IsFilledQueue}
 use Rattle.session_base.specs.OrderLaws.{IsReleasedFirst}
 use Rattle.session_base.specs.KeepingLaws.{AreFiltersApart}

@@ -2,8 +2,8 @@
 -- 4.3, 4.4).
 use Rattle.std.specs.Prelude.{◌≡◌, ℕ, Bool, false, ◌||◌, if◌then◌else◌, List, [], ◌∷◌, Option}
 use Rattle.std.specs.Prelude.{Some, is_some}
-use Rattle.session_base.specs.packet.declared.packet.Packet.TheVariants as packets
-use Rattle.broker_spec.specs.retained.Retained.{RetainedTopics}
+use Rattle.packet.specs.declared.packet.Packet.TheVariants as packets
+use Rattle.retained.specs.Retained.{RetainedTopics}
 use Rattle.broker_spec.specs.Place.{Client, same_client, Mark, Place, Past, Limits}
 use Rattle.broker_spec.specs.Sessions.{ends_any}
 use Rattle.session_base.specs.Subscriptions.{GrantedSubscription, granted_qos}

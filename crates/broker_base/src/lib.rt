@@ -2,6 +2,8 @@
 //! state and its answers are those of the list.
 #![tactic(auto)]
 
+pub mod form;
+pub mod rows;
 mod step_laws;
 
 pub use step_laws::{

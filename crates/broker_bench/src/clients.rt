@@ -4,10 +4,8 @@ use anyhow::{Result, anyhow};
 use broker::BrokerMachine;
 use broker_spec::{Command, ConnectionName, Output, SizedPacket};
 use machine::Machine;
-use packet::{
-    ClientId, Delivery, Packet, PacketId, PacketList, Payload, Publish, QoS, Subscribe,
-    Subscription,
-};
+use packet::{Delivery, Packet, Publish, Subscribe, Subscription};
+use packet_base::{ClientId, PacketId, PacketList, Payload, QoS};
 use std::alloc::Global;
 use std::collections::VecDeque;
 use topics::{Filter, TopicName};

@@ -2,7 +2,8 @@
 
 use crate::clients::Clients;
 use anyhow::Result;
-use packet::{QoS, Subscription};
+use packet::Subscription;
+use packet_base::QoS;
 use std::alloc::Global;
 use topics::Filter;
 

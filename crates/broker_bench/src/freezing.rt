@@ -6,7 +6,7 @@ use anyhow::Result;
 use bench_base::nanos_each;
 use broker::BrokerMachine;
 use machine::Machine;
-use packet::QoS;
+use packet_base::QoS;
 use std::alloc::Global;
 use std::time::CpuClock;
 use topics::TopicName;

@@ -3,12 +3,13 @@
 
 use crate::traffic::{Part, Traffic, connect, packets_of, subscribe};
 use anyhow::{Result, anyhow, ensure};
-use ballot::{Config, Members};
+use ballot_base::{Config, Members};
 use bench_base::nanos_each;
-use node_core::{Item, NodeCore, Piece, Port};
-use packet::QoS;
+use packet_base::QoS;
 use std::alloc::Global;
 use std::time::CpuClock;
+use world_base::node_connections::{Piece, Port};
+use world_base::node_core::{Item, NodeCore};
 
 /// How many publications a figure rests on.
 const PUBLICATIONS: u32 = 61_440;

@@ -4,7 +4,7 @@ use crate::clients::Clients;
 use crate::crowd::{self, Filters};
 use anyhow::Result;
 use bench_base::nanos_each;
-use packet::QoS;
+use packet_base::QoS;
 use std::alloc::Global;
 use std::time::CpuClock;
 use topics::TopicName;

@@ -1,7 +1,7 @@
 // The bytes of clients that publish to each other.
 
 use anyhow::Result;
-use packet::QoS;
+use packet_base::QoS;
 use std::alloc::Global;
 
 /// How many bytes a publication carries.

@@ -12,7 +12,7 @@ use Rattle.broker_spec.specs.Sessions.{current_connection, begins}
 use Rattle.broker_spec.specs.Owner.{clients}
 use Rattle.session_base.specs.declared.publication.Publication.{Publication}
 use Rattle.session_base.specs.Publication.{is_answered}
-use Rattle.retained.specs.lists.Lists.{has_id}
+use Rattle.lists.specs.Lists.{has_id}
 use Rattle.broker_spec.specs.Entries.{Entry, copies_at}
 use Rattle.broker_spec.specs.Readings.{made_at, released_below}
 use Rattle.broker_spec.specs.Times.{entries_of}

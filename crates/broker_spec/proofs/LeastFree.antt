@@ -1,6 +1,6 @@
 -- The smallest number from 1 up that is not busy: it is not busy, each smaller one is, and it is at most one more than how many are.
 use Rattle.std.proofs.Common.{◌≡◌, ℕ, zero, suc, ◌≤◌, ◌<◌, ◌+◌, Bool, true, false, ◌||◌, ◌==◌, nat_le, if◌then◌else◌, List, [], ◌∷◌, length, refl, sym, ◌∙◌, ap, arith}
-use Rattle.retained.specs.lists.Lists.{has_id}
+use Rattle.lists.specs.Lists.{has_id}
 use Rattle.session_base.specs.Identifiers.{free_from, least_free}
 
 abbrev pub one_if : Bool → ℕ

@@ -27,4 +27,3 @@ pub mod NothingAfterTheEnd
 pub mod EntersWhereTaken
 pub mod CopiesAreUnasked
 pub mod EntersAsPublished
-pub use Rattle.retained.proofs as of_retained

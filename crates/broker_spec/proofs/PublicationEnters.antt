@@ -1,12 +1,12 @@
 -- At the place where it is taken, a publication enters exactly the sessions with an effective QoS of 1 or 2, once.
 use Rattle.std.proofs.Common.{◌≡◌, ℕ, Bool, true, false, ◌&&◌, ◌==◌, if◌then◌else◌, [], ◌∷◌, ◌++◌, length, map, Option, Some, None, refl, sym, ◌∙◌, ap, arith}
 use Rattle.std.specs.Prelude.{option_map}
-use Rattle.retained.specs.packet_base.declared.qos.QoS.{QoS}
-use Rattle.retained.specs.packet_base.declared.qos.QoS.TheVariants as qualities
+use Rattle.packet_base.specs.declared.qos.QoS.{QoS}
+use Rattle.packet_base.specs.declared.qos.QoS.TheVariants as qualities
 use Rattle.packet.specs.declared.publish.Publish.{Publish}
 use Rattle.session_base.specs.declared.publication.Publication.{Publication}
 use Rattle.session_base.specs.Publication.{publication_of}
-use Rattle.retained.specs.packet_base.QoS.{lower_qos}
+use Rattle.packet_base.specs.QoS.{lower_qos}
 use Rattle.session_base.specs.Subscriptions.{granted_qos}
 use Rattle.broker_spec.specs.Connection.{ConnectionName, same_connection}
 use Rattle.broker_spec.specs.Place.{Client, Past, Limits}

@@ -5,7 +5,7 @@ use Rattle.packet.specs.declared.delivery.Delivery.TheVariants as deliveries
 use Rattle.packet.specs.declared.packet.Packet.TheVariants as packets
 use Rattle.broker_spec.specs.Place.{Client, same_client, Mark}
 use Rattle.broker_spec.specs.Sessions.{clean_session_of, begins, in_session}
-use Rattle.retained.specs.lists.Lists.{has_id}
+use Rattle.lists.specs.Lists.{has_id}
 use Rattle.session_base.specs.Identifiers.{without_id}
 use Rattle.session_base.proofs.KeptIdentifiers.{has_with, has_without}
 use Rattle.broker_spec.specs.Received.{receives, received_by, received_of}

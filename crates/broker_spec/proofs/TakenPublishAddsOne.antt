@@ -1,8 +1,8 @@
 -- How many entries a place gives a session.
 use Rattle.std.proofs.Common.{◌≡◌, ℕ, suc, ◌+◌, Bool, true, false, nat_lt, if◌then◌else◌, List, [], ◌∷◌, length, map, Option, Some, None, refl, ◌∙◌, ap, length-append}
 use Rattle.std.specs.Prelude.{is_some}
-use Rattle.retained.specs.packet_base.declared.qos.QoS.{QoS}
-use Rattle.retained.specs.packet_base.declared.qos.QoS.TheVariants as qualities
+use Rattle.packet_base.specs.declared.qos.QoS.{QoS}
+use Rattle.packet_base.specs.declared.qos.QoS.TheVariants as qualities
 use Rattle.broker_spec.specs.Connection.{ConnectionName}
 use Rattle.broker_spec.specs.Sessions.{current_connection, clean_session_of, in_session}
 use Rattle.session_base.specs.declared.publication.Publication.{Publication}

@@ -3,7 +3,7 @@
 use Rattle.std.specs.Prelude.{◌≡◌, ◌≤◌, ◌+◌, ℕ, Bool, false, if◌then◌else◌, List, [], ◌∷◌}
 use Rattle.std.specs.Prelude.{◌++◌, Some}
 use Rattle.packet.specs.declared.packet.Packet.{Packet}
-use Rattle.retained.specs.lists.Lists.{In}
+use Rattle.lists.specs.Lists.{In}
 use Rattle.broker_spec.specs.Connection.{ConnectionName, same_connection}
 use Rattle.broker_spec.specs.Place.{Client, Place, Past, Limits}
 use Rattle.broker_spec.specs.Sessions.{accepts, session_start}

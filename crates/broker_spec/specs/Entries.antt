@@ -2,7 +2,7 @@
 -- state of each entry (MQTT 4.3).
 use Rattle.std.specs.Prelude.{ℕ, Bool, true, false, if◌then◌else◌, List, [], ◌∷◌, ◌++◌, map, filter}
 use Rattle.std.specs.Prelude.{Option, Some, None}
-use Rattle.retained.specs.packet_base.declared.qos.QoS.{QoS}
+use Rattle.packet_base.specs.declared.qos.QoS.{QoS}
 use Rattle.packet.specs.declared.subscribe.Subscription.{Subscription}
 use Rattle.packet.specs.declared.packet.Packet.TheVariants as packets
 use Rattle.retained.specs.declared.retained_publication.RetainedPublication.{RetainedPublication}
@@ -10,7 +10,7 @@ use Rattle.retained.specs.Retained.{RetainedTopics, matching_entries}
 use Rattle.broker_spec.specs.Place.{Client, same_client, Mark, Place, Past}
 use Rattle.session_base.specs.declared.publication.Publication.{Publication}
 use Rattle.session_base.specs.Publication.{publication_of, is_answered}
-use Rattle.retained.specs.packet_base.QoS.{lower_qos}
+use Rattle.packet_base.specs.QoS.{lower_qos}
 use Rattle.broker_spec.specs.Subscriptions.{granted_of, effective_qos}
 use Rattle.broker_spec.specs.Retained.{retained_publications}
 use Rattle.broker_spec.specs.declared.command.Command.{Command}

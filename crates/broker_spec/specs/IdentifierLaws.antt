@@ -7,7 +7,7 @@ use Rattle.broker_spec.specs.Readings.{busy_ids}
 use Rattle.broker_spec.specs.Times.{entries_of, window_at}
 use Rattle.broker_spec.specs.Commands.{usual_limits}
 use Rattle.broker_spec.specs.Window.{wide_window}
-use Rattle.retained.specs.lists.Lists.{IsDistinct}
+use Rattle.lists.specs.Lists.{IsDistinct}
 
 -- no two entries of a session that are in flight have the same identifier (MQTT 2.3.1)
 abbrev pub IdentifiersAreDistinct : Type 0

@@ -38,7 +38,3 @@ pub mod Subscriptions
 pub mod TakenLaws
 pub mod Times
 pub mod Window
-pub use Rattle.retained.specs.lists as lists
-pub use Rattle.machine.specs as machine
-pub use Rattle.retained.specs as retained
-pub use Rattle.session_base.specs as session_base

@@ -1,9 +1,9 @@
 -- Worked examples: the limits of a broker, what is answered when one is reached, and a Connect on a
 -- connection that serves a client (MQTT 3.1.4, 3.2.2.3, 3.9.3, 4.8).
 use Rattle.std.specs.Prelude.{◌≡◌, ℕ, true, false, List, [], ◌∷◌, codes}
-use Rattle.packet.specs.packet_base.declared.refusal_code.RefusalCode.TheVariants as refusals
+use Rattle.packet_base.specs.declared.refusal_code.RefusalCode.TheVariants as refusals
 use Rattle.packet.specs.declared.connack.Connack.TheVariants as connacks
-use Rattle.retained.specs.packet_base.declared.qos.QoS.TheVariants as qualities
+use Rattle.packet_base.specs.declared.qos.QoS.TheVariants as qualities
 use Rattle.packet.specs.declared.delivery.Delivery.TheVariants as deliveries
 use Rattle.packet.specs.declared.suback.SubackCode.TheVariants as return_codes
 use Rattle.packet.specs.declared.packet.Packet.TheVariants as packets

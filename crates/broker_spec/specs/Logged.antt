@@ -1,6 +1,6 @@
 -- Commands that a log may hold: names, texts and packets in their ranges.
 use Rattle.std.specs.Prelude.{◌≡◌, true}
-use Rattle.packet.specs.packet_base.ClientId.{is_client}
+use Rattle.packet_base.specs.ClientId.{is_client}
 use Rattle.packet.specs.Spelling.{Fits}
 use Rattle.broker_spec.specs.Connection.{IsConnectionName}
 use Rattle.broker_spec.specs.Sized.{IsSized}

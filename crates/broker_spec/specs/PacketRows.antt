@@ -1,6 +1,6 @@
 -- Worked examples of PINGREQ and UNSUBSCRIBE, and of packets that close their connection.
 use Rattle.std.specs.Prelude.{false, [], ◌∷◌}
-use Rattle.retained.specs.packet_base.declared.qos.QoS.TheVariants as qualities
+use Rattle.packet_base.specs.declared.qos.QoS.TheVariants as qualities
 use Rattle.packet.specs.declared.packet.Packet.{Packet}
 use Rattle.packet.specs.declared.packet.Packet.TheVariants as packets
 use Rattle.broker_spec.specs.Commands.{usual_limits}

@@ -4,7 +4,7 @@ use Rattle.std.specs.Prelude.{ℕ, Bool, true, false, if◌then◌else◌, List,
 use Rattle.packet.specs.declared.delivery.Delivery.{Delivery}
 use Rattle.packet.specs.declared.delivery.Delivery.TheVariants as deliveries
 use Rattle.packet.specs.declared.packet.Packet.TheVariants as packets
-use Rattle.retained.specs.lists.Lists.{has_id}
+use Rattle.lists.specs.Lists.{has_id}
 use Rattle.session_base.specs.Identifiers.{with_id, without_id}
 use Rattle.broker_spec.specs.Place.{Client, same_client, Mark, Past}
 use Rattle.broker_spec.specs.Sessions.{clean_session_of, begins, in_session}

@@ -1,6 +1,6 @@
 -- Worked example: the room that is left for retained copies to the later filters of a SUBSCRIBE.
 use Rattle.std.specs.Prelude.{true, false, [], ◌∷◌, ◌++◌, codes}
-use Rattle.retained.specs.packet_base.declared.qos.QoS.TheVariants as qualities
+use Rattle.packet_base.specs.declared.qos.QoS.TheVariants as qualities
 use Rattle.packet.specs.declared.delivery.Delivery.TheVariants as deliveries
 use Rattle.packet.specs.declared.suback.SubackCode.TheVariants as return_codes
 use Rattle.packet.specs.declared.packet.Packet.TheVariants as packets

@@ -2,13 +2,13 @@
 -- 3.10.4).
 use Rattle.std.specs.Prelude.{ℕ, Bool, if◌then◌else◌, List, [], ◌∷◌, map, bytes_eq}
 use Rattle.std.specs.Prelude.{Option, Some, None, option_map}
-use Rattle.retained.specs.packet_base.declared.qos.QoS.{QoS}
+use Rattle.packet_base.specs.declared.qos.QoS.{QoS}
 use Rattle.packet.specs.declared.subscribe.Subscription.{Subscription}
 use Rattle.packet.specs.declared.packet.Packet.TheVariants as packets
 use Rattle.broker_spec.specs.Place.{Client, same_client, Mark, Past}
 use Rattle.broker_spec.specs.Sessions.{clean_session_of, begins, in_session}
 use Rattle.session_base.specs.declared.publication.Publication.{Publication}
-use Rattle.retained.specs.packet_base.QoS.{lower_qos}
+use Rattle.packet_base.specs.QoS.{lower_qos}
 use Rattle.session_base.specs.Subscriptions.{GrantedSubscription, with_subscriptions}
 use Rattle.session_base.specs.Subscriptions.{without_filters, granted_qos}
 use Rattle.broker_spec.specs.declared.command.Command.{Command}

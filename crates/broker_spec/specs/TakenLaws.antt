@@ -1,8 +1,8 @@
 -- What readers may want to know about the places that take a publication (MQTT 3.3.5, 4.3.3).
 use Rattle.std.specs.Prelude.{◌≡◌, Bool, true, false, List, [], ◌∷◌, length, filter, map}
 use Rattle.std.specs.Prelude.{Option, Some}
-use Rattle.retained.specs.packet_base.declared.qos.QoS.{QoS}
-use Rattle.retained.specs.packet_base.declared.qos.QoS.TheVariants as qualities
+use Rattle.packet_base.specs.declared.qos.QoS.{QoS}
+use Rattle.packet_base.specs.declared.qos.QoS.TheVariants as qualities
 use Rattle.packet.specs.declared.publish.Publish.{Publish}
 use Rattle.session_base.specs.declared.publication.Publication.{Publication}
 use Rattle.session_base.specs.Publication.{publication_of}

@@ -1,6 +1,6 @@
 -- Words of worked examples on several topics and filters.
 use Rattle.std.specs.Prelude.{ℕ, Bool, true, false, List, map, codes}
-use Rattle.retained.specs.packet_base.declared.qos.QoS.{QoS}
+use Rattle.packet_base.specs.declared.qos.QoS.{QoS}
 use Rattle.packet.specs.declared.delivery.Delivery.{Delivery}
 use Rattle.packet.specs.declared.subscribe.Subscription.{Subscription}
 use Rattle.packet.specs.declared.packet.Packet.{Packet}

@@ -5,7 +5,8 @@ ghost use Rattle.broker_spec.specs.Logged.{IsBrokerCommand};
 
 use crate::connection_name::ConnectionName;
 use crate::sized_packet::SizedPacket;
-use packet::{ClientId, Packet};
+use packet::Packet;
+use packet_base::ClientId;
 use std::alloc::AllocError;
 
 /// A command of the broker's log.

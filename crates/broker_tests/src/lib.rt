@@ -3,6 +3,7 @@
 #![tactic(auto)]
 
 #[cfg(test)]
+pub mod forms;
 mod row;
 #[cfg(test)]
 mod story;

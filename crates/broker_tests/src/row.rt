@@ -3,7 +3,8 @@
 use broker::BrokerMachine;
 use broker_spec::{Command, ConnectionName, Output, SizedPacket};
 use machine::Machine;
-use packet::{ClientId, Packet, Step, decode, encode};
+use packet::{Packet, Step, decode, encode};
+use packet_base::ClientId;
 use std::alloc::Global;
 
 /// What comes to a broker. Connections are those of ballot 1, by their number.

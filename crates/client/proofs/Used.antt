@@ -1,8 +1,8 @@
 -- Used.antt: an identifier is used if a publication or a request has it.
 use Rattle.std.proofs.Common.{◌≡◌, ℕ, ◌||◌, ◌==◌, List, [], ◌∷◌, ◌++◌, map, refl, ap, ◌∙◌}
 use Rattle.std.specs.List.{list_any}
-use Rattle.client_base.specs.lists.Lists.{has_id}
-use Rattle.client_base.proofs.of_lists.Identifiers.{has_append}
+use Rattle.lists.specs.Lists.{has_id}
+use Rattle.lists.proofs.Identifiers.{has_append}
 use Rattle.client_base.specs.State.{ClientState, id_of_request, ids_of_kept, used_ids}
 
 -- a test of what is mapped

@@ -1,6 +1,6 @@
 -- What a `ClientCore` shows: what it keeps, has not yet read, and wrote; and what its calls do.
 use Rattle.std.specs.Prelude.{◌≡◌, ℕ, Bool, false, List, [], ◌∷◌, Some, None, Result, Ok, Err}
-use Rattle.cutter.specs.packet.packet_base.declared.qos.QoS.{QoS}
+use Rattle.packet_base.specs.declared.qos.QoS.{QoS}
 use Rattle.packet.specs.declared.packet.Packet.{Packet}
 use Rattle.packet.specs.Spelling.{AppendsSpelling}
 use Rattle.cutter.specs.Stream.{Stream}

@@ -10,7 +10,8 @@ ghost use Rattle.client.specs.Inside.Ids.{RequestId};
 use crate::client_core::ClientCore;
 use crate::writing::write;
 use client_base::{ClientError, Request, Stage};
-use packet::{Packet, PacketId, PacketList, QoS, Subscribe, Subscription, Unsubscribe};
+use packet::{Packet, Subscribe, Subscription, Unsubscribe};
+use packet_base::{PacketId, PacketList, QoS};
 use std::alloc::Global;
 use topics::Filter;
 

@@ -5,7 +5,7 @@ ghost use Rattle.client.specs.Core.{new_core, gone};
 
 use client_base::{Accepted, Request, Stage, UnacknowledgedPublication};
 use cutter::Cutter;
-use packet::{ClientId, PacketId};
+use packet_base::{ClientId, PacketId};
 use std::alloc::Global;
 use std::marker::Model;
 

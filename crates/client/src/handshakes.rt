@@ -1,7 +1,7 @@
 // What a packet of a handshake does to a client (MQTT 4.3).
 
 ghost use Rattle.std.specs.Prelude.{◌≡◌, false};
-ghost use Rattle.client_base.specs.lists.Lists.{has_id};
+ghost use Rattle.lists.specs.Lists.{has_id};
 ghost use Rattle.packet.specs.declared.delivery.Delivery.TheVariants as deliveries;
 ghost use Rattle.client_base.specs.Answered.{on_publish, on_puback, on_pubrec, on_pubcomp};
 ghost use Rattle.client_base.specs.Answered.{on_pubrel, answered, accepted_of};
@@ -15,7 +15,8 @@ use crate::identifiers::{
 };
 use crate::writing::{write_puback, write_pubcomp, write_pubrec, write_pubrel};
 use client_base::{Accepted, ClientError};
-use packet::{Delivery, PacketId, Publish};
+use packet::{Delivery, Publish};
+use packet_base::PacketId;
 
 impl ClientCore {
     /// Handles PUBLISH: it is accepted each time at QoS 0 and 1, and at QoS 2 once while its

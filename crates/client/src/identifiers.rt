@@ -2,7 +2,7 @@
 
 ghost use Rattle.std.specs.Prelude.{◌≡◌, ◌==◌, filter, not, IfSome, IsSome, IsTrue, ◌↔◌};
 ghost use Rattle.std.specs.List.{list_any};
-ghost use Rattle.client_base.specs.lists.Lists.{has_id};
+ghost use Rattle.lists.specs.Lists.{has_id};
 ghost use Rattle.client_base.specs.State.{id_of_request, used_ids};
 ghost use Rattle.client_base.specs.Answered.{awaits_puback, awaits_pubrec};
 ghost use Rattle.client_base.specs.Answered.{is_subscribe, is_unsubscribe};
@@ -11,7 +11,7 @@ ghost use Rattle.client_base.specs.Publishing.{next_id, has_free_id};
 
 use crate::client_core::ClientCore;
 use client_base::{Request, UnacknowledgedPublication};
-use packet::{PacketId, QoS};
+use packet_base::{PacketId, QoS};
 use session_base::least_identifier_is_free;
 
 impl ClientCore {

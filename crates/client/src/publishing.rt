@@ -3,7 +3,7 @@
 ghost use Rattle.std.specs.Prelude.{◌≡◌, false, true, IfOk};
 ghost use Rattle.packet.specs.declared.delivery.Delivery.TheVariants as deliveries;
 ghost use Rattle.packet.specs.declared.packet.Packet.TheVariants as packets;
-ghost use Rattle.cutter.specs.packet.packet_base.declared.qos.QoS.TheVariants as qualities;
+ghost use Rattle.packet_base.specs.declared.qos.QoS.TheVariants as qualities;
 ghost use Rattle.session_base.specs.Publication.{is_answered};
 ghost use Rattle.client_base.specs.State.{publish_kept};
 ghost use Rattle.client_base.specs.Publishing.{is_over_limit};
@@ -15,7 +15,8 @@ ghost use Rattle.client.specs.Inside.Handling.{kept_publication, sent_publicatio
 use crate::client_core::ClientCore;
 use crate::writing::{publish_again, write, write_publish};
 use client_base::{ClientError, MAX_KEPT, Stage, UnacknowledgedPublication};
-use packet::{Delivery, Packet, PacketId, Payload, Publish, QoS};
+use packet::{Delivery, Packet, Publish};
+use packet_base::{PacketId, Payload, QoS};
 use session_base::Publication;
 use std::alloc::AllocError;
 use topics::TopicName;

@@ -6,7 +6,7 @@ ghost use Rattle.client.specs.Core.{without_accepted};
 
 use crate::client_core::ClientCore;
 use client_base::{Accepted, ClientError, Stage};
-use packet::ClientId;
+use packet_base::ClientId;
 use std::mem;
 
 impl ClientCore {

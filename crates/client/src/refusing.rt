@@ -8,7 +8,8 @@ ghost use Rattle.client_base.specs.Publishing.{is_over_limit, publish_refusal};
 ghost use Rattle.client_base.specs.Steps.{request_refusal};
 
 use crate::client_core::ClientCore;
-use packet::{MAX_BODY, QoS};
+use packet::MAX_BODY;
+use packet_base::QoS;
 use session_base::{Publication, body_length};
 
 impl ClientCore {

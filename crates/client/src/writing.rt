@@ -7,7 +7,8 @@ ghost use Rattle.client_base.specs.State.{publish_kept};
 ghost use Rattle.client.specs.Core.{AppendsAll};
 
 use client_base::{ClientError, UnacknowledgedPublication};
-use packet::{ClientId, Connect, Packet, PacketId, Publish, encode};
+use packet::{Connect, Packet, Publish, encode};
+use packet_base::{ClientId, PacketId};
 use session_base::delivery;
 use std::alloc::AllocError;
 

@@ -1,7 +1,7 @@
 -- FollowsCalls.antt: publishing makes the same for a client and of the one with its history.
 use Rattle.std.proofs.Common.{◌≡◌, ℕ, Bool, true, false, if◌then◌else◌, List, [], ◌∷◌, ◌++◌, None, refl, ap, ap₂, sym, ◌∙◌, append-nil}
 use Rattle.std.proofs.lemmas.Bool.{both_ways}
-use Rattle.session_base.specs.lists.Lists.{has_id}
+use Rattle.lists.specs.Lists.{has_id}
 use Rattle.packet.specs.declared.packet.Packet.TheVariants as packets
 use Rattle.session_base.specs.declared.publication.Publication.{Publication}
 use Rattle.session_base.specs.Publication.{publish_for}

@@ -2,8 +2,8 @@
 -- the one with its history.
 use Rattle.std.proofs.Common.{◌≡◌, ℕ, Bool, true, false, not, ◌&&◌, ◌||◌, ◌==◌, if◌then◌else◌, List, [], ◌∷◌, ◌++◌, map, filter, None, refl, ap, sym, ◌∙◌, append-nil}
 use Rattle.std.proofs.lemmas.Bool.{both_ways}
-use Rattle.session_base.specs.lists.Lists.{has_id}
-use Rattle.session_base.proofs.of_lists.Identifiers.{has_append}
+use Rattle.lists.specs.Lists.{has_id}
+use Rattle.lists.proofs.Identifiers.{has_append}
 use Rattle.packet.specs.declared.packet.Packet.{Packet}
 use Rattle.packet.specs.declared.packet.Packet.TheVariants as packets
 use Rattle.packet.specs.declared.delivery.Delivery.{Delivery}

@@ -1,8 +1,8 @@
 -- FreeIds.antt: the least free identifier is that of the identifiers in use, however they are listed.
 use Rattle.std.proofs.Common.{◌≡◌, ℕ, ◌≤◌, ◌<◌, Bool, true, false, ◌||◌, ◌==◌, ◌⊎◌, inl, inr, List, [], ◌∷◌, ◌++◌, map, refl, ap, ap₂, sym, ◌∙◌, arith}
 use Rattle.std.proofs.lemmas.Bool.{both_ways, cases_lt}
-use Rattle.session_base.specs.lists.Lists.{has_id}
-use Rattle.session_base.proofs.of_lists.Identifiers.{has_append}
+use Rattle.lists.specs.Lists.{has_id}
+use Rattle.lists.proofs.Identifiers.{has_append}
 use Rattle.session_base.specs.Identifiers.{least_free}
 use Rattle.session_base.specs.Laws.{IsLeastFree}
 use Rattle.client_base.specs.State.{ClientState, ids_of_kept, id_of_request, used_ids}

@@ -1,7 +1,7 @@
 -- IdentifiersOfRuns.antt: in no run of calls is an identifier in flight twice, and none is a
 -- publication's and a request's.
 use Rattle.std.proofs.Common.{◌≡◌, ℕ, ◌+◌, Bool, true, false, if◌then◌else◌, List, [], ◌∷◌, ◌++◌, filter, refl, arith}
-use Rattle.session_base.proofs.of_lists.Identifiers.{distinct_apart}
+use Rattle.lists.proofs.Identifiers.{distinct_apart}
 use Rattle.packet.specs.declared.connack.Connack.TheVariants as connacks
 use Rattle.packet.specs.declared.packet.Packet.{Packet}
 use Rattle.packet.specs.declared.packet.Packet.TheVariants as packets

@@ -14,5 +14,3 @@ pub mod NumbersStay
 pub mod IdentifiersApart
 pub mod IdentifiersStay
 pub mod IdentifiersOfRuns
-pub use Rattle.session_base.proofs.of_lists as of_lists
-pub use Rattle.session_base.proofs as of_session_base

@@ -1,6 +1,6 @@
 -- Released.antt: identifiers of released publications, as the order of their PUBREC has them and as all that was published has them.
 use Rattle.std.proofs.Common.{◌≡◌, ℕ, Bool, true, false, not, ◌&&◌, ◌||◌, ◌==◌, if◌then◌else◌, List, [], ◌∷◌, map, refl, ap, ap₂, sym, ◌∙◌, arith}
-use Rattle.session_base.specs.lists.Lists.{has_id}
+use Rattle.lists.specs.Lists.{has_id}
 use Rattle.session_base.specs.Publication.{is_qos1}
 use Rattle.session_base.specs.Identifiers.{without_id}
 use Rattle.client_base.specs.Keeper.{Own}

@@ -1,7 +1,7 @@
 -- When the client that keeps no history corresponds to the one with it.
 use Rattle.std.specs.Prelude.{◌≡◌, ℕ, true, nat_lt, List, [], ◌∷◌, ◌++◌, map}
 use Rattle.packet.specs.declared.packet.Packet.{Packet}
-use Rattle.session_base.specs.lists.Lists.{has_id}
+use Rattle.lists.specs.Lists.{has_id}
 use Rattle.client_base.specs.declared.unacknowledged_publication.UnacknowledgedPublication.{UnacknowledgedPublication}
 use Rattle.client_base.specs.State.{ClientState, is_open, is_online}
 use Rattle.client_base.specs.Keeper.{Own, Written, ClientConnection, Keeper}

@@ -1,6 +1,6 @@
 -- The identifiers that a client uses (MQTT 2.3.1).
 use Rattle.std.specs.Prelude.{◌≡◌, ℕ, true, false, List}
-use Rattle.session_base.specs.lists.Lists.{has_id, IsDistinct}
+use Rattle.lists.specs.Lists.{has_id, IsDistinct}
 use Rattle.client_base.specs.State.{new_client_state, publication_ids, request_ids, used_ids}
 use Rattle.client_base.specs.Steps.{Call, state_after}
 

@@ -4,7 +4,7 @@ use Rattle.packet.specs.declared.connack.Connack.TheVariants as connacks
 use Rattle.packet.specs.declared.delivery.Delivery.TheVariants as deliveries
 use Rattle.packet.specs.declared.publish.Publish.{Publish}
 use Rattle.packet.specs.declared.packet.Packet.TheVariants as packets
-use Rattle.session_base.specs.lists.Lists.{has_id}
+use Rattle.lists.specs.Lists.{has_id}
 use Rattle.client_base.specs.State.{ClientState}
 use Rattle.client_base.specs.Answered.{on_publish, accepting}
 use Rattle.client_base.specs.Steps.{Call, keeper_step}

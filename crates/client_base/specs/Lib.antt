@@ -1,3 +1,4 @@
+pub mod printed
 pub mod Handshakes
 pub mod Refusals
 pub mod Publishing
@@ -15,5 +16,3 @@ pub mod History
 pub mod HistoryLaws
 pub mod IdentifierLaws
 pub mod OrderLaws
-pub use Rattle.session_base.specs.lists as lists
-pub use Rattle.session_base.specs as session_base

@@ -1,6 +1,6 @@
 -- The keeper's step: one call of a client, or one packet of the server (MQTT 3, 4.3, 4.4).
 use Rattle.std.specs.Prelude.{ℕ, not, if◌then◌else◌, List, [], ◌∷◌, ◌++◌, Option, Some, None}
-use Rattle.session_base.specs.packet.packet_base.declared.qos.QoS.{QoS}
+use Rattle.packet_base.specs.declared.qos.QoS.{QoS}
 use Rattle.packet.specs.declared.packet.Packet.{Packet}
 use Rattle.packet.specs.declared.packet.Packet.TheVariants as packets
 use Rattle.session_base.specs.declared.publication.Publication.{Publication}

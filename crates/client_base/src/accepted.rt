@@ -1,6 +1,6 @@
 // A publication that a client accepted.
 
-use packet::{Payload, QoS};
+use packet_base::{Payload, QoS};
 use topics::TopicName;
 
 /// A publication that a client accepted (MQTT 4.3), with the number of the session in which it did.

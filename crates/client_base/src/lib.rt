@@ -6,6 +6,7 @@ mod accepted;
 mod error;
 mod laws;
 mod limits;
+pub mod printed;
 mod request;
 mod rows;
 mod stage;

@@ -1,6 +1,6 @@
 // A request that the server has not answered yet.
 
-use packet::PacketId;
+use packet_base::PacketId;
 
 /// A request of a client that waits for its answer, with its Packet Identifier.
 #[derive(Clone, Copy, Debug, PartialEq, Eq)]

@@ -1,6 +1,6 @@
 // A publication that a client would send again.
 
-use packet::PacketId;
+use packet_base::PacketId;
 use session_base::Publication;
 
 /// A kept publication at QoS 1 or 2 that is unacknowledged: its PUBACK or PUBREC has not come. Of a

@@ -1,6 +1,6 @@
 // What a command line asks for.
 
-use packet::QoS;
+use packet_base::QoS;
 
 /// What a command line asks for: one of the subcommands, with its values. The texts are the user's
 /// words.

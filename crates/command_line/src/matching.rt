@@ -1,14 +1,14 @@
 // Getting the job from the matches of a command line.
 
 ghost use Rattle.std.specs.Prelude.{◌≡◌, ℕ, [], Option, Some, None, IfOk, IfErr, IsErrOf, codes};
-ghost use Rattle.packet.specs.packet_base.declared.qos.QoS.{QoS};
+ghost use Rattle.packet_base.specs.declared.qos.QoS.{QoS};
 ghost use Rattle.command_line.specs.declared.job.Job.{Job};
 ghost use Rattle.command_line.specs.declared.job.Serve.{Serve};
 ghost use Rattle.command_line.specs.declared.job.Publish.{Publish};
 ghost use Rattle.command_line.specs.declared.job.Subscribe.{Subscribe};
 ghost use Rattle.command_line.specs.declared.job.Play.{Play};
 ghost use Rattle.command_line.specs.declared.job.Escape.{Escape};
-ghost use Rattle.packet.specs.packet_base.QoS.{qos_number};
+ghost use Rattle.packet_base.specs.QoS.{qos_number};
 ghost use Rattle.clap.specs.Walk.{texts};
 ghost use Rattle.clap.specs.Words.{all_of, first_of, found_of, rows_of, subcommand_rows_of};
 ghost use Rattle.command_line.specs.Jobs.{HasNumber, IsEscape, IsJob, IsPlay, IsPublish, IsRefusal, IsServe, IsSubscribe};
@@ -16,7 +16,7 @@ ghost use Rattle.command_line.specs.Jobs.{HasNumber, IsEscape, IsJob, IsPlay, Is
 use crate::fault::LineFault;
 use crate::job::{Escape, Job, Play, Publish, Serve, Subscribe};
 use clap::ArgMatches;
-use packet::QoS;
+use packet_base::QoS;
 use std::alloc::Global;
 
 /// Returns the job of the subcommand that was met, with the values of its arguments.

@@ -2,7 +2,7 @@
 -- given.
 use Rattle.std.proofs.Common.{◌≡◌, ◌≤◌, ℕ, zero, suc, List, [], ◌∷◌, ◌++◌, length, Result, Ok, Err, refl, sym, ap, ◌∙◌, subst, arith, length-append}
 use Rattle.std.specs.Prelude.{IfOk}
-use Rattle.packet.specs.packet_base.declared.stop.Stop.{Stop}
+use Rattle.packet_base.specs.declared.stop.Stop.{Stop}
 use Rattle.packet.specs.declared.packet.Packet.{Packet}
 use Rattle.packet.specs.Laws.{NoneBeginsAnother}
 use Rattle.packet.specs.Spelling.{Spells}
@@ -10,7 +10,7 @@ use Rattle.packet.specs.Verdict.{verdict}
 use Rattle.packet.proofs.PacketReads as reads
 use Rattle.packet.proofs.PacketReads.{verdict_found, verdict_again}
 use Rattle.cutter.specs.Stream.{HasNoFront, CutsInto}
-use Rattle.packet.specs.packet_base.Reading.{AreBytes}
+use Rattle.packet_base.specs.Reading.{AreBytes}
 use Rattle.cutter.specs.Laws.{EveryStreamIsCut, NoPacketIsLeft, CuttingsAgree}
 use Rattle.cutter.proofs.OneWay.{Begins, ran-begins, one-way}
 

@@ -2,7 +2,7 @@
 use Rattle.std.specs.Prelude.{◌≡◌, false, ℕ, List, [], ◌∷◌, ◌++◌, Option, Some, None}
 use Rattle.std.specs.Prelude.{Result, Ok}
 use Rattle.packet.specs.declared.packet.Packet.{Packet}
-use Rattle.packet.specs.packet_base.Reading.{AreBytes}
+use Rattle.packet_base.specs.Reading.{AreBytes}
 use Rattle.cutter.specs.declared.error.CutError.{CutError}
 use Rattle.cutter.specs.Stream.{Stream, CutsInto, Takes}
 

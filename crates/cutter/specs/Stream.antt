@@ -2,7 +2,7 @@
 use Rattle.std.specs.Prelude.{◌≡◌, ◌≢◌, ℕ, Bool, true, false, List, [], ◌∷◌, ◌++◌, Option, Some}
 use Rattle.std.specs.Prelude.{None, Result, Ok, Err}
 use Rattle.topics.specs.declared.malformed.MalformedKind.TheVariants as kinds
-use Rattle.packet.specs.packet_base.declared.stop.Stop.TheVariants as stops
+use Rattle.packet_base.specs.declared.stop.Stop.TheVariants as stops
 use Rattle.packet.specs.Spelling.{Spells, IsPacket}
 use Rattle.packet.specs.Verdict.{verdict, MayNeedMemory}
 use Rattle.packet.specs.declared.packet.Packet.{Packet}

@@ -34,8 +34,3 @@ pub mod LinksStarted
 pub mod LinksAnew
 pub mod Exact
 pub mod Repeats
-pub use Rattle.broker_base.proofs as of_broker_base
-pub use Rattle.broker_spec.proofs as of_broker_spec
-pub use Rattle.lists.proofs as of_lists
-pub use Rattle.packet.proofs as of_packet
-pub use Rattle.packet_base.proofs as of_packet_base

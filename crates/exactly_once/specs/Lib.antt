@@ -18,10 +18,3 @@ pub mod Handshake
 pub mod HandshakeSteps
 pub mod Exact
 pub mod HandshakeInvariant
-pub use Rattle.broker_base.specs as broker_base
-pub use Rattle.broker_spec.specs as broker_spec
-pub use Rattle.client_base.specs as client_base
-pub use Rattle.lists.specs as lists
-pub use Rattle.packet.specs as packet
-pub use Rattle.packet_base.specs as packet_base
-pub use Rattle.session_base.specs as session_base

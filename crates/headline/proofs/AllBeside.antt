@@ -3,25 +3,25 @@ use Rattle.std.proofs.Common.{◌≡◌, ℕ, List, [], ◌++◌, true, map, ref
 use Rattle.ballot_base.specs.declared.config.Config.{Config}
 use Rattle.broker_spec.specs.Place.{Client}
 use Rattle.lists.specs.Lists.{Each}
-use Rattle.byte_world.specs.agreement.World.{can_open}
-use Rattle.packet_world.specs.World.{ClientsAreApart, ClientEnds, opening as opening_beside, story_of as story_beside}
-use Rattle.packet_world.specs.World as model
-use Rattle.packet_world.specs.Steps.Reached.{begins as begins_beside}
-use Rattle.packet_world.proofs.Lists.{each_by}
-use Rattle.node_group.specs.Steps.{GroupTrace}
-use Rattle.node_group.specs.Steps.GroupTrace.{opened}
-use Rattle.byte_world.specs.Carried.{trace_of, went_on}
-use Rattle.byte_world.specs.Steps.{Reached, ByteWorldStep}
-use Rattle.byte_world.specs.Steps.Reached.{begins, goes_on}
-use Rattle.byte_world.specs.Steps.ByteWorldStep.{group_goes, calls, connects, is_taken_back, comes_up, goes_down, arrives, handles}
-use Rattle.byte_world.specs.World.{ByteWorld, new_client, opening}
-use Rattle.byte_world.proofs.PipesInOrder.{opens_hold, step_holds}
-use Rattle.byte_world.proofs.WorldsHold.{Holds}
+use Rattle.agreement.specs.World.{can_open}
+use Rattle.headline.specs.packet_world.World.{ClientsAreApart, ClientEnds, opening as opening_beside, story_of as story_beside}
+use Rattle.headline.specs.packet_world.World as model
+use Rattle.headline.specs.packet_world.Steps.Reached.{begins as begins_beside}
+use Rattle.headline.proofs.of_packet_world.Lists.{each_by}
+use Rattle.headline.specs.node_group.Steps.{GroupTrace}
+use Rattle.headline.specs.node_group.Steps.GroupTrace.{opened}
+use Rattle.headline.specs.byte_world.Carried.{trace_of, went_on}
+use Rattle.headline.specs.byte_world.Steps.{Reached, ByteWorldStep}
+use Rattle.headline.specs.byte_world.Steps.Reached.{begins, goes_on}
+use Rattle.headline.specs.byte_world.Steps.ByteWorldStep.{group_goes, calls, connects, is_taken_back, comes_up, goes_down, arrives, handles}
+use Rattle.headline.specs.byte_world.World.{ByteWorld, new_client, opening}
+use Rattle.headline.proofs.of_byte_world.PipesInOrder.{opens_hold, step_holds}
+use Rattle.headline.proofs.of_byte_world.WorldsHold.{Holds}
 use Rattle.headline.proofs.AllPutOut.{IsFull}
 use Rattle.headline.proofs.Beside.{Beside, ends_alone, grows_beside}
 use Rattle.headline.proofs.ClientsGo.{calls_so, connects_so, handles_so}
 use Rattle.headline.proofs.GoesBeside.{GoesBeside, group_beside, pipe_beside, pipe_rests}
-use Rattle.node_group.proofs.CarriedInOrder.{carried_at_first}
+use Rattle.headline.proofs.of_node_group.CarriedInOrder.{carried_at_first}
 use Rattle.headline.proofs.Places.{each_of_made, map_twice}
 use Rattle.headline.proofs.WorldsWrite.{HasAllPipes, clients_alone, is_of_written, pipes_alone}
 

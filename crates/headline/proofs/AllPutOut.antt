@@ -1,8 +1,8 @@
 -- A world reaches a state in which all that was written is read, and all that is agreed is sent.
 use Rattle.std.proofs.Common.{◌≡◌, ◌≤◌, ◌+◌, ℕ, zero, suc, true, List, [], ◌∷◌, length, map, set, Some, refl, sym, ap, ◌∙◌, subst, arith}
 use Rattle.std.specs.Prelude.{slice_get}
-use Rattle.byte_world.specs.whole.Applying.{outputs_between}
-use Rattle.byte_world.specs.agreement.World.{outputs}
+use Rattle.agreement.specs.whole_logs.Applying.{outputs_between}
+use Rattle.agreement.specs.World.{outputs}
 use Rattle.broker_spec.specs.declared.command.Command.{Command}
 use Rattle.broker_spec.specs.Commands.{past_of, usual_limits}
 use Rattle.broker_spec.specs.Place.{Client}
@@ -10,18 +10,18 @@ use Rattle.lists.specs.Lists.{Each}
 use Rattle.lists.proofs.Places.{get_set}
 use Rattle.exactly_once.specs.Sends.{put_to}
 use Rattle.exactly_once.specs.Sides.{ClientConnection}
-use Rattle.packet_world.specs.World.{ClientsAreApart, ClientEnds, End, PacketWorld, with_client}
-use Rattle.packet_world.specs.Steps.{HasPipe, Reached}
-use Rattle.packet_world.specs.Steps.PacketWorldStep.{reads}
-use Rattle.packet_world.specs.Steps.Reached.{goes_on}
-use Rattle.packet_world.specs.broker_form.BrokerRules.{broker_rules}
-use Rattle.packet_world.specs.PutOut.{end_given}
-use Rattle.packet_world.proofs.Ends.{pipe_at}
-use Rattle.packet_world.proofs.Holds.{HasPipes}
-use Rattle.packet_world.proofs.Lists.{each_get}
-use Rattle.packet_world.proofs.PutOut.{given_is_put_out}
-use Rattle.packet_world.proofs.WorldsExact.{reached_holds}
-use Rattle.node_group.proofs.Placed.{set_same, set_twice}
+use Rattle.headline.specs.packet_world.World.{ClientsAreApart, ClientEnds, End, PacketWorld, with_client}
+use Rattle.headline.specs.packet_world.Steps.{HasPipe, Reached}
+use Rattle.headline.specs.packet_world.Steps.PacketWorldStep.{reads}
+use Rattle.headline.specs.packet_world.Steps.Reached.{goes_on}
+use Rattle.broker_base.specs.form.BrokerRules.{broker_rules}
+use Rattle.headline.specs.packet_world.PutOut.{end_given}
+use Rattle.headline.proofs.of_packet_world.Ends.{pipe_at}
+use Rattle.headline.proofs.of_packet_world.Holds.{HasPipes}
+use Rattle.headline.proofs.of_packet_world.Lists.{each_get}
+use Rattle.headline.proofs.of_packet_world.PutOut.{given_is_put_out}
+use Rattle.headline.proofs.of_packet_world.WorldsExact.{reached_holds}
+use Rattle.headline.proofs.of_node_group.Placed.{set_same, set_twice}
 use Rattle.headline.proofs.Places.{in_turn, take_whole}
 
 -- the open end of a connection of which all is read, whose node has applied this list and sent all

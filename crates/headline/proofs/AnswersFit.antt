@@ -13,16 +13,16 @@ use Rattle.broker_spec.specs.Connection.{ConnectionName, same_connection}
 use Rattle.broker_spec.specs.declared.command.Output.{Output}
 use Rattle.broker_spec.specs.declared.command.Output.TheVariants.{Send, Close}
 use Rattle.broker_spec.specs.Place.{Past}
-use Rattle.byte_world.specs.broker_base.State.{State, empty_state, session_in}
-use Rattle.byte_world.specs.broker_base.Step.{step, steps_from}
-use Rattle.byte_world.specs.broker_base.StepAnswers.{connection_of}
-use Rattle.byte_world.proofs.of_broker_base.StepByStep.{usual_lists_stand}
-use Rattle.byte_world.specs.broker_form.InRange.{IsBrokerState}
-use Rattle.byte_world.specs.broker_form.RangeLaws.{CanBeSpelled}
-use Rattle.byte_world.proofs.of_broker_form.EveryAnswer.{answers_are_spelled, lists_are_in_range}
-use Rattle.byte_world.proofs.of_broker_form.States.{stays_in_range}
+use Rattle.broker_base.specs.State.{State, empty_state, session_in}
+use Rattle.broker_base.specs.Step.{step, steps_from}
+use Rattle.broker_base.specs.StepAnswers.{connection_of}
+use Rattle.broker_base.proofs.StepByStep.{usual_lists_stand}
+use Rattle.broker_base.specs.form.InRange.{IsBrokerState}
+use Rattle.broker_base.specs.form.RangeLaws.{CanBeSpelled}
+use Rattle.broker_base.proofs.of_form.EveryAnswer.{answers_are_spelled, lists_are_in_range}
+use Rattle.broker_base.proofs.of_form.States.{stays_in_range}
 use Rattle.exactly_once.specs.Sends.{put_to, sends_to}
-use Rattle.packet_world.proofs.Answers.{put_place}
+use Rattle.headline.proofs.of_packet_world.Answers.{put_place}
 use Rattle.headline.proofs.Fitting.{IsFitting}
 use Rattle.headline.proofs.LostNowhere.{loss_in_range}
 use Rattle.headline.proofs.ExpelledNobody.{expel_in_range}

@@ -9,14 +9,14 @@ use Rattle.lists.specs.Lists.{Each, In, IsPrefixOf}
 use Rattle.lists.proofs.Prefixes.{prefix_length}
 use Rattle.exactly_once.specs.Sides.{ClientConnection}
 use Rattle.exactly_once.specs.StoryCommands.{is_packet_of}
-use Rattle.packet_world.specs.World.{ClientsAreApart, ClientEnds, End, PacketWorld}
-use Rattle.packet_world.specs.Exact.{commands_from}
-use Rattle.packet_world.specs.Steps.{HasPipe, Reached, is_of_connection}
-use Rattle.packet_world.specs.Served.{IsOfPipe, ServesWorld, untaken}
-use Rattle.packet_world.proofs.Answers.{of_name}
-use Rattle.packet_world.proofs.Lists.{each_by, each_get}
-use Rattle.packet_world.proofs.Serving.{worlds_are_served}
-use Rattle.node_group.proofs.Placed.{get_mapped}
+use Rattle.headline.specs.packet_world.World.{ClientsAreApart, ClientEnds, End, PacketWorld}
+use Rattle.headline.specs.packet_world.Exact.{commands_from}
+use Rattle.headline.specs.packet_world.Steps.{HasPipe, Reached, is_of_connection}
+use Rattle.headline.specs.packet_world.Served.{IsOfPipe, ServesWorld, untaken}
+use Rattle.headline.proofs.of_packet_world.Answers.{of_name}
+use Rattle.headline.proofs.of_packet_world.Lists.{each_by, each_get}
+use Rattle.headline.proofs.of_packet_world.Serving.{worlds_are_served}
+use Rattle.headline.proofs.of_node_group.Placed.{get_mapped}
 use Rattle.headline.proofs.Untaken.{AreSameUntaken, untaken_connection}
 use Rattle.headline.proofs.AllPutOut.{IsFull, all_put_out, end_of, ends_of, filled}
 use Rattle.headline.proofs.Places.{each_of_made, map_back, map_twice, same_place, take_whole}

@@ -10,7 +10,7 @@ use Rattle.client_base.specs.declared.request.Request.TheVariants as requests
 use Rattle.exactly_once.specs.Sides.{ClientConnection}
 use Rattle.exactly_once.specs.Story.{StoryStep, Story}
 use Rattle.exactly_once.specs.Story.StoryStep.{takes, others_take, receives, opens_anew, loses, disconnects, publishes_one, subscribes, unsubscribes}
-use Rattle.packet_world.specs.Steps.{is_call}
+use Rattle.headline.specs.packet_world.Steps.{is_call}
 use Rattle.headline.proofs.Untaken.{AreSameUntaken, untaken_connection}
 
 -- ---- what is written on the newest connection

@@ -11,15 +11,15 @@ use Rattle.client_base.specs.Keeper.{Keeper, new_keeper}
 use Rattle.exactly_once.specs.Rows.{writer}
 use Rattle.broker_spec.specs.Connection.{first_connection}
 use Rattle.exactly_once.specs.Sides.{ClientConnection}
-use Rattle.node_core.specs.declared.item.Item.TheVariants.{Opened}
-use Rattle.byte_world.specs.node_connections.Connections.{fresh}
-use Rattle.node_group.specs.Group.{opening_group}
-use Rattle.byte_world.specs.node_moves.Moves.NodeCall.{takes}
-use Rattle.byte_world.specs.node_moves.Puts.{spelled}
-use Rattle.byte_world.specs.Steps.{Reached}
-use Rattle.byte_world.specs.Steps.Reached.{begins, goes_on}
-use Rattle.byte_world.specs.Steps.ByteWorldStep.{connects}
-use Rattle.byte_world.specs.World.{new_client, packets_of}
+use Rattle.world_base.specs.declared.node_core.item.Item.TheVariants.{Opened}
+use Rattle.world_base.specs.node_connections.Connections.{fresh}
+use Rattle.headline.specs.node_group.Group.{opening_group}
+use Rattle.headline.specs.node_moves.Moves.NodeCall.{takes}
+use Rattle.headline.specs.node_moves.Puts.{spelled}
+use Rattle.headline.specs.byte_world.Steps.{Reached}
+use Rattle.headline.specs.byte_world.Steps.Reached.{begins, goes_on}
+use Rattle.headline.specs.byte_world.Steps.ByteWorldStep.{connects}
+use Rattle.headline.specs.byte_world.World.{new_client, packets_of}
 use Rattle.headline.specs.Rows.{AClientIsServed, one_node}
 use Rattle.headline.proofs.RowGoes.{Row, client_with, pipe_with, row_arrives, row_down, row_handles, row_up, the_port, turned}
 use Rattle.headline.proofs.ServedNode.{connack, connect, core_at_first, core_opened, it_connects, it_hands, it_opens, list_connected, serving}

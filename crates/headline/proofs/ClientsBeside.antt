@@ -11,7 +11,7 @@ use Rattle.client_base.specs.Connected.{new_connection}
 use Rattle.client_base.specs.Handled.{packet_handled, lost}
 use Rattle.client_base.specs.Keeper.{Keeper, Written}
 use Rattle.client_base.specs.Written.{writes, writes_first}
-use Rattle.node_group.proofs.Placed.{get_of_set, set_mapped, set_twice}
+use Rattle.headline.proofs.of_node_group.Placed.{get_of_set, set_mapped, set_twice}
 use Rattle.lists.specs.Lists.{Each}
 use Rattle.lists.proofs.OfEach.{each_then}
 use Rattle.exactly_once.specs.Sends.{put_to}
@@ -19,15 +19,15 @@ use Rattle.exactly_once.specs.Sides.{ClientConnection, Side}
 use Rattle.exactly_once.specs.Story.{StoryStep, Story}
 use Rattle.exactly_once.specs.StoryCommands.{any_named}
 use Rattle.exactly_once.proofs.publishing.Grown.{handled_grows}
-use Rattle.packet_world.specs.World.{ClientsAreApart, ClientEnds, End, IsFresh, PacketWorld, new_end, story_of, with_client}
-use Rattle.packet_world.specs.Steps.{Reached, after_opening, is_call}
-use Rattle.packet_world.specs.Steps.PacketWorldStep.{calls, handles, opens}
-use Rattle.packet_world.specs.Steps.Reached.{goes_on}
-use Rattle.packet_world.proofs.Ends.{pipe_at}
-use Rattle.packet_world.proofs.Holds.{HasPipes}
-use Rattle.packet_world.proofs.Lists.{each_get, each_set}
-use Rattle.packet_world.proofs.WorldsExact.{reached_holds}
-use Rattle.byte_world.proofs.WorldsKeep.{call_writes}
+use Rattle.headline.specs.packet_world.World.{ClientsAreApart, ClientEnds, End, IsFresh, PacketWorld, new_end, story_of, with_client}
+use Rattle.headline.specs.packet_world.Steps.{Reached, after_opening, is_call}
+use Rattle.headline.specs.packet_world.Steps.PacketWorldStep.{calls, handles, opens}
+use Rattle.headline.specs.packet_world.Steps.Reached.{goes_on}
+use Rattle.headline.proofs.of_packet_world.Ends.{pipe_at}
+use Rattle.headline.proofs.of_packet_world.Holds.{HasPipes}
+use Rattle.headline.proofs.of_packet_world.Lists.{each_get, each_set}
+use Rattle.headline.proofs.of_packet_world.WorldsExact.{reached_holds}
+use Rattle.headline.proofs.of_byte_world.WorldsKeep.{call_writes}
 use Rattle.headline.proofs.Untaken.{untaken_connection}
 use Rattle.headline.proofs.AllPutOut.{IsFull, all_read, end_of, ends_of}
 use Rattle.headline.proofs.Beside.{Alone, Beside, alone, ends_alone}

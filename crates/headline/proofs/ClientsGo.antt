@@ -5,7 +5,7 @@ use Rattle.std.specs.Prelude.{slice_get}
 use Rattle.std.proofs.lemmas.Bool.{both_ways, cases_Bool}
 use Rattle.packet.specs.Spelling.{IsPacket}
 use Rattle.packet.specs.declared.packet.Packet.{Packet}
-use Rattle.byte_world.specs.cutter.Stream.{Stream, Takes}
+use Rattle.cutter.specs.Stream.{Stream, Takes}
 use Rattle.ballot_base.specs.declared.config.Config.{Config}
 use Rattle.broker_spec.specs.declared.command.Command.{Command}
 use Rattle.broker_spec.specs.Commands.{past_of, usual_limits}
@@ -18,34 +18,34 @@ use Rattle.client_base.specs.Keeper.{Written}
 use Rattle.client_base.specs.Written.{writes_first}
 use Rattle.lists.specs.Lists.{Each, In, IsPrefixOf}
 use Rattle.lists.proofs.Places.{get_set, get_set_other}
-use Rattle.byte_world.specs.node_moves.Pipe.{Joins}
+use Rattle.headline.specs.node_moves.Pipe.{Joins}
 use Rattle.exactly_once.specs.Sends.{put_to}
 use Rattle.exactly_once.specs.Sides.{ClientConnection, Side}
 use Rattle.exactly_once.specs.Story.{StoryStep, Story}
 use Rattle.exactly_once.specs.StoryCommands.{any_named, is_packet_of}
-use Rattle.packet_world.specs.World.{ClientsAreApart}
-use Rattle.packet_world.specs.Steps.{is_call, is_of_connection}
-use Rattle.packet_world.proofs.Lists.{each_by, each_get, each_set, same_or_other, stands_within, there_is}
-use Rattle.byte_world.specs.node_moves.Moves.NodeCall.{takes}
-use Rattle.byte_world.specs.node_moves.Puts.{spelled}
-use Rattle.node_group.specs.Group.{Group}
-use Rattle.node_group.specs.Steps.{GroupTrace}
-use Rattle.node_group.specs.Steps.GroupTrace.{then_went}
-use Rattle.node_group.proofs.Placed.{get_mapped, set_mapped}
-use Rattle.node_group.specs.Carried.{answers_to}
-use Rattle.node_core.specs.declared.item.Item.TheVariants.{Opened}
-use Rattle.node_core.specs.declared.Port.{Port}
-use Rattle.byte_world.specs.Steps.{DoesCall}
-use Rattle.byte_world.specs.ClientSteps.{after_connecting, after_packet, story_alone}
-use Rattle.byte_world.specs.World.{ClientPipes, HasPipe, Pipe, ByteWorld, after_writing, newly_written, packets_of, sent_up, with_client}
-use Rattle.byte_world.proofs.WorldsHold.{Holds}
-use Rattle.byte_world.proofs.WorldsKeep.{call_writes}
+use Rattle.headline.specs.packet_world.World.{ClientsAreApart}
+use Rattle.headline.specs.packet_world.Steps.{is_call, is_of_connection}
+use Rattle.headline.proofs.of_packet_world.Lists.{each_by, each_get, each_set, same_or_other, stands_within, there_is}
+use Rattle.headline.specs.node_moves.Moves.NodeCall.{takes}
+use Rattle.headline.specs.node_moves.Puts.{spelled}
+use Rattle.headline.specs.node_group.Group.{Group}
+use Rattle.headline.specs.node_group.Steps.{GroupTrace}
+use Rattle.headline.specs.node_group.Steps.GroupTrace.{then_went}
+use Rattle.headline.proofs.of_node_group.Placed.{get_mapped, set_mapped}
+use Rattle.headline.specs.node_group.Carried.{answers_to}
+use Rattle.world_base.specs.declared.node_core.item.Item.TheVariants.{Opened}
+use Rattle.world_base.specs.declared.node_core.Port.{Port}
+use Rattle.headline.specs.byte_world.Steps.{DoesCall}
+use Rattle.headline.specs.byte_world.ClientSteps.{after_connecting, after_packet, story_alone}
+use Rattle.headline.specs.byte_world.World.{ClientPipes, HasPipe, Pipe, ByteWorld, after_writing, newly_written, packets_of, sent_up, with_client}
+use Rattle.headline.proofs.of_byte_world.WorldsHold.{Holds}
+use Rattle.headline.proofs.of_byte_world.WorldsKeep.{call_writes}
 use Rattle.headline.proofs.AnswersFit.{answers_fit}
 use Rattle.headline.proofs.Beside.{Alone, Beside, alone}
 use Rattle.headline.proofs.ClientsBeside.{IsFreshAlone, calls_beside, handles_beside, named_untaken, opens_beside}
 use Rattle.headline.proofs.CommandsFit.{IsWritten, list_fits}
 use Rattle.headline.proofs.GoesBeside.{GoesBeside, group_beside}
-use Rattle.node_group.proofs.CarriedInOrder.{IsAgreedSo, carries_each}
+use Rattle.headline.proofs.of_node_group.CarriedInOrder.{IsAgreedSo, carries_each}
 use Rattle.headline.proofs.NamesGiven.{names_fit}
 use Rattle.headline.proofs.NextAnswer.{next_answer}
 use Rattle.headline.proofs.Places.{each_of_made}

@@ -11,9 +11,9 @@ use Rattle.broker_spec.specs.declared.command.Command.{Command}
 use Rattle.broker_spec.specs.declared.command.Command.TheVariants as commands
 use Rattle.broker_spec.specs.Connection.{ConnectionName, IsConnectionName}
 use Rattle.exactly_once.specs.StoryCommands.{command_of, is_packet_of}
-use Rattle.packet_world.specs.Steps.{is_of_connection}
-use Rattle.byte_world.specs.node_moves.Ends.{packet_commands_from}
-use Rattle.node_group.specs.Order.{packet_commands}
+use Rattle.headline.specs.packet_world.Steps.{is_of_connection}
+use Rattle.headline.specs.node_moves.Ends.{packet_commands_from}
+use Rattle.headline.specs.node_group.Order.{packet_commands}
 use Rattle.headline.proofs.Fitting.{IsFitting}
 
 -- ---- of one connection

@@ -2,19 +2,19 @@
 use Rattle.std.proofs.Common.{◌≡◌, Bool, true, false, if◌then◌else◌, ◌||◌, [], ◌∷◌, Option, Some, None, refl, ap, ap₂, sym, ◌∙◌, subst, arith}
 use Rattle.std.specs.List.{AllByRecursion}
 use Rattle.std.proofs.lemmas.Bool.{both_ways}
-use Rattle.byte_world.specs.packet_base.ClientId.{is_client}
+use Rattle.packet_base.specs.ClientId.{is_client}
 use Rattle.broker_spec.specs.declared.command.Command.TheVariants as commands
 use Rattle.broker_spec.specs.Commands.{usual_limits}
 use Rattle.broker_spec.specs.Connection.{ConnectionName}
 use Rattle.broker_spec.specs.Place.{Client, Mark, Place, same_client}
-use Rattle.byte_world.specs.broker_base.ClientSession.{ClientSession}
-use Rattle.byte_world.specs.broker_base.SessionStep.{session_touched}
-use Rattle.byte_world.specs.broker_base.State.{Sessions, State, keyed}
-use Rattle.byte_world.specs.broker_base.Step.{sessions_left, step}
+use Rattle.broker_base.specs.ClientSession.{ClientSession}
+use Rattle.broker_base.specs.SessionStep.{session_touched}
+use Rattle.broker_base.specs.State.{Sessions, State, keyed}
+use Rattle.broker_base.specs.Step.{sessions_left, step}
 use Rattle.broker_spec.proofs.ClientsInOrder.{same_is}
 use Rattle.broker_spec.specs.Sessions.{any_connection, ends}
-use Rattle.byte_world.specs.broker_form.InRange.{IsBrokerState, IsSession}
-use Rattle.byte_world.proofs.of_broker_form.States.{stays_in_range}
+use Rattle.broker_base.specs.form.InRange.{IsBrokerState, IsSession}
+use Rattle.broker_base.proofs.of_form.States.{stays_in_range}
 
 abbrev expel_place : Client → Place
 expel_place d = record { command = commands.Expel d; mark = Mark.Unmarked }

@@ -7,18 +7,18 @@ use Rattle.ballot_base.specs.declared.config.Config.{Config}
 use Rattle.broker_spec.specs.declared.command.Command.{Command}
 use Rattle.broker_spec.specs.Place.{Client}
 use Rattle.lists.specs.Lists.{Each}
-use Rattle.snapshots.proofs.MomentsAgree.{has_agreed}
-use Rattle.packet_world.specs.World.{ClientsAreApart}
-use Rattle.packet_world.proofs.Lists.{each_get, each_set}
-use Rattle.packet_world.proofs.TakenOn.{map_set}
-use Rattle.node_core.specs.Core.{rules}
-use Rattle.node_group.specs.Group.{Group, moment_of_nodes}
-use Rattle.node_group.specs.Steps.{GroupStep, GroupTrace}
-use Rattle.node_group.specs.Steps.GroupTrace.{then_went}
-use Rattle.byte_world.specs.World.{ClientPipes, Pipe, ByteWorld, with_client, with_pipe}
-use Rattle.byte_world.proofs.WorldsHold.{Holds}
+use Rattle.agreement.proofs.of_cut_logs.MomentsAgree.{has_agreed}
+use Rattle.headline.specs.packet_world.World.{ClientsAreApart}
+use Rattle.headline.proofs.of_packet_world.Lists.{each_get, each_set}
+use Rattle.headline.proofs.of_packet_world.TakenOn.{map_set}
+use Rattle.world_base.specs.node_core.Core.{rules}
+use Rattle.headline.specs.node_group.Group.{Group, moment_of_nodes}
+use Rattle.headline.specs.node_group.Steps.{GroupStep, GroupTrace}
+use Rattle.headline.specs.node_group.Steps.GroupTrace.{then_went}
+use Rattle.headline.specs.byte_world.World.{ClientPipes, Pipe, ByteWorld, with_client, with_pipe}
+use Rattle.headline.proofs.of_byte_world.WorldsHold.{Holds}
 use Rattle.headline.proofs.Beside.{Beside, grows_beside}
-use Rattle.node_group.proofs.CarriedInOrder.{CarriedSo, IsAgreedSo, carried_on}
+use Rattle.headline.proofs.of_node_group.CarriedInOrder.{CarriedSo, IsAgreedSo, carried_on}
 use Rattle.headline.proofs.WorldsWrite.{HasAllPipes, clients_alone, is_of_written, pipes_alone}
 
 -- a past of all steps of its group, and for each list that is agreed at its end a world of `model`

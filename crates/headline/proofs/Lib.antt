@@ -1,3 +1,7 @@
+pub mod of_byte_world
+pub mod of_node_group
+pub mod of_node_moves
+pub mod of_packet_world
 pub mod Places
 pub mod Untaken
 pub mod ExactUntaken
@@ -33,9 +37,3 @@ pub mod RowGoes
 pub mod ServedNode
 pub mod ClientServed
 pub mod PublicationAccepted
-pub use Rattle.byte_world.proofs as of_byte_world
-pub use Rattle.exactly_once.proofs as of_exactly_once
-pub use Rattle.node_group.proofs as of_node_group
-pub use Rattle.byte_world.proofs.of_node_moves as of_node_moves
-pub use Rattle.packet_world.proofs as of_packet_world
-pub use Rattle.snapshots.proofs as of_snapshots

@@ -7,14 +7,14 @@ use Rattle.broker_spec.specs.Commands.{past_of, usual_limits}
 use Rattle.broker_spec.specs.Place.{Client}
 use Rattle.exactly_once.specs.Lives.{Lived}
 use Rattle.exactly_once.specs.Story.{Story}
-use Rattle.packet_world.specs.World.{ClientsAreApart, ClientEnds, story_of}
-use Rattle.packet_world.proofs.Holds.{IsTold}
-use Rattle.packet_world.proofs.Lists.{each_get}
-use Rattle.packet_world.proofs.WorldsExact.{reached_holds}
-use Rattle.node_group.specs.Steps.{GroupTrace}
-use Rattle.byte_world.specs.World.{ClientPipes, ByteWorld}
-use Rattle.node_group.proofs.CarriedInOrder.{IsAgreedSo}
-use Rattle.node_group.proofs.Placed.{get_mapped}
+use Rattle.headline.specs.packet_world.World.{ClientsAreApart, ClientEnds, story_of}
+use Rattle.headline.proofs.of_packet_world.Holds.{IsTold}
+use Rattle.headline.proofs.of_packet_world.Lists.{each_get}
+use Rattle.headline.proofs.of_packet_world.WorldsExact.{reached_holds}
+use Rattle.headline.specs.node_group.Steps.{GroupTrace}
+use Rattle.headline.specs.byte_world.World.{ClientPipes, ByteWorld}
+use Rattle.headline.proofs.of_node_group.CarriedInOrder.{IsAgreedSo}
+use Rattle.headline.proofs.of_node_group.Placed.{get_mapped}
 use Rattle.headline.proofs.Beside.{Alone, Beside, ends_alone}
 use Rattle.headline.proofs.GoesBeside.{GoesBeside}
 use Rattle.headline.proofs.Places.{map_back}

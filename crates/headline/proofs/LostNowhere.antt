@@ -6,14 +6,14 @@ use Rattle.broker_spec.specs.declared.command.Command.TheVariants as commands
 use Rattle.broker_spec.specs.Commands.{usual_limits}
 use Rattle.broker_spec.specs.Connection.{ConnectionName, is_connection_name, same_connection}
 use Rattle.broker_spec.specs.Place.{Mark, Place}
-use Rattle.byte_world.specs.broker_base.ClientSession.{ClientSession}
-use Rattle.byte_world.specs.broker_base.SessionStep.{session_touched}
-use Rattle.byte_world.specs.broker_base.State.{Sessions, State, keyed}
-use Rattle.byte_world.specs.broker_base.Step.{sessions_left, step}
+use Rattle.broker_base.specs.ClientSession.{ClientSession}
+use Rattle.broker_base.specs.SessionStep.{session_touched}
+use Rattle.broker_base.specs.State.{Sessions, State, keyed}
+use Rattle.broker_base.specs.Step.{sessions_left, step}
 use Rattle.broker_spec.proofs.ConnectionNames.{same_name}
 use Rattle.broker_spec.specs.Sessions.{any_connection}
-use Rattle.byte_world.specs.broker_form.InRange.{IsBrokerState, IsNamed, IsSession}
-use Rattle.byte_world.proofs.of_broker_form.States.{stays_in_range}
+use Rattle.broker_base.specs.form.InRange.{IsBrokerState, IsNamed, IsSession}
+use Rattle.broker_base.proofs.of_form.States.{stays_in_range}
 
 abbrev lost_place : ConnectionName → Place
 lost_place x = record { command = commands.Lost x; mark = Mark.Unmarked }

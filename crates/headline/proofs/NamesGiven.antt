@@ -10,30 +10,30 @@ use Rattle.broker_spec.proofs.ConnectionNames.{same_name}
 use Rattle.lists.specs.Lists.{Each, In}
 use Rattle.lists.specs.Lists.In.{here, there}
 use Rattle.lists.proofs.OfEach.{each_append, each_then}
-use Rattle.byte_world.specs.agreement.MasterState.{refusal}
-use Rattle.packet_world.proofs.Lists.{each_set}
-use Rattle.node_core.specs.declared.Connection.{Connection}
-use Rattle.node_core.specs.declared.item.Item.{Item}
-use Rattle.node_core.specs.declared.item.Item.TheVariants.{Peer, Tick, Opened, Bytes, Ended, Expel, Cut, Crash}
-use Rattle.node_core.specs.declared.Port.{Port}
-use Rattle.byte_world.specs.node_connections.Connections.{fresh, is_at}
-use Rattle.node_core.specs.Core.{CoreState, StepOutcome, serves}
-use Rattle.node_core.specs.LossyStep.{RunsOn}
-use Rattle.node_core.specs.Step.{acts_on, next_name, with_next_connection, does_item}
-use Rattle.byte_world.specs.node_moves.Moves.{NodeCall, done}
-use Rattle.byte_world.specs.node_moves.Moves.NodeCall.{takes, hands_out}
-use Rattle.byte_world.proofs.of_node_moves.EachKept.{IsKept, each_repeated, each_settled}
-use Rattle.byte_world.proofs.of_node_moves.Kept.{named, put_out_name}
-use Rattle.byte_world.proofs.of_node_moves.Views.{found_each, found_passes}
-use Rattle.node_group.specs.Group.{Group, opening_cores}
-use Rattle.node_group.specs.Steps.{GroupStep, GroupTrace, groups_on_trace}
-use Rattle.node_group.specs.Steps.GroupStep.{node_acts, node_loses, master_assigns, master_hears, assigns_unheard, answers_unheard}
-use Rattle.node_group.specs.Steps.GroupTrace.{opened, then_went}
-use Rattle.node_group.proofs.NamesInGroups.{each_got}
-use Rattle.node_group.proofs.CarriedInOrder.{assigned_nodes, no_connections}
-use Rattle.byte_world.specs.Apart.{HasName}
-use Rattle.byte_world.proofs.PortsKept.{IsLater, each_done}
-use Rattle.byte_world.proofs.PortsLosing.{each_lost}
+use Rattle.agreement.specs.MasterState.{refusal}
+use Rattle.headline.proofs.of_packet_world.Lists.{each_set}
+use Rattle.world_base.specs.declared.node_core.Connection.{Connection}
+use Rattle.world_base.specs.declared.node_core.item.Item.{Item}
+use Rattle.world_base.specs.declared.node_core.item.Item.TheVariants.{Peer, Tick, Opened, Bytes, Ended, Expel, Cut, Crash}
+use Rattle.world_base.specs.declared.node_core.Port.{Port}
+use Rattle.world_base.specs.node_connections.Connections.{fresh, is_at}
+use Rattle.world_base.specs.node_core.Core.{CoreState, StepOutcome, serves}
+use Rattle.world_base.specs.node_core.LossyStep.{RunsOn}
+use Rattle.world_base.specs.node_core.Step.{acts_on, next_name, with_next_connection, does_item}
+use Rattle.headline.specs.node_moves.Moves.{NodeCall, done}
+use Rattle.headline.specs.node_moves.Moves.NodeCall.{takes, hands_out}
+use Rattle.headline.proofs.of_node_moves.EachKept.{IsKept, each_repeated, each_settled}
+use Rattle.headline.proofs.of_node_moves.Kept.{named, put_out_name}
+use Rattle.headline.proofs.of_node_moves.Views.{found_each, found_passes}
+use Rattle.headline.specs.node_group.Group.{Group, opening_cores}
+use Rattle.headline.specs.node_group.Steps.{GroupStep, GroupTrace, groups_on_trace}
+use Rattle.headline.specs.node_group.Steps.GroupStep.{node_acts, node_loses, master_assigns, master_hears, assigns_unheard, answers_unheard}
+use Rattle.headline.specs.node_group.Steps.GroupTrace.{opened, then_went}
+use Rattle.headline.proofs.of_node_group.NamesInGroups.{each_got}
+use Rattle.headline.proofs.of_node_group.CarriedInOrder.{assigned_nodes, no_connections}
+use Rattle.headline.specs.byte_world.Apart.{HasName}
+use Rattle.headline.proofs.of_byte_world.PortsKept.{IsLater, each_done}
+use Rattle.headline.proofs.of_byte_world.PortsLosing.{each_lost}
 
 abbrev IsNamed : Connection → Type 0
 IsNamed c = IsConnectionName c.name

@@ -6,8 +6,8 @@ use Rattle.lists.specs.Lists.{Each, IsPrefixOf}
 use Rattle.packet.specs.declared.packet.Packet.{Packet}
 use Rattle.packet.specs.Spelling.{IsPacket, Spells, spelling}
 use Rattle.packet.proofs.OneSpelling.{none_begins, spelling_is}
-use Rattle.byte_world.specs.cutter.Stream.{GoesOnWith, Stream, Takes}
-use Rattle.byte_world.specs.node_moves.Puts.{spelled}
+use Rattle.cutter.specs.Stream.{GoesOnWith, Stream, Takes}
+use Rattle.headline.specs.node_moves.Puts.{spelled}
 
 no_bytes : (first : ℕ) (more : List ℕ) → first ∷ more ≡ [] → ⊥
 no_bytes first more e = cc

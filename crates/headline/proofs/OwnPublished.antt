@@ -8,7 +8,7 @@ use Rattle.session_base.specs.Identifiers.{least_free}
 use Rattle.session_base.specs.Publication.{is_answered}
 use Rattle.session_base.specs.declared.publication.Publication.{Publication}
 use Rattle.ballot_base.specs.declared.config.Config.{Config}
-use Rattle.snapshots.proofs.MomentsAgree.{has_agreed}
+use Rattle.agreement.proofs.of_cut_logs.MomentsAgree.{has_agreed}
 use Rattle.broker_spec.specs.Commands.{usual_limits}
 use Rattle.broker_spec.specs.Place.{Client}
 use Rattle.client_base.specs.Called.{adds_own}
@@ -20,18 +20,18 @@ use Rattle.exactly_once.specs.Sides.{ClientConnection, Side}
 use Rattle.exactly_once.specs.Story.{StoryStep, Story}
 use Rattle.exactly_once.specs.Story.StoryStep.{takes, others_take, receives, opens_anew, loses, disconnects, publishes_one, subscribes, unsubscribes}
 use Rattle.exactly_once.proofs.carrying.Handles.{handles as handles_kept}
-use Rattle.packet_world.specs.World.{ClientsAreApart}
-use Rattle.packet_world.specs.Steps.{is_call}
-use Rattle.packet_world.proofs.Lists.{each_by, each_get, set_get}
-use Rattle.node_core.specs.Core.{rules}
-use Rattle.node_group.specs.Group.{moment_of_nodes}
-use Rattle.node_group.specs.Steps.{GroupTrace}
-use Rattle.byte_world.specs.Carried.{trace_of}
-use Rattle.byte_world.specs.Steps.{Reached, ByteWorldStep}
-use Rattle.byte_world.specs.Steps.Reached.{begins, goes_on}
-use Rattle.byte_world.specs.Steps.ByteWorldStep.{group_goes, calls, connects, is_taken_back, comes_up, goes_down, arrives, handles}
-use Rattle.byte_world.specs.Published.{from_client, published_by_call, published_in_step, published_of, published_on_way}
-use Rattle.byte_world.specs.World.{ClientPipes, ByteWorld, new_client}
+use Rattle.headline.specs.packet_world.World.{ClientsAreApart}
+use Rattle.headline.specs.packet_world.Steps.{is_call}
+use Rattle.headline.proofs.of_packet_world.Lists.{each_by, each_get, set_get}
+use Rattle.world_base.specs.node_core.Core.{rules}
+use Rattle.headline.specs.node_group.Group.{moment_of_nodes}
+use Rattle.headline.specs.node_group.Steps.{GroupTrace}
+use Rattle.headline.specs.byte_world.Carried.{trace_of}
+use Rattle.headline.specs.byte_world.Steps.{Reached, ByteWorldStep}
+use Rattle.headline.specs.byte_world.Steps.Reached.{begins, goes_on}
+use Rattle.headline.specs.byte_world.Steps.ByteWorldStep.{group_goes, calls, connects, is_taken_back, comes_up, goes_down, arrives, handles}
+use Rattle.headline.specs.byte_world.Published.{from_client, published_by_call, published_in_step, published_of, published_on_way}
+use Rattle.headline.specs.byte_world.World.{ClientPipes, ByteWorld, new_client}
 use Rattle.headline.proofs.GoesBeside.{GoesBeside}
 use Rattle.headline.proofs.LivedBeside.{lived_beside}
 use Rattle.exactly_once.proofs.sessions.LivedIsLife.{lived_is_life}

@@ -2,7 +2,7 @@
 use Rattle.std.proofs.Common.{◌≡◌, ℕ, zero, suc, List, [], ◌∷◌, length, map, set, take, Some, refl, sym, ap, ◌∙◌}
 use Rattle.std.specs.Prelude.{slice_get}
 use Rattle.lists.specs.Lists.{Each}
-use Rattle.node_group.proofs.Placed.{get_mapped, set_mapped}
+use Rattle.headline.proofs.of_node_group.Placed.{get_mapped, set_mapped}
 
 pub take_whole : {X : Type 0} (xs : List X) → take (length xs) xs ≡ xs
 take_whole [] = refl

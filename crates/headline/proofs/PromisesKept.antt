@@ -46,7 +46,7 @@ use Rattle.exactly_once.proofs.sessions.InTurn.{flat_map_same}
 use Rattle.exactly_once.proofs.sessions.LivesExact.{all_well, lives_exact}
 use Rattle.headline.specs.Promise.{PromiseBy, PromiseInStep}
 use Rattle.headline.specs.Shown.{AcceptsInSessionOrder, IsAnswered, new_of}
-use Rattle.byte_world.specs.Accepted.{accepted_at_qos2}
+use Rattle.headline.specs.byte_world.Accepted.{accepted_at_qos2}
 use Rattle.headline.proofs.NewByPlace.{all_new}
 use Rattle.headline.proofs.FirstKept.{first_kept}
 use Rattle.headline.proofs.NewNumbered.{new_in_order}

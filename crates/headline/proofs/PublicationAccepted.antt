@@ -8,7 +8,7 @@ use Rattle.std.proofs.lemmas.List.{append-nil}
 use Rattle.packet.specs.declared.packet.Packet.TheVariants as packets
 use Rattle.packet.specs.Spelling.{IsPacket, spelling}
 use Rattle.packet.specs.Subscribe.{FitsSubscription}
-use Rattle.byte_world.specs.packet_base.Spelling.{IsId}
+use Rattle.packet_base.specs.Spelling.{IsId}
 use Rattle.exactly_once.specs.Rows.{asks_for_news, news}
 use Rattle.exactly_once.specs.Story.StoryStep.{publishes_one, subscribes}
 use Rattle.headline.specs.Rows.{APublicationIsAccepted, list_done}

@@ -13,26 +13,26 @@ use Rattle.client_base.specs.Keeper.{Keeper}
 use Rattle.exactly_once.specs.Rows.{writer}
 use Rattle.exactly_once.specs.Sides.{ClientConnection, Side}
 use Rattle.exactly_once.specs.Story.{StoryStep, Story}
-use Rattle.packet_world.specs.Steps.{is_call}
-use Rattle.node_core.specs.declared.item.Item.TheVariants.{Bytes}
-use Rattle.node_core.specs.declared.Port.{Port}
-use Rattle.node_core.specs.Core.{CoreState}
-use Rattle.byte_world.specs.node_moves.Moves.{NodeCall, done}
-use Rattle.byte_world.specs.node_moves.Moves.NodeCall.{takes, hands_out}
-use Rattle.byte_world.specs.node_moves.Puts.{spelled}
-use Rattle.node_group.specs.Group.{Group, group_after_outcome, with_record}
-use Rattle.node_group.specs.Putting.{recorded_in}
-use Rattle.node_group.specs.Steps.{all_given}
-use Rattle.node_group.specs.Steps.GroupStep.{node_acts}
-use Rattle.node_group.proofs.Placed.{get_of_set}
-use Rattle.node_group.specs.Streams.{goes_down}
-use Rattle.byte_world.specs.NodeCalls.{NodeCallWasSent}
-use Rattle.byte_world.specs.Steps.{DoesCall, Reached, going_with}
-use Rattle.byte_world.specs.ClientSteps.{WritesCanBeSpelled, story_alone}
-use Rattle.byte_world.specs.Steps.Reached.{goes_on}
-use Rattle.byte_world.specs.Steps.ByteWorldStep.{calls, comes_up, goes_down as step_down, arrives, handles}
-use Rattle.byte_world.specs.World.{ClientPipes, Pipe, ByteWorld, after_writing, newly_written}
-use Rattle.byte_world.proofs.NodeCallsCarry.{node_calls_carry_their_bytes}
+use Rattle.headline.specs.packet_world.Steps.{is_call}
+use Rattle.world_base.specs.declared.node_core.item.Item.TheVariants.{Bytes}
+use Rattle.world_base.specs.declared.node_core.Port.{Port}
+use Rattle.world_base.specs.node_core.Core.{CoreState}
+use Rattle.headline.specs.node_moves.Moves.{NodeCall, done}
+use Rattle.headline.specs.node_moves.Moves.NodeCall.{takes, hands_out}
+use Rattle.headline.specs.node_moves.Puts.{spelled}
+use Rattle.headline.specs.node_group.Group.{Group, group_after_outcome, with_record}
+use Rattle.headline.specs.node_group.Putting.{recorded_in}
+use Rattle.headline.specs.node_group.Steps.{all_given}
+use Rattle.headline.specs.node_group.Steps.GroupStep.{node_acts}
+use Rattle.headline.proofs.of_node_group.Placed.{get_of_set}
+use Rattle.headline.specs.node_group.Streams.{goes_down}
+use Rattle.headline.specs.byte_world.NodeCalls.{NodeCallWasSent}
+use Rattle.headline.specs.byte_world.Steps.{DoesCall, Reached, going_with}
+use Rattle.headline.specs.byte_world.ClientSteps.{WritesCanBeSpelled, story_alone}
+use Rattle.headline.specs.byte_world.Steps.Reached.{goes_on}
+use Rattle.headline.specs.byte_world.Steps.ByteWorldStep.{calls, comes_up, goes_down as step_down, arrives, handles}
+use Rattle.headline.specs.byte_world.World.{ClientPipes, Pipe, ByteWorld, after_writing, newly_written}
+use Rattle.headline.proofs.of_byte_world.NodeCallsCarry.{node_calls_carry_their_bytes}
 use Rattle.headline.specs.Rows.{one_node}
 
 -- ---- a call of a node

@@ -6,7 +6,7 @@ use Rattle.std.proofs.Common.{◌≡◌, ℕ, false, List, [], ◌∷◌, ◌++�
 use Rattle.packet.specs.declared.connack.Connack.TheVariants as connacks
 use Rattle.packet.specs.declared.packet.Packet.{Packet}
 use Rattle.packet.specs.declared.packet.Packet.TheVariants as packets
-use Rattle.byte_world.specs.packet.packet_base.declared.qos.QoS.TheVariants as qualities
+use Rattle.packet_base.specs.declared.qos.QoS.TheVariants as qualities
 use Rattle.packet.specs.declared.suback.SubackCode.TheVariants as codes
 use Rattle.packet.specs.Connect.{connect_of}
 use Rattle.packet.specs.Delivery.{delivery_at}
@@ -15,25 +15,25 @@ use Rattle.packet.specs.Publish.{publish_of as publish_read}
 use Rattle.packet.specs.Spelling.{spelling}
 use Rattle.packet.specs.Subscribe.{subscribe_of, subscription_at}
 use Rattle.packet.specs.Verdict.{verdict}
-use Rattle.byte_world.specs.packet_base.Lists.{items_of}
-use Rattle.byte_world.specs.packet_base.Reading.{id_at, length_at, number_at, text_at}
-use Rattle.byte_world.specs.packet_base.TopicFields.{filter_at, topic_at}
+use Rattle.packet_base.specs.Lists.{items_of}
+use Rattle.packet_base.specs.Reading.{id_at, length_at, number_at, text_at}
+use Rattle.packet_base.specs.TopicFields.{filter_at, topic_at}
 use Rattle.session_base.specs.Publication.{publish_for}
 use Rattle.ballot_base.specs.Serving.{added, commit, commit_at, proposed}
-use Rattle.byte_world.specs.machine.Machine.{replay}
+use Rattle.machine.specs.Machine.{replay}
 use Rattle.broker_spec.specs.declared.command.Command.{Command}
 use Rattle.broker_spec.specs.declared.command.Command.TheVariants as commands
-use Rattle.node_core.specs.declared.ConnectionStage.TheVariants.{Proposed}
-use Rattle.node_core.specs.declared.item.Item.TheVariants.{Opened, Bytes}
-use Rattle.byte_world.specs.node_connections.Connections.{fresh}
-use Rattle.node_core.specs.Core.{CoreState, opening_core, rules}
-use Rattle.node_core.specs.Failing.{reports_failed}
-use Rattle.node_core.specs.Handing.{hands_over}
-use Rattle.node_core.specs.Reading.{changes, reads_next}
-use Rattle.node_core.specs.Step.{with_next_connection, settled}
-use Rattle.node_core.specs.Effects.{changes_named, proposes, repeated}
-use Rattle.byte_world.specs.node_moves.Moves.{done}
-use Rattle.byte_world.specs.node_moves.Moves.NodeCall.{takes, hands_out}
+use Rattle.world_base.specs.declared.node_core.ConnectionStage.TheVariants.{Proposed}
+use Rattle.world_base.specs.declared.node_core.item.Item.TheVariants.{Opened, Bytes}
+use Rattle.world_base.specs.node_connections.Connections.{fresh}
+use Rattle.world_base.specs.node_core.Core.{CoreState, opening_core, rules}
+use Rattle.world_base.specs.node_core.Failing.{reports_failed}
+use Rattle.world_base.specs.node_core.Handing.{hands_over}
+use Rattle.world_base.specs.node_core.Reading.{changes, reads_next}
+use Rattle.world_base.specs.node_core.Step.{with_next_connection, settled}
+use Rattle.world_base.specs.node_core.Effects.{changes_named, proposes, repeated}
+use Rattle.headline.specs.node_moves.Moves.{done}
+use Rattle.headline.specs.node_moves.Moves.NodeCall.{takes, hands_out}
 use Rattle.exactly_once.specs.Rows.{asks_for_news, news, writer}
 use Rattle.broker_spec.specs.Connection.{first_connection}
 use Rattle.headline.specs.Rows.{list_done, one_node, said}

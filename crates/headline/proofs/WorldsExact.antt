@@ -13,26 +13,26 @@ use Rattle.client_base.specs.State.{ClientState}
 use Rattle.exactly_once.specs.Carried.{own_publications}
 use Rattle.exactly_once.specs.Unexpelled.{IsUnexpelled}
 use Rattle.exactly_once.proofs.sessions.FirstSession.{unexpelled_in_step}
-use Rattle.snapshots.proofs.MomentsAgree.{has_agreed}
-use Rattle.packet_world.specs.Exact.{IsExactInStep as IsExactBeside}
-use Rattle.packet_world.specs.World.{ClientsAreApart, ClientEnds, story_of as story_beside}
-use Rattle.packet_world.proofs.Lists.{each_by, each_get}
-use Rattle.packet_world.proofs.WorldsExact.{packet_worlds_are_exact as worlds_beside_are_exact}
-use Rattle.node_core.specs.Core.{rules}
-use Rattle.node_group.specs.Group.{moment_of_nodes}
-use Rattle.node_group.specs.Steps.{GroupTrace}
-use Rattle.node_group.proofs.Placed.{get_mapped}
-use Rattle.byte_world.specs.Carried.{trace_of}
-use Rattle.byte_world.specs.Published.{published_of, published_on_way}
-use Rattle.byte_world.specs.World.{ClientPipes, ByteWorld}
-use Rattle.byte_world.proofs.PipesInOrder.{in_order}
+use Rattle.agreement.proofs.of_cut_logs.MomentsAgree.{has_agreed}
+use Rattle.headline.specs.packet_world.Exact.{IsExactInStep as IsExactBeside}
+use Rattle.headline.specs.packet_world.World.{ClientsAreApart, ClientEnds, story_of as story_beside}
+use Rattle.headline.proofs.of_packet_world.Lists.{each_by, each_get}
+use Rattle.headline.proofs.of_packet_world.WorldsExact.{packet_worlds_are_exact as worlds_beside_are_exact}
+use Rattle.world_base.specs.node_core.Core.{rules}
+use Rattle.headline.specs.node_group.Group.{moment_of_nodes}
+use Rattle.headline.specs.node_group.Steps.{GroupTrace}
+use Rattle.headline.proofs.of_node_group.Placed.{get_mapped}
+use Rattle.headline.specs.byte_world.Carried.{trace_of}
+use Rattle.headline.specs.byte_world.Published.{published_of, published_on_way}
+use Rattle.headline.specs.byte_world.World.{ClientPipes, ByteWorld}
+use Rattle.headline.proofs.of_byte_world.PipesInOrder.{in_order}
 use Rattle.headline.specs.Exact.{IsExactBy, IsExactInStep, IsInOneSession, IsShownBy, WorldsAreExact, story_of}
 use Rattle.headline.specs.Promise.{Promise, PromiseBy}
 use Rattle.headline.proofs.AllBeside.{goes_beside}
 use Rattle.headline.proofs.Beside.{Alone, Beside, ends_alone}
 use Rattle.headline.proofs.ExactUntaken.{exactly_once_untaken, in_step_untaken, one_session_untaken, same_accepted_on, same_welcome}
 use Rattle.headline.proofs.GoesBeside.{GoesBeside}
-use Rattle.node_group.proofs.CarriedInOrder.{IsAgreedSo}
+use Rattle.headline.proofs.of_node_group.CarriedInOrder.{IsAgreedSo}
 use Rattle.headline.proofs.OwnPublished.{own_published}
 use Rattle.headline.proofs.Places.{map_back}
 use Rattle.headline.proofs.PromisesKept.{promise_kept}

@@ -12,19 +12,19 @@ use Rattle.lists.specs.Lists.In.{here, there}
 use Rattle.exactly_once.specs.Sides.{ClientConnection}
 use Rattle.exactly_once.specs.StoryCommands.{command_of, is_packet_of}
 use Rattle.exactly_once.proofs.Takes.{same_name_self}
-use Rattle.packet_world.specs.Exact.{commands_from}
-use Rattle.packet_world.specs.Steps.{is_of_connection}
-use Rattle.packet_world.proofs.Answers.{of_name}
-use Rattle.packet_world.proofs.Lists.{each_get, stands_within, there_is}
-use Rattle.byte_world.specs.node_moves.Ends.{packet_commands_from}
-use Rattle.node_group.specs.Steps.{GroupTrace}
-use Rattle.node_group.specs.Order.{packet_commands as packets_in_list}
-use Rattle.node_group.proofs.Placed.{get_mapped}
-use Rattle.byte_world.specs.World.{ClientPipes, HasPipe, Pipe, ByteWorld, packets_of}
-use Rattle.byte_world.proofs.WorldsHold.{Holds, IsKnown, IsUnheard}
+use Rattle.headline.specs.packet_world.Exact.{commands_from}
+use Rattle.headline.specs.packet_world.Steps.{is_of_connection}
+use Rattle.headline.proofs.of_packet_world.Answers.{of_name}
+use Rattle.headline.proofs.of_packet_world.Lists.{each_get, stands_within, there_is}
+use Rattle.headline.specs.node_moves.Ends.{packet_commands_from}
+use Rattle.headline.specs.node_group.Steps.{GroupTrace}
+use Rattle.headline.specs.node_group.Order.{packet_commands as packets_in_list}
+use Rattle.headline.proofs.of_node_group.Placed.{get_mapped}
+use Rattle.headline.specs.byte_world.World.{ClientPipes, HasPipe, Pipe, ByteWorld, packets_of}
+use Rattle.headline.proofs.of_byte_world.WorldsHold.{Holds, IsKnown, IsUnheard}
 use Rattle.headline.proofs.Untaken.{untaken_connection}
 use Rattle.headline.proofs.Beside.{Alone, IsOfWritten, alone}
-use Rattle.node_group.proofs.CarriedInOrder.{CarriedSo, IsAgreedSo, carries_each}
+use Rattle.headline.proofs.of_node_group.CarriedInOrder.{CarriedSo, IsAgreedSo, carries_each}
 use Rattle.headline.proofs.Places.{map_back}
 
 abbrev pub pipes_alone : ClientPipes → Alone

@@ -16,17 +16,17 @@ use Rattle.exactly_once.specs.LivesAreExact.{ExactlyOnceOverSessions}
 use Rattle.exactly_once.specs.Unexpelled.{HasOneSession, IsUnexpelled}
 use Rattle.exactly_once.specs.Sides.{ClientConnection}
 use Rattle.exactly_once.specs.Story.{Story}
-use Rattle.snapshots.specs.Moments.{IsAgreed}
-use Rattle.packet_world.specs.World.{ClientsAreApart}
-use Rattle.node_group.specs.Group.{moment_of_nodes}
-use Rattle.node_group.specs.Steps.{all_proposed, groups_on_trace}
-use Rattle.node_group.specs.GroupMoments.{HasMoments}
-use Rattle.byte_world.specs.World.{ClientPipes, HasPipe, Pipe, ByteWorld}
-use Rattle.byte_world.specs.Carried.{trace_of}
-use Rattle.byte_world.specs.Accepted.{accepted_at_qos2}
-use Rattle.byte_world.specs.Published.{published_of, published_on_way}
-use Rattle.byte_world.specs.Steps.{Reached}
-use Rattle.byte_world.specs.InPipes.{IsInOrder}
+use Rattle.agreement.specs.cut_logs.Moments.{IsAgreed}
+use Rattle.headline.specs.packet_world.World.{ClientsAreApart}
+use Rattle.headline.specs.node_group.Group.{moment_of_nodes}
+use Rattle.headline.specs.node_group.Steps.{all_proposed, groups_on_trace}
+use Rattle.headline.specs.node_group.GroupMoments.{HasMoments}
+use Rattle.headline.specs.byte_world.World.{ClientPipes, HasPipe, Pipe, ByteWorld}
+use Rattle.headline.specs.byte_world.Carried.{trace_of}
+use Rattle.headline.specs.byte_world.Accepted.{accepted_at_qos2}
+use Rattle.headline.specs.byte_world.Published.{published_of, published_on_way}
+use Rattle.headline.specs.byte_world.Steps.{Reached}
+use Rattle.headline.specs.byte_world.InPipes.{IsInOrder}
 use Rattle.headline.specs.Promise.{Promise}
 
 -- one client's story, by the list on which the nodes agree

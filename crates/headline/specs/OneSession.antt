@@ -12,7 +12,7 @@ use Rattle.exactly_once.specs.Acceptance.{is_entry_released, qos2_entries}
 use Rattle.exactly_once.specs.InStep.{IsFirstSession}
 use Rattle.headline.specs.Promise.{PromiseInStep}
 use Rattle.headline.specs.Shown.{at_qos2, new_of, unacknowledged_of}
-use Rattle.byte_world.specs.Accepted.{accepted_at_qos2}
+use Rattle.headline.specs.byte_world.Accepted.{accepted_at_qos2}
 
 -- for this client, by the places of the list
 pub record PromiseOfOne (client : Client) (published : List Publication) (past : Past)

@@ -12,9 +12,9 @@ use Rattle.session_base.specs.Publication.{publish_for}
 use Rattle.exactly_once.specs.Acceptance.{accepted_on}
 use Rattle.exactly_once.specs.Rows.{asks_for_news, news, writer}
 use Rattle.broker_spec.specs.Connection.{first_connection}
-use Rattle.node_core.specs.Core.{CoreState}
-use Rattle.byte_world.specs.Steps.{Reached}
-use Rattle.byte_world.specs.World.{ClientPipes, ByteWorld}
+use Rattle.world_base.specs.node_core.Core.{CoreState}
+use Rattle.headline.specs.byte_world.Steps.{Reached}
+use Rattle.headline.specs.byte_world.World.{ClientPipes, ByteWorld}
 
 -- a group of one node
 abbrev pub one_node : Config

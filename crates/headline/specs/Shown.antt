@@ -26,7 +26,7 @@ use Rattle.exactly_once.specs.Carried.{is_qos2}
 use Rattle.exactly_once.specs.Acceptance.{is_entry_released, qos2_entries}
 use Rattle.exactly_once.specs.InStep.{entries_in, starts_of}
 use Rattle.exactly_once.specs.Lives.{NumbersRise}
-use Rattle.byte_world.specs.Accepted.{accepted_at_qos2}
+use Rattle.headline.specs.byte_world.Accepted.{accepted_at_qos2}
 
 -- ---- of its publications
 

@@ -2,7 +2,11 @@
 //! which the nodes agree; and runs of such a world, computed to their ends.
 #![tactic(auto)]
 
+pub mod byte_world;
 mod laws;
+pub mod node_group;
+pub mod node_moves;
+pub mod packet_world;
 mod rows;
 
 pub use laws::{one_session_is_promised, worlds_are_exact};

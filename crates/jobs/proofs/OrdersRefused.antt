@@ -4,7 +4,7 @@ use Rattle.std.specs.Str.Pattern.{FindsTextPrefix, StripsPrefix}
 use Rattle.std.proofs.Math.ListN.{get_or-map}
 use Rattle.std.proofs.lemmas.Bool.{false≢true}
 use Rattle.std.proofs.lemmas.List.{get_or-map as get_or-mapped}
-use Rattle.command_line.specs.packet_base.ClientId.{client_fault}
+use Rattle.packet_base.specs.ClientId.{client_fault}
 use Rattle.script.specs.Fields.{Text, fields_of, parts_of, texts}
 use Rattle.jobs.specs.Orders.{AreNumbers, IsExpel, IsNoExpel, IsNoOrder, IsOrder, IsWordRefused, LacksNumber, OrderNothing, Orders, RefusesLine, named_node}
 use Rattle.jobs.specs.declared.obeying.Order.{Order}

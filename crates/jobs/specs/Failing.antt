@@ -1,13 +1,13 @@
 -- What has to be right in what the user wrote, and how a job fails if it is not.
 use Rattle.std.specs.Prelude.{◌≡◌, ◌⊎◌, ℕ, List, None}
 use Rattle.command_line.specs.Tables.{IsTableText}
-use Rattle.command_line.specs.packet_base.ClientId.{client_fault}
+use Rattle.packet_base.specs.ClientId.{client_fault}
 use Rattle.command_line.specs.declared.job.Job.{Job}
 use Rattle.command_line.specs.declared.job.Job.TheVariants as jobs
 use Rattle.command_line.specs.declared.job.Publish.{Publish}
 use Rattle.command_line.specs.declared.job.Subscribe.{Subscribe}
 use Rattle.command_line.specs.declared.node_table.NodeTable.{NodeTable}
-use Rattle.script.specs.session_base.declared.publication.Publication.{Publication}
+use Rattle.session_base.specs.declared.publication.Publication.{Publication}
 use Rattle.topics.specs.Text.{filter_fault}
 use Rattle.user_client.specs.Refusals.{IsPublishable, RefusesListener, RefusesPublisher}
 use Rattle.user_client.specs.declared.user_client_error.UserClientError.{UserClientError}

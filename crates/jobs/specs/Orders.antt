@@ -3,11 +3,11 @@ use Rattle.std.specs.Prelude.{◌≡◌, ◌==◌, ℕ, ◌⊎◌, List, [], ◌
 use Rattle.std.specs.List.{Contains}
 use Rattle.std.specs.Str.Parse.{digits_value}
 use Rattle.script.specs.Fields.{Text, fields_of, is_decimal, parts_of}
-use Rattle.script.specs.ballot_base.declared.config.Config.{Config}
-use Rattle.script.specs.ballot_base.declared.status.Role.{Role}
-use Rattle.script.specs.ballot_base.declared.status.Role.TheVariants as roles
-use Rattle.script.specs.ballot_base.declared.status.Status.{Status}
-use Rattle.command_line.specs.packet_base.ClientId.{client_fault}
+use Rattle.ballot_base.specs.declared.config.Config.{Config}
+use Rattle.ballot_base.specs.declared.status.Role.{Role}
+use Rattle.ballot_base.specs.declared.status.Role.TheVariants as roles
+use Rattle.ballot_base.specs.declared.status.Status.{Status}
+use Rattle.packet_base.specs.ClientId.{client_fault}
 use Rattle.topics.specs.Refusals.{malformed_number}
 use Rattle.topics.specs.declared.malformed.MalformedKind.{MalformedKind}
 use Rattle.topics.specs.declared.malformed.MalformedKind.TheVariants as kinds

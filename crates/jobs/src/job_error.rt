@@ -4,8 +4,10 @@ ghost use Rattle.std.specs.Prelude.{◌≡◌};
 ghost use Rattle.jobs.specs.Errors.{exit_status};
 
 use command_line::TableFault;
+use machine::Memory;
 use play::PlayError;
-use server::{Memory, ServeError, THREADS};
+use server::ServeError;
+use server::node_threads::THREADS;
 use std::alloc::{AllocError, AllocFailed};
 use std::io::ErrorKind;
 use thiserror::Error;

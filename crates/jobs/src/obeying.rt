@@ -1,7 +1,7 @@
 // Orders to the nodes of a server: lines of its input.
 
 ghost use Rattle.std.specs.Prelude.{◌≡◌, None, IfErr, IfOk, OnOk};
-ghost use Rattle.command_line.specs.packet_base.ClientId.{client_fault};
+ghost use Rattle.packet_base.specs.ClientId.{client_fault};
 ghost use Rattle.script.specs.Fields.{texts};
 ghost use Rattle.jobs.specs.Orders.{IsNoOrder, IsOrder, IsWordRefused, OrderNothing, Orders, RefusesLine, role_of};
 ghost use Rattle.jobs.specs.declared.obeying.Order.TheVariants as orders;
@@ -9,10 +9,13 @@ ghost use Rattle.jobs.specs.declared.obeying.Order.TheVariants as orders;
 use crate::job_error::JobError;
 use crate::word_fault::WordFault;
 use crate::words::{client_of, members_of, named_node, no_order};
+use ballot_base::errors::ProposeError;
+use ballot_base::{Config, MAX_NODE, Status};
 use command_line::ListeningNode;
-use packet::ClientId;
+use master::Idle;
+use packet_base::ClientId;
+use post::Cluster;
 use script::fields_of;
-use server::{Cluster, Config, Idle, MAX_NODE, ProposeError, Status};
 use std::alloc::Global;
 use std::io::{BufRead, ErrorKind, Write};
 use std::sync::Wait;

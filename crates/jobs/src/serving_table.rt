@@ -9,7 +9,7 @@ use crate::obeying::obey;
 use crate::reading::bytes_of;
 use crate::writing::write;
 use command_line::{ListeningNode, NodeTable, Serve, table};
-use server::{Listener, MAX_CONNECTIONS, serve_while};
+use server::serve_while;
 use std::fs::File;
 use std::io::{BufRead, Write};
 use std::net::{Net, TcpListener, TcpStream};
@@ -18,6 +18,7 @@ use std::str;
 use std::sync::Wait;
 use std::thread::Threads;
 use std::time::Clock;
+use streams::{Listener, MAX_CONNECTIONS};
 
 /// How many files a node may have open at once: its listener, its connections, a refused one, and
 /// one by which its listener is closed. None of them is open yet when they are tried.

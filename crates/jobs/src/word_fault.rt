@@ -3,7 +3,7 @@
 ghost use Rattle.std.specs.Prelude.{◌≡◌};
 ghost use Rattle.jobs.specs.Orders.{refused_number};
 
-use server::Memory;
+use machine::Memory;
 use topics::MalformedKind;
 
 /// Why a word of an order, or of the command line, is refused.

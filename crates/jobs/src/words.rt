@@ -1,16 +1,17 @@
 // Words of orders, and of the command line: numbers of nodes and identifiers of clients.
 
 ghost use Rattle.std.specs.Prelude.{◌≡◌, Some, None, IfErr, IfOk, OnOk};
-ghost use Rattle.command_line.specs.packet_base.ClientId.{client_fault};
+ghost use Rattle.packet_base.specs.ClientId.{client_fault};
 ghost use Rattle.std.specs.Char.{is_ascii_digit};
 ghost use Rattle.std.specs.List.{list_all};
 ghost use Rattle.script.specs.Fields.{is_decimal};
 ghost use Rattle.jobs.specs.Orders.{AreNumbers, IsNoOrder, IsWordRefused, LacksNumber, named_node, no_order};
 
 use crate::word_fault::WordFault;
-use packet::ClientId;
+use ballot_base::Members;
+use master::Idle;
+use packet_base::ClientId;
 use script::parts_of;
-use server::{Idle, Members};
 use std::alloc::Global;
 
 /// Returns the refusal of a line that is no order.

@@ -4,34 +4,34 @@ use Rattle.std.specs.Prelude.{slice_get, ◌==◌, ◌&&◌, nat_lt, nat_le}
 use Rattle.std.proofs.lemmas.Bool.{and_parts, cases_eq, cases_lt, eq-eqb, ne_eqb, le-ltb, lt-ltb}
 use Rattle.std.proofs.lemmas.List.{length-take-le}
 use Rattle.machine.specs.Machine.{Rules}
-use Rattle.ballot.specs.lists.Lists.{In, IsPrefixOf}
-use Rattle.ballot.specs.lists.Lists.In.{here, there}
-use Rattle.ballot.proofs.of_lists.Prefixes.{prefix_length, prefix_then, take_prefix}
-use Rattle.ballot.specs.ballot_base.declared.config.Config.{Config}
-use Rattle.ballot.specs.ballot_base.LawfulConfig.{are_rising}
-use Rattle.snapshots.specs.whole.Messages.{Message}
-use Rattle.snapshots.specs.whole.Messages.{Body}
-use Rattle.snapshots.specs.whole.Messages.Body.{NewBallot, Join, State, Install, Installed, Activate, Activated, Superseded, Append, Held, Commit}
-use Rattle.snapshots.specs.whole.Replica.{ReplicaState}
-use Rattle.snapshots.specs.agreement.World.{GroupWorld, log_of}
-use Rattle.snapshots.specs.agreement.Moments.{Moment, Moments, IsAgreed}
-use Rattle.snapshots.specs.agreement.Agreement.{Holds}
-use Rattle.snapshots.specs.agreement.Inside.Ballots.{Given, History, Line}
-use Rattle.snapshots.specs.agreement.Inside.BallotsStand.{IsChain}
-use Rattle.snapshots.specs.agreement.Inside.Ballots.Told.{told_as_primary}
-use Rattle.snapshots.specs.agreement.Inside.Chosen.{ChosenList, IsAgreedIn}
-use Rattle.snapshots.specs.agreement.Inside.Serves.{Serves}
-use Rattle.snapshots.specs.agreement.Inside.Sound.{IsSoundWorld}
-use Rattle.snapshots.specs.agreement.Inside.Saying.{SpeaksTruth}
-use Rattle.snapshots.specs.agreement.Inside.ToldLengths.{chosen_length, least_of, max_told, told_by, told_in, told_length}
-use Rattle.snapshots.proofs.of_agreement.Agreed.AgreedExists.{least_each, least_most, least_top, newest_agreed}
-use Rattle.snapshots.proofs.of_agreement.Agreed.MaxTold.{one_given, told_whole}
-use Rattle.snapshots.proofs.of_agreement.Agreed.MomentsAgree.{agreed_known, has_agreed, nodes_agree}
-use Rattle.snapshots.proofs.of_agreement.Agreed.MomentsKnown.{moments_known}
-use Rattle.snapshots.proofs.of_agreement.Frame.Bases.{chosen_told, one_line}
-use Rattle.snapshots.proofs.of_agreement.Frame.Framing.{within_of}
-use Rattle.snapshots.proofs.of_agreement.Frame.SaysLater.{told_less}
-use Rattle.snapshots.proofs.of_agreement.Masters.Assigned.{at_most_newest}
+use Rattle.lists.specs.Lists.{In, IsPrefixOf}
+use Rattle.lists.specs.Lists.In.{here, there}
+use Rattle.lists.proofs.Prefixes.{prefix_length, prefix_then, take_prefix}
+use Rattle.ballot_base.specs.declared.config.Config.{Config}
+use Rattle.ballot_base.specs.LawfulConfig.{are_rising}
+use Rattle.agreement.specs.whole_logs.Messages.{Message}
+use Rattle.agreement.specs.whole_logs.Messages.{Body}
+use Rattle.agreement.specs.whole_logs.Messages.Body.{NewBallot, Join, State, Install, Installed, Activate, Activated, Superseded, Append, Held, Commit}
+use Rattle.agreement.specs.whole_logs.Replica.{ReplicaState}
+use Rattle.agreement.specs.World.{GroupWorld, log_of}
+use Rattle.agreement.specs.Moments.{Moment, Moments, IsAgreed}
+use Rattle.agreement.specs.Agreement.{Holds}
+use Rattle.agreement.specs.Inside.Ballots.{Given, History, Line}
+use Rattle.agreement.specs.Inside.BallotsStand.{IsChain}
+use Rattle.agreement.specs.Inside.Ballots.Told.{told_as_primary}
+use Rattle.agreement.specs.Inside.Chosen.{ChosenList, IsAgreedIn}
+use Rattle.agreement.specs.Inside.Serves.{Serves}
+use Rattle.agreement.specs.Inside.Sound.{IsSoundWorld}
+use Rattle.agreement.specs.Inside.Saying.{SpeaksTruth}
+use Rattle.agreement.specs.Inside.ToldLengths.{chosen_length, least_of, max_told, told_by, told_in, told_length}
+use Rattle.agreement.proofs.Agreed.AgreedExists.{least_each, least_most, least_top, newest_agreed}
+use Rattle.agreement.proofs.Agreed.MaxTold.{one_given, told_whole}
+use Rattle.agreement.proofs.Agreed.MomentsAgree.{agreed_known, has_agreed, nodes_agree}
+use Rattle.agreement.proofs.Agreed.MomentsKnown.{moments_known}
+use Rattle.agreement.proofs.Frame.Bases.{chosen_told, one_line}
+use Rattle.agreement.proofs.Frame.Framing.{within_of}
+use Rattle.agreement.proofs.Frame.SaysLater.{told_less}
+use Rattle.agreement.proofs.Masters.Assigned.{at_most_newest}
 use Rattle.master.specs.Inside.{ToldIn, least_but_one, next_least}
 use Rattle.master.proofs.Untold.{told_none}
 use Rattle.master.proofs.Lawful.{AreLawful, moments_lawful, rising_above}

@@ -1,13 +1,13 @@
 -- Archived.antt: the record of places after those that a replica applied were added to it.
 use Rattle.std.proofs.Common.{◌≡◌, ℕ, zero, suc, ◌+◌, ◌-◌, ◌<◌, ◌≤◌, Bool, true, false, List, [], ◌∷◌, ◌++◌, length, take, drop, Result, OnOk, refl, ap, ap₂, sym, ◌∙◌, subst, arith}
 use Rattle.std.proofs.lemmas.List.{append-nil, drop-take}
-use Rattle.ballot.specs.lists.Lists.{IsPrefixOf}
-use Rattle.ballot.proofs.of_lists.Prefixes.{take_prefix}
-use Rattle.ballot.specs.ballot_base.Logs.{Log, part, places}
-use Rattle.ballot.specs.ballot_base.Replica.{ReplicaState}
-use Rattle.snapshots.specs.Whole.{whole_log}
-use Rattle.snapshots.specs.World.{recorded}
-use Rattle.snapshots.proofs.Fronts.{whole_part}
+use Rattle.lists.specs.Lists.{IsPrefixOf}
+use Rattle.lists.proofs.Prefixes.{take_prefix}
+use Rattle.ballot_base.specs.Logs.{Log, part, places}
+use Rattle.ballot_base.specs.Replica.{ReplicaState}
+use Rattle.agreement.specs.cut_logs.Whole.{whole_log}
+use Rattle.agreement.specs.cut_logs.World.{recorded}
+use Rattle.agreement.proofs.of_cut_logs.Fronts.{whole_part}
 
 -- the places that are added
 pub recorded_part : {S C : Type 0} (archive : List C) (r : ReplicaState S C) → r.log.base ≤ length archive →

@@ -3,17 +3,17 @@ use Rattle.std.proofs.Common.{◌≡◌, ℕ, ◌+◌, ◌-◌, ◌^◌, ◌<◌
 use Rattle.std.proofs.lemmas.Bool.{cases_Bool, cases_lt}
 use Rattle.std.proofs.lemmas.List.{length-append}
 use Rattle.machine.specs.Machine.{Rules}
-use Rattle.ballot.specs.ballot_base.declared.message.Effect.{Effect}
-use Rattle.ballot.specs.ballot_base.Logs.{places}
-use Rattle.ballot.specs.ballot_base.Losses.{SendsAndAddsNothing, Loses, AppendedStepOrLost, ReplicaStepOrLost, Thinned, one_more}
-use Rattle.ballot.specs.ballot_base.Losses.Thinned.{none, keeps, loses}
-use Rattle.ballot.specs.ballot_base.Protocol.{Input, replica_step}
-use Rattle.ballot.specs.ballot_base.Protocol.Input.{Proposes, Ticks}
-use Rattle.ballot.specs.ballot_base.Replica.{ReplicaState, CountedReplica, is_active}
-use Rattle.ballot.specs.ballot_base.Sending.{Outcome}
-use Rattle.ballot.specs.ballot_base.Serving.{max_places, proposed}
-use Rattle.ballot.proofs.of_ballot_base.StepRows.{added-log, proposed-adds, proposed-full, proposed-not_active}
-use Rattle.ballot.proofs.of_ballot_base.ThinnedEffects.{Thinned-same}
+use Rattle.ballot_base.specs.declared.message.Effect.{Effect}
+use Rattle.ballot_base.specs.Logs.{places}
+use Rattle.ballot_base.specs.Losses.{SendsAndAddsNothing, Loses, AppendedStepOrLost, ReplicaStepOrLost, Thinned, one_more}
+use Rattle.ballot_base.specs.Losses.Thinned.{none, keeps, loses}
+use Rattle.ballot_base.specs.Protocol.{Input, replica_step}
+use Rattle.ballot_base.specs.Protocol.Input.{Proposes, Ticks}
+use Rattle.ballot_base.specs.Replica.{ReplicaState, CountedReplica, is_active}
+use Rattle.ballot_base.specs.Sending.{Outcome}
+use Rattle.ballot_base.specs.Serving.{max_places, proposed}
+use Rattle.ballot_base.proofs.StepRows.{added-log, proposed-adds, proposed-full, proposed-not_active}
+use Rattle.ballot_base.proofs.ThinnedEffects.{Thinned-same}
 use Rattle.ballot.proofs.TicksTaken.{ticked-state}
 use Rattle.master.specs.Inside.Losing.{InputStepOrLost, IsRead}
 

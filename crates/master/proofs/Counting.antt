@@ -3,28 +3,28 @@ use Rattle.std.proofs.Common.{◌≡◌, ℕ, zero, suc, get_or, ◌+◌, ◌-�
 use Rattle.std.specs.Prelude.{slice_get, nat_lt, ◌&&◌}
 use Rattle.std.proofs.lemmas.Bool.{le-ltb, lt-ltb}
 use Rattle.machine.specs.Machine.{Rules}
-use Rattle.ballot.specs.ballot_base.declared.message.Message.{Message}
-use Rattle.ballot.specs.ballot_base.declared.message.Effect.{Effect}
-use Rattle.ballot.specs.ballot_base.declared.status.Status.{Status}
-use Rattle.ballot.specs.ballot_base.Losses.{Loses, halted, one_more}
-use Rattle.ballot.specs.ballot_base.Protocol.{Input, replica_step}
-use Rattle.ballot.specs.ballot_base.Protocol.Input.{Receives, Proposes}
-use Rattle.ballot.specs.ballot_base.Replica.{ReplicaState, is_active, status_of}
-use Rattle.ballot.specs.ballot_base.Serving.{max_places}
-use Rattle.ballot.specs.ballot_base.Cutting.{can_cut}
-use Rattle.ballot.specs.ballot_base.Logs.{places}
+use Rattle.ballot_base.specs.declared.message.Message.{Message}
+use Rattle.ballot_base.specs.declared.message.Effect.{Effect}
+use Rattle.ballot_base.specs.declared.status.Status.{Status}
+use Rattle.ballot_base.specs.Losses.{Loses, halted, one_more}
+use Rattle.ballot_base.specs.Protocol.{Input, replica_step}
+use Rattle.ballot_base.specs.Protocol.Input.{Receives, Proposes}
+use Rattle.ballot_base.specs.Replica.{ReplicaState, is_active, status_of}
+use Rattle.ballot_base.specs.Serving.{max_places}
+use Rattle.ballot_base.specs.Cutting.{can_cut}
+use Rattle.ballot_base.specs.Logs.{places}
 use Rattle.master.specs.declared.event.Event.{Event}
 use Rattle.master.specs.declared.event.Event.TheVariants.{Assign, Deliver}
-use Rattle.snapshots.specs.World.{CutGroupWorld, moved}
-use Rattle.snapshots.specs.Moments.{Moment}
-use Rattle.ballot.specs.ballot_base.declared.config.Config.{Config}
-use Rattle.ballot.specs.lists.Lists.{In}
-use Rattle.ballot.proofs.of_lists.Members.{in_at}
-use Rattle.snapshots.specs.Steps.{sends_from_master}
-use Rattle.snapshots.specs.Masters.{MasterOutcome, activated, assigned}
-use Rattle.snapshots.specs.agreement.MasterState.{MasterState, refusal}
-use Rattle.ballot.specs.ballot_base.declared.message.Body.{Body}
-use Rattle.ballot.specs.ballot_base.declared.message.Body.TheVariants.{NewBallot, Join, State, Install, Installed, Activate, Activated, Superseded, Append, Held, Commit}
+use Rattle.agreement.specs.cut_logs.World.{CutGroupWorld, moved}
+use Rattle.agreement.specs.cut_logs.Moments.{Moment}
+use Rattle.ballot_base.specs.declared.config.Config.{Config}
+use Rattle.lists.specs.Lists.{In}
+use Rattle.lists.proofs.Members.{in_at}
+use Rattle.agreement.specs.cut_logs.Steps.{sends_from_master}
+use Rattle.agreement.specs.cut_logs.Masters.{MasterOutcome, activated, assigned}
+use Rattle.agreement.specs.MasterState.{MasterState, refusal}
+use Rattle.ballot_base.specs.declared.message.Body.{Body}
+use Rattle.ballot_base.specs.declared.message.Body.TheVariants.{NewBallot, Join, State, Install, Installed, Activate, Activated, Superseded, Append, Held, Commit}
 use Rattle.master.specs.Outcomes.EventOutcome.{by_node, by_cut, by_master, unheeded}
 use Rattle.master.specs.Group.{GroupState}
 use Rattle.master.specs.Exact.{takes, hears, comes, gives, event_outcome, moment_after_event, group_step}

@@ -5,33 +5,33 @@ use Rattle.std.proofs.Common.{◌≡◌, ℕ, ◌<◌, ◌≤◌, ◌⊎◌, inl
 use Rattle.std.specs.Prelude.{◌==◌, ◌&&◌}
 use Rattle.std.proofs.lemmas.Bool.{cases_Bool, cases_lt}
 use Rattle.machine.specs.Machine.{Rules}
-use Rattle.ballot.specs.lists.Lists.{In}
-use Rattle.ballot.specs.ballot_base.declared.message.Body.{Body}
-use Rattle.ballot.specs.ballot_base.declared.message.Body.TheVariants.{NewBallot, Join, State, Install, Installed, Activate, Activated, Superseded, Append, Held, Commit}
-use Rattle.ballot.specs.ballot_base.Changing.{install_effects, lacks, on_install, on_new_ballot, on_state, waits_for}
-use Rattle.ballot.specs.ballot_base.declared.config.Config.{Config}
-use Rattle.ballot.specs.ballot_base.declared.message.Effect.{Effect}
-use Rattle.ballot.specs.ballot_base.Logs.{Log, places}
-use Rattle.ballot.specs.ballot_base.Losses.{SendsAndAddsNothing}
-use Rattle.ballot.specs.ballot_base.declared.message.Message.{Message}
-use Rattle.ballot.specs.ballot_base.Protocol.{received}
-use Rattle.ballot.specs.ballot_base.Replica.{ReplicaState, others}
-use Rattle.ballot.specs.ballot_base.declared.status.Role.TheVariants.{Installing}
-use Rattle.ballot.specs.ballot_base.Sending.{Outcome, message_to_each, nothing_done}
-use Rattle.ballot.specs.ballot_base.Serving.{follows, on_append}
-use Rattle.ballot.specs.ballot_base.Taking.{taken}
-use Rattle.ballot.proofs.of_ballot_base.ChangeRows.{on_install-answers, on_install-stays, on_install-takes, on_install-unread, on_new_ballot-joins, on_new_ballot-stays, on_state-stays, on_state-takes, on_state-unread}
-use Rattle.ballot.proofs.of_ballot_base.MessageRows.{on_append-elsewhere, on_append-gap, on_append-takes}
-use Rattle.snapshots.specs.agreement.Inside.Ballots.{Given, History}
-use Rattle.snapshots.specs.agreement.Inside.Saying.{IsOf, SpeaksTruth}
-use Rattle.snapshots.specs.agreement.Moments.{Moment as WholeMoment, Moments as WholeMoments}
-use Rattle.snapshots.specs.agreement.World.{GroupWorld as WholeWorld}
-use Rattle.snapshots.specs.whole.Messages.Body.{NewBallot as whole_new_ballot}
-use Rattle.snapshots.proofs.of_agreement.Agreed.MomentsKnown.{moments_known}
-use Rattle.snapshots.specs.Moments.{Moment, Moments, whole_moment}
-use Rattle.snapshots.specs.World.{whole_sent}
-use Rattle.snapshots.proofs.MomentsKept.{moments_stand}
-use Rattle.snapshots.proofs.Views.{in_whole}
+use Rattle.lists.specs.Lists.{In}
+use Rattle.ballot_base.specs.declared.message.Body.{Body}
+use Rattle.ballot_base.specs.declared.message.Body.TheVariants.{NewBallot, Join, State, Install, Installed, Activate, Activated, Superseded, Append, Held, Commit}
+use Rattle.ballot_base.specs.Changing.{install_effects, lacks, on_install, on_new_ballot, on_state, waits_for}
+use Rattle.ballot_base.specs.declared.config.Config.{Config}
+use Rattle.ballot_base.specs.declared.message.Effect.{Effect}
+use Rattle.ballot_base.specs.Logs.{Log, places}
+use Rattle.ballot_base.specs.Losses.{SendsAndAddsNothing}
+use Rattle.ballot_base.specs.declared.message.Message.{Message}
+use Rattle.ballot_base.specs.Protocol.{received}
+use Rattle.ballot_base.specs.Replica.{ReplicaState, others}
+use Rattle.ballot_base.specs.declared.status.Role.TheVariants.{Installing}
+use Rattle.ballot_base.specs.Sending.{Outcome, message_to_each, nothing_done}
+use Rattle.ballot_base.specs.Serving.{follows, on_append}
+use Rattle.ballot_base.specs.Taking.{taken}
+use Rattle.ballot_base.proofs.ChangeRows.{on_install-answers, on_install-stays, on_install-takes, on_install-unread, on_new_ballot-joins, on_new_ballot-stays, on_state-stays, on_state-takes, on_state-unread}
+use Rattle.ballot_base.proofs.MessageRows.{on_append-elsewhere, on_append-gap, on_append-takes}
+use Rattle.agreement.specs.Inside.Ballots.{Given, History}
+use Rattle.agreement.specs.Inside.Saying.{IsOf, SpeaksTruth}
+use Rattle.agreement.specs.Moments.{Moment as WholeMoment, Moments as WholeMoments}
+use Rattle.agreement.specs.World.{GroupWorld as WholeWorld}
+use Rattle.agreement.specs.whole_logs.Messages.Body.{NewBallot as whole_new_ballot}
+use Rattle.agreement.proofs.Agreed.MomentsKnown.{moments_known}
+use Rattle.agreement.specs.cut_logs.Moments.{Moment, Moments, whole_moment}
+use Rattle.agreement.specs.cut_logs.World.{whole_sent}
+use Rattle.agreement.proofs.of_cut_logs.MomentsKept.{moments_stand}
+use Rattle.agreement.proofs.of_cut_logs.Views.{in_whole}
 use Rattle.master.specs.Copying.{has_numbers_alone}
 
 -- ---- the members of the ballot before

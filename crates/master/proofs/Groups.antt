@@ -5,35 +5,35 @@ use Rattle.std.proofs.lemmas.Bool.{cases_eq, ne_eqb, cases_Bool, eqb-true}
 use Rattle.std.proofs.lemmas.List.{drop_more, length-append, take-append-le, take_more}
 use Rattle.std.proofs.Math.Seq.{take-length}
 use Rattle.machine.specs.Machine.{Rules}
-use Rattle.ballot.specs.lists.Lists.{In}
-use Rattle.ballot.specs.lists.Lists.In.{here, there}
-use Rattle.ballot.proofs.of_lists.Members.{in_append}
-use Rattle.ballot.specs.ballot_base.declared.config.Config.{Config}
-use Rattle.ballot.specs.ballot_base.declared.message.Message.{Message}
-use Rattle.ballot.specs.ballot_base.declared.message.Body.{Body}
-use Rattle.ballot.specs.ballot_base.declared.message.Body.TheVariants.{NewBallot, Join, State, Install, Installed, Activate, Activated, Superseded, Append, Held, Commit}
-use Rattle.ballot.specs.ballot_base.declared.message.Effect.{Effect}
-use Rattle.ballot.specs.ballot_base.Replica.{ReplicaState, CountedReplica}
-use Rattle.snapshots.specs.World.{CutGroupWorld, messages, moved, outputs}
-use Rattle.snapshots.specs.agreement.World.{can_open}
-use Rattle.snapshots.specs.agreement.MasterState.{MasterState, assigning, activating, refusal}
-use Rattle.snapshots.specs.Masters.{assigned, activated}
-use Rattle.snapshots.specs.Moments.{Moment, Moments, opening_moment}
-use Rattle.snapshots.specs.Moments.Moments.{began, went_on}
-use Rattle.snapshots.specs.Steps.{sends_from_master}
+use Rattle.lists.specs.Lists.{In}
+use Rattle.lists.specs.Lists.In.{here, there}
+use Rattle.lists.proofs.Members.{in_append}
+use Rattle.ballot_base.specs.declared.config.Config.{Config}
+use Rattle.ballot_base.specs.declared.message.Message.{Message}
+use Rattle.ballot_base.specs.declared.message.Body.{Body}
+use Rattle.ballot_base.specs.declared.message.Body.TheVariants.{NewBallot, Join, State, Install, Installed, Activate, Activated, Superseded, Append, Held, Commit}
+use Rattle.ballot_base.specs.declared.message.Effect.{Effect}
+use Rattle.ballot_base.specs.Replica.{ReplicaState, CountedReplica}
+use Rattle.agreement.specs.cut_logs.World.{CutGroupWorld, messages, moved, outputs}
+use Rattle.agreement.specs.World.{can_open}
+use Rattle.agreement.specs.MasterState.{MasterState, assigning, activating, refusal}
+use Rattle.agreement.specs.cut_logs.Masters.{assigned, activated}
+use Rattle.agreement.specs.cut_logs.Moments.{Moment, Moments, opening_moment}
+use Rattle.agreement.specs.cut_logs.Moments.Moments.{began, went_on}
+use Rattle.agreement.specs.cut_logs.Steps.{sends_from_master}
 use Rattle.master.specs.ToldLengths.{max_told, told_by, told_in}
 use Rattle.master.proofs.Untold.{whole_untold}
 use Rattle.master.proofs.WholeTold.{max_told_whole}
-use Rattle.snapshots.specs.Moments.{whole_moment}
-use Rattle.snapshots.proofs.MomentsKept.{moments_stand}
+use Rattle.agreement.specs.cut_logs.Moments.{whole_moment}
+use Rattle.agreement.proofs.of_cut_logs.MomentsKept.{moments_stand}
 use Rattle.std.specs.Bool.{OnTrue, OnFalse}
-use Rattle.ballot.specs.ballot_base.Losses.{Loses, Thinned, halted, one_more}
-use Rattle.ballot.specs.ballot_base.Sending.{Outcome}
-use Rattle.ballot.specs.ballot_base.Protocol.{Input, replica_step}
-use Rattle.ballot.proofs.of_ballot_base.ThinnedEffects.{Thinned-same}
-use Rattle.snapshots.specs.World.{MayTake}
+use Rattle.ballot_base.specs.Losses.{Loses, Thinned, halted, one_more}
+use Rattle.ballot_base.specs.Sending.{Outcome}
+use Rattle.ballot_base.specs.Protocol.{Input, replica_step}
+use Rattle.ballot_base.proofs.ThinnedEffects.{Thinned-same}
+use Rattle.agreement.specs.cut_logs.World.{MayTake}
 use Rattle.master.specs.Group.{GroupState}
-use Rattle.snapshots.specs.Masters.{MasterOutcome}
+use Rattle.agreement.specs.cut_logs.Masters.{MasterOutcome}
 use Rattle.master.specs.declared.activation.Activation.{Activation}
 use Rattle.master.specs.declared.activation.Activation.TheVariants.{Activated as Granted, Superseded as Refused}
 use Rattle.master.specs.Inside.{HasCounted, IsGroup, ToldIn, activation_answer, least_but_one, next_least, moment_of, world_of}
@@ -42,7 +42,7 @@ use Rattle.master.specs.Exact.{moment_after_event}
 use Rattle.master.specs.Outcomes.{cut_outcome}
 use Rattle.master.specs.Outcomes.EventOutcome.{by_cut}
 use Rattle.master.specs.Steps.{Freezes}
-use Rattle.ballot.specs.ballot_base.Cutting.{can_cut}
+use Rattle.ballot_base.specs.Cutting.{can_cut}
 use Rattle.master.proofs.Happening.{MayGo, IsMasterTurn, cut_may, master_may, master_turn_lost, node_may}
 use Rattle.master.proofs.Happening.IsTurn.{it_takes, it_stops}
 use Rattle.master.proofs.Happening.IsMasterTurn.{it_gives, it_answers}

@@ -2,28 +2,28 @@
 use Rattle.std.proofs.Common.{◌≡◌, ℕ, zero, suc, ◌+◌, ◌-◌, ◌⊎◌, inl, inr, Bool, true, false, cond, List, [], Some, None, Option, refl, ap, sym, ◌∙◌, subst, arith}
 use Rattle.std.specs.Prelude.{slice_get, nat_lt, not, ◌<◌}
 use Rattle.machine.specs.Machine.{Rules}
-use Rattle.ballot.specs.lists.Lists.{In}
-use Rattle.ballot.proofs.of_lists.Members.{in_at}
-use Rattle.ballot.specs.ballot_base.declared.config.Config.{Config}
-use Rattle.ballot.specs.ballot_base.declared.message.Message.{Message}
-use Rattle.ballot.specs.ballot_base.declared.message.Body.{Body}
-use Rattle.ballot.specs.ballot_base.declared.message.Body.TheVariants.{NewBallot, Join, State, Install, Installed, Activate, Activated, Superseded, Append, Held, Commit}
-use Rattle.ballot.specs.ballot_base.declared.message.Effect.{Effect}
-use Rattle.ballot.specs.ballot_base.Losses.{Loses, Thinned, halted}
-use Rattle.ballot.specs.ballot_base.Protocol.{Input, replica_step}
-use Rattle.ballot.specs.ballot_base.Protocol.Input.{Receives, Proposes, Ticks}
-use Rattle.ballot.specs.ballot_base.Replica.{ReplicaState}
-use Rattle.ballot.specs.ballot_base.Sending.{Outcome}
-use Rattle.ballot.proofs.of_ballot_base.ThinnedEffects.{Thinned-same}
-use Rattle.snapshots.specs.agreement.MasterState.{AssignRefusal, MasterState, refusal, master_after}
-use Rattle.snapshots.specs.Masters.{MasterOutcome, activated, assigned}
-use Rattle.snapshots.specs.Moments.{Moment}
-use Rattle.snapshots.specs.Steps.{MayHappen, sends_from_master, world_after}
-use Rattle.snapshots.specs.World.{MayTake}
-use Rattle.snapshots.specs.Steps.MayHappen.{node_goes as node_moves, master_assigns, master_hears, assignment_lost, answer_lost}
-use Rattle.snapshots.specs.World.{CutGroupWorld, moved, recorded}
-use Rattle.snapshots.specs.World.{NodeGoes as goes}
-use Rattle.ballot.specs.ballot_base.Cutting.{can_cut, cut}
+use Rattle.lists.specs.Lists.{In}
+use Rattle.lists.proofs.Members.{in_at}
+use Rattle.ballot_base.specs.declared.config.Config.{Config}
+use Rattle.ballot_base.specs.declared.message.Message.{Message}
+use Rattle.ballot_base.specs.declared.message.Body.{Body}
+use Rattle.ballot_base.specs.declared.message.Body.TheVariants.{NewBallot, Join, State, Install, Installed, Activate, Activated, Superseded, Append, Held, Commit}
+use Rattle.ballot_base.specs.declared.message.Effect.{Effect}
+use Rattle.ballot_base.specs.Losses.{Loses, Thinned, halted}
+use Rattle.ballot_base.specs.Protocol.{Input, replica_step}
+use Rattle.ballot_base.specs.Protocol.Input.{Receives, Proposes, Ticks}
+use Rattle.ballot_base.specs.Replica.{ReplicaState}
+use Rattle.ballot_base.specs.Sending.{Outcome}
+use Rattle.ballot_base.proofs.ThinnedEffects.{Thinned-same}
+use Rattle.agreement.specs.MasterState.{AssignRefusal, MasterState, refusal, master_after}
+use Rattle.agreement.specs.cut_logs.Masters.{MasterOutcome, activated, assigned}
+use Rattle.agreement.specs.cut_logs.Moments.{Moment}
+use Rattle.agreement.specs.cut_logs.Steps.{MayHappen, sends_from_master, world_after}
+use Rattle.agreement.specs.cut_logs.World.{MayTake}
+use Rattle.agreement.specs.cut_logs.Steps.MayHappen.{node_goes as node_moves, master_assigns, master_hears, assignment_lost, answer_lost}
+use Rattle.agreement.specs.cut_logs.World.{CutGroupWorld, moved, recorded}
+use Rattle.agreement.specs.cut_logs.World.{NodeGoes as goes}
+use Rattle.ballot_base.specs.Cutting.{can_cut, cut}
 use Rattle.std.proofs.lemmas.Bool.{and_parts, ltb-true}
 use Rattle.master.specs.declared.event.Event.{Event}
 use Rattle.master.specs.declared.event.Event.TheVariants.{Propose, Assign, Deliver, Tick, Cut, Crash}
@@ -33,7 +33,7 @@ use Rattle.master.specs.Outcomes.{NodeOutcome, EventOutcome, running, unless_sto
 use Rattle.master.specs.Outcomes.EventOutcome.{by_node, by_cut, by_master, unheeded}
 use Rattle.master.specs.Steps.{Freezes, GroupEventOrLost, GroupEventLosing}
 use Rattle.master.specs.Steps.GroupEventLosing.{nothing_happens, node_goes, master_goes}
-use Rattle.ballot.specs.ballot_base.Losses.{one_more}
+use Rattle.ballot_base.specs.Losses.{one_more}
 
 -- what may happen between two moments
 abbrev pub MayGo : {S C O : Type 0} → Rules S C O → Moment S C O → Moment S C O → Type 0

@@ -1,10 +1,10 @@
 -- Holders.antt: members whose logs are long enough, by what is read of their replicas.
 use Rattle.std.proofs.Common.{◌≡◌, ℕ, zero, suc, ◌-◌, ◌<◌, ◌≤◌, List, [], ◌∷◌, length, map, get_or, Option, ap, sym, ◌∙◌, subst, arith}
 use Rattle.std.specs.Prelude.{slice_get}
-use Rattle.ballot.specs.lists.Lists.{In}
-use Rattle.ballot.specs.ballot_base.Logs.{places}
-use Rattle.ballot.specs.ballot_base.Replica.{CountedReplica, ReplicaState, status_of}
-use Rattle.ballot.specs.ballot_base.declared.status.Status.{Status}
+use Rattle.lists.specs.Lists.{In}
+use Rattle.ballot_base.specs.Logs.{places}
+use Rattle.ballot_base.specs.Replica.{CountedReplica, ReplicaState, status_of}
+use Rattle.ballot_base.specs.declared.status.Status.{Status}
 use Rattle.master.specs.Inside.{HoldsAt, IsShort}
 use Rattle.master.proofs.Groups.{in_item}
 use Rattle.master.proofs.StepsOfNodes.{stands_at}

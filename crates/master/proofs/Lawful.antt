@@ -4,17 +4,17 @@ use Rattle.std.specs.Prelude.{◌==◌, ◌&&◌, nat_lt, nat_le}
 use Rattle.std.specs.List.{list_any}
 use Rattle.std.proofs.lemmas.Bool.{and_parts, cases_Bool, leb-true, ltb-true}
 use Rattle.machine.specs.Machine.{Rules}
-use Rattle.ballot.specs.lists.Lists.{In}
-use Rattle.ballot.specs.lists.Lists.In.{here, there}
-use Rattle.ballot.specs.ballot_base.declared.config.Config.{Config}
-use Rattle.ballot.specs.ballot_base.LawfulConfig.{are_rising, is_lawful}
-use Rattle.snapshots.specs.agreement.MasterState.{AssignRefusal, MasterState, activated, refusal, master_after}
-use Rattle.snapshots.specs.agreement.Moments.{Moment, Moments}
-use Rattle.snapshots.specs.agreement.Moments.Moments.{began, went_on, learned}
-use Rattle.snapshots.specs.agreement.Steps.{MayHappen}
-use Rattle.snapshots.specs.agreement.Steps.MayHappen.{node_takes, node_stops, master_assigns, master_hears, assignment_lost, answer_lost}
-use Rattle.snapshots.specs.agreement.World.{GroupWorld}
-use Rattle.snapshots.proofs.of_agreement.Masters.Assigns.{can_open_is, not_refused}
+use Rattle.lists.specs.Lists.{In}
+use Rattle.lists.specs.Lists.In.{here, there}
+use Rattle.ballot_base.specs.declared.config.Config.{Config}
+use Rattle.ballot_base.specs.LawfulConfig.{are_rising, is_lawful}
+use Rattle.agreement.specs.MasterState.{AssignRefusal, MasterState, activated, refusal, master_after}
+use Rattle.agreement.specs.Moments.{Moment, Moments}
+use Rattle.agreement.specs.Moments.Moments.{began, went_on, learned}
+use Rattle.agreement.specs.Steps.{MayHappen}
+use Rattle.agreement.specs.Steps.MayHappen.{node_takes, node_stops, master_assigns, master_hears, assignment_lost, answer_lost}
+use Rattle.agreement.specs.World.{GroupWorld}
+use Rattle.agreement.proofs.Masters.Assigns.{can_open_is, not_refused}
 
 -- the members of the active ballot rise, and so do those of the ballot that waits
 pub record AreLawful (m : MasterState) : Type 0 where

@@ -15,5 +15,3 @@ pub mod StepsOfNodes
 pub mod Untold
 pub mod Viewed
 pub mod WholeTold
-pub use Rattle.ballot.proofs.of_lists as of_lists
-pub use Rattle.snapshots.proofs as of_snapshots

@@ -3,12 +3,12 @@ use Rattle.std.proofs.Common.{◌≡◌, ℕ, zero, suc, ◌+◌, ◌-◌, ◌^�
 use Rattle.std.specs.Prelude.{◌&&◌}
 use Rattle.std.proofs.lemmas.Bool.{cases_lt}
 use Rattle.machine.specs.Machine.{Rules}
-use Rattle.ballot.proofs.of_lists.OfEach.{each_append, each_then}
-use Rattle.ballot.specs.ballot_base.Cutting.{can_cut}
-use Rattle.ballot.specs.ballot_base.declared.message.Effect.{Effect}
-use Rattle.ballot.specs.ballot_base.Losses.{one_more}
-use Rattle.ballot.specs.ballot_base.Protocol.{Input}
-use Rattle.ballot.specs.ballot_base.Replica.{CountedReplica, ReplicaState}
+use Rattle.lists.proofs.OfEach.{each_append, each_then}
+use Rattle.ballot_base.specs.Cutting.{can_cut}
+use Rattle.ballot_base.specs.declared.message.Effect.{Effect}
+use Rattle.ballot_base.specs.Losses.{one_more}
+use Rattle.ballot_base.specs.Protocol.{Input}
+use Rattle.ballot_base.specs.Replica.{CountedReplica, ReplicaState}
 use Rattle.master.specs.Inside.{CountsAtMost}
 use Rattle.master.specs.Inside.Losing.{InputStepOrLost}
 

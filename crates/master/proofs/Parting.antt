@@ -3,15 +3,15 @@ use Rattle.std.proofs.Common.{◌≡◌, ℕ, ◌+◌, ◌≤◌, ◌<◌, Bool,
 use Rattle.std.specs.List.{remove}
 use Rattle.std.proofs.lemmas.List.{append-nil, take-append-drop, take_more, drop_more, drop-append-le, length-append, length-drop, length-take-le, get_or_default}
 use Rattle.std.proofs.Math.Seq.{drop-length, take-length}
-use Rattle.ballot.specs.ballot_base.declared.message.Message.{Message}
-use Rattle.ballot.specs.ballot_base.declared.message.Effect.{Effect}
-use Rattle.ballot.specs.ballot_base.declared.message.Effect.TheVariants.{To, Out}
-use Rattle.ballot.specs.ballot_base.Losses.{Thinned}
-use Rattle.ballot.specs.ballot_base.Losses.Thinned.{none, keeps, loses}
-use Rattle.snapshots.specs.World.{messages, outputs}
-use Rattle.ballot.specs.ballot_base.Sending.{is_message}
+use Rattle.ballot_base.specs.declared.message.Message.{Message}
+use Rattle.ballot_base.specs.declared.message.Effect.{Effect}
+use Rattle.ballot_base.specs.declared.message.Effect.TheVariants.{To, Out}
+use Rattle.ballot_base.specs.Losses.{Thinned}
+use Rattle.ballot_base.specs.Losses.Thinned.{none, keeps, loses}
+use Rattle.agreement.specs.cut_logs.World.{messages, outputs}
+use Rattle.ballot_base.specs.Sending.{is_message}
 use Rattle.master.specs.Inside.Losing.{Parted}
-use Rattle.snapshots.proofs.Effects.{messages-append, outputs-append}
+use Rattle.agreement.proofs.of_cut_logs.Effects.{messages-append, outputs-append}
 
 -- effects that are parted up to an index
 pub record Parting {C O : Type 0} (old : List (Effect C O)) (from index : ℕ) (now : List (Effect C O)) (at : ℕ)

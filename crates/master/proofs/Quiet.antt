@@ -4,21 +4,21 @@ use Rattle.std.specs.Prelude.{IsOk, Result, Ok, Err, slice_get, nat_lt, ◌&&◌
 use Rattle.std.proofs.lemmas.Bool.{and_parts, both_ways, cases_Bool, ltb-true}
 use Rattle.std.proofs.lemmas.List.{append-nil}
 use Rattle.machine.specs.Machine.{Rules}
-use Rattle.ballot.specs.ballot_base.declared.config.Config.{Config}
-use Rattle.ballot.specs.ballot_base.Logs.{places}
-use Rattle.ballot.specs.ballot_base.declared.message.Effect.{Effect}
-use Rattle.ballot.specs.ballot_base.declared.message.Message.{Message}
-use Rattle.ballot.specs.ballot_base.Losses.{SendsAndAddsNothing, halted}
-use Rattle.ballot.specs.ballot_base.Protocol.{Input, replica_step}
-use Rattle.ballot.specs.ballot_base.Protocol.Input.{Receives, Proposes, Ticks}
-use Rattle.ballot.specs.ballot_base.Replica.{ReplicaState, is_active}
-use Rattle.ballot.specs.ballot_base.Sending.{Outcome, nothing_done}
-use Rattle.ballot.specs.ballot_base.Serving.{max_places}
+use Rattle.ballot_base.specs.declared.config.Config.{Config}
+use Rattle.ballot_base.specs.Logs.{places}
+use Rattle.ballot_base.specs.declared.message.Effect.{Effect}
+use Rattle.ballot_base.specs.declared.message.Message.{Message}
+use Rattle.ballot_base.specs.Losses.{SendsAndAddsNothing, halted}
+use Rattle.ballot_base.specs.Protocol.{Input, replica_step}
+use Rattle.ballot_base.specs.Protocol.Input.{Receives, Proposes, Ticks}
+use Rattle.ballot_base.specs.Replica.{ReplicaState, is_active}
+use Rattle.ballot_base.specs.Sending.{Outcome, nothing_done}
+use Rattle.ballot_base.specs.Serving.{max_places}
 use Rattle.ballot.proofs.TicksTaken.{ticked-state}
-use Rattle.snapshots.specs.agreement.MasterState.{AssignRefusal, refusal}
-use Rattle.snapshots.specs.Masters.{MasterOutcome}
-use Rattle.snapshots.specs.Moments.{Moment}
-use Rattle.snapshots.specs.World.{CutGroupWorld, moved}
+use Rattle.agreement.specs.MasterState.{AssignRefusal, refusal}
+use Rattle.agreement.specs.cut_logs.Masters.{MasterOutcome}
+use Rattle.agreement.specs.cut_logs.Moments.{Moment}
+use Rattle.agreement.specs.cut_logs.World.{CutGroupWorld, moved}
 use Rattle.master.specs.declared.event.Event.{Event}
 use Rattle.master.specs.declared.event.Event.TheVariants.{Assign, Cut, Deliver, Tick, Crash}
 use Rattle.master.specs.Group.{GroupState}

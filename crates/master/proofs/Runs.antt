@@ -2,15 +2,15 @@
 use Rattle.std.proofs.Common.{◌≡◌, ℕ, ◌+◌, ◌-◌, ◌^◌, ◌<◌, ◌≤◌, ◌⊎◌, inl, inr, min, List, [], ◌∷◌, ◌++◌, length, map, take, get_or, refl, ap, sym, ◌∙◌, subst, append_assoc, arith}
 use Rattle.std.proofs.lemmas.List.{take_more}
 use Rattle.machine.specs.Machine.{Rules}
-use Rattle.ballot.specs.ballot_base.declared.config.Config.{Config}
-use Rattle.ballot.specs.ballot_base.Losses.{one_more}
-use Rattle.ballot.specs.lists.Lists.{IsPrefixOf}
-use Rattle.ballot.proofs.of_lists.Prefixes.{prefix_then}
-use Rattle.snapshots.specs.Moments.{Moment, Moments, whole_moment}
-use Rattle.snapshots.specs.agreement.Moments.{IsAgreed, IsChosen, WasActive}
-use Rattle.snapshots.specs.agreement.Moments.{Moment as WholeMoment}
-use Rattle.snapshots.specs.Moments.Moments.{went_on}
-use Rattle.snapshots.proofs.MomentsAgree.{agreed_grows, has_agreed, nodes_agree}
+use Rattle.ballot_base.specs.declared.config.Config.{Config}
+use Rattle.ballot_base.specs.Losses.{one_more}
+use Rattle.lists.specs.Lists.{IsPrefixOf}
+use Rattle.lists.proofs.Prefixes.{prefix_then}
+use Rattle.agreement.specs.cut_logs.Moments.{Moment, Moments, whole_moment}
+use Rattle.agreement.specs.Moments.{IsAgreed, IsChosen, WasActive}
+use Rattle.agreement.specs.Moments.{Moment as WholeMoment}
+use Rattle.agreement.specs.cut_logs.Moments.Moments.{went_on}
+use Rattle.agreement.proofs.of_cut_logs.MomentsAgree.{agreed_grows, has_agreed, nodes_agree}
 use Rattle.master.specs.declared.event.Event.{Event}
 use Rattle.master.specs.Group.{GroupState}
 use Rattle.master.specs.Exact.{group_step, group_run}

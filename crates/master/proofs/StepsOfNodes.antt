@@ -4,20 +4,20 @@ use Rattle.std.specs.Prelude.{slice_get, ◌&&◌}
 use Rattle.std.proofs.lemmas.List.{map-append, map-set, append-nil, take-append-le, length-map}
 use Rattle.std.proofs.Math.Seq.{take-length, drop-append_seam}
 use Rattle.machine.specs.Machine.{Rules}
-use Rattle.ballot.specs.ballot_base.declared.message.Message.{Message}
-use Rattle.ballot.specs.ballot_base.declared.message.Effect.{Effect}
-use Rattle.ballot.specs.ballot_base.Replica.{ReplicaState, CountedReplica, opening, status_of}
-use Rattle.ballot.specs.ballot_base.Losses.{SendsAndAddsNothing, Loses, Thinned, halted, one_more}
-use Rattle.ballot.specs.ballot_base.Losses.Thinned.{none, keeps, loses}
-use Rattle.ballot.specs.ballot_base.Sending.{Outcome}
-use Rattle.ballot.specs.ballot_base.Protocol.{Input, replica_step}
-use Rattle.ballot.specs.ballot_base.declared.config.Config.{Config}
-use Rattle.snapshots.specs.agreement.MasterState.{MasterState, opening_master}
-use Rattle.snapshots.specs.Moments.{Moment, opening_moment}
-use Rattle.ballot.specs.ballot_base.declared.status.Status.{Status}
-use Rattle.snapshots.specs.World.{CutGroupWorld, messages, outputs, moved, recorded}
-use Rattle.ballot.specs.ballot_base.Cutting.{cut}
-use Rattle.snapshots.specs.Moments.{opening_nodes, opening_world}
+use Rattle.ballot_base.specs.declared.message.Message.{Message}
+use Rattle.ballot_base.specs.declared.message.Effect.{Effect}
+use Rattle.ballot_base.specs.Replica.{ReplicaState, CountedReplica, opening, status_of}
+use Rattle.ballot_base.specs.Losses.{SendsAndAddsNothing, Loses, Thinned, halted, one_more}
+use Rattle.ballot_base.specs.Losses.Thinned.{none, keeps, loses}
+use Rattle.ballot_base.specs.Sending.{Outcome}
+use Rattle.ballot_base.specs.Protocol.{Input, replica_step}
+use Rattle.ballot_base.specs.declared.config.Config.{Config}
+use Rattle.agreement.specs.MasterState.{MasterState, opening_master}
+use Rattle.agreement.specs.cut_logs.Moments.{Moment, opening_moment}
+use Rattle.ballot_base.specs.declared.status.Status.{Status}
+use Rattle.agreement.specs.cut_logs.World.{CutGroupWorld, messages, outputs, moved, recorded}
+use Rattle.ballot_base.specs.Cutting.{cut}
+use Rattle.agreement.specs.cut_logs.Moments.{opening_nodes, opening_world}
 use Rattle.master.specs.Outcomes.{NodeOutcome, cut_outcome, running, unless_stopped}
 use Rattle.master.specs.Group.{GroupState}
 use Rattle.master.proofs.Archived.{recorded_by}

@@ -3,17 +3,17 @@ use Rattle.std.proofs.Common.{◌≡◌, ℕ, ◌+◌, ◌<◌, ◌≤◌, ◌�
 use Rattle.std.specs.Prelude.{◌==◌}
 use Rattle.std.proofs.lemmas.Bool.{cases_Bool, ne_eqb}
 use Rattle.machine.specs.Machine.{Rules}
-use Rattle.ballot.specs.lists.Lists.{In}
-use Rattle.ballot.specs.lists.Lists.In.{here, there}
-use Rattle.ballot.specs.ballot_base.declared.config.Config.{Config}
-use Rattle.snapshots.specs.whole.Messages.{Body, Message}
-use Rattle.snapshots.specs.whole.Messages.Body.{NewBallot, Join, State, Install, Installed, Activate, Activated, Superseded, Append, Held, Commit}
-use Rattle.snapshots.specs.agreement.Inside.Ballots.{Given, History}
-use Rattle.snapshots.specs.agreement.Inside.Saying.{SpeaksTruth}
-use Rattle.snapshots.specs.agreement.Inside.ToldLengths.{max_told, told_by, told_in}
-use Rattle.snapshots.specs.agreement.Moments.{Moment, Moments}
-use Rattle.snapshots.specs.agreement.World.{GroupWorld}
-use Rattle.snapshots.proofs.of_agreement.Agreed.MomentsKnown.{moments_known}
+use Rattle.lists.specs.Lists.{In}
+use Rattle.lists.specs.Lists.In.{here, there}
+use Rattle.ballot_base.specs.declared.config.Config.{Config}
+use Rattle.agreement.specs.whole_logs.Messages.{Body, Message}
+use Rattle.agreement.specs.whole_logs.Messages.Body.{NewBallot, Join, State, Install, Installed, Activate, Activated, Superseded, Append, Held, Commit}
+use Rattle.agreement.specs.Inside.Ballots.{Given, History}
+use Rattle.agreement.specs.Inside.Saying.{SpeaksTruth}
+use Rattle.agreement.specs.Inside.ToldLengths.{max_told, told_by, told_in}
+use Rattle.agreement.specs.Moments.{Moment, Moments}
+use Rattle.agreement.specs.World.{GroupWorld}
+use Rattle.agreement.proofs.Agreed.MomentsKnown.{moments_known}
 
 -- messages that say nothing
 pub told_none : {C : Type 0} (m b : ℕ) (sent : List (ℕ × Message C)) → ((x : ℕ × Message C) → In x sent → told_in m b x.1 ≡ 0) →

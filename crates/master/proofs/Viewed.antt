@@ -4,26 +4,26 @@ use Rattle.std.proofs.Common.{◌≡◌, ℕ, zero, suc, Bool, false, ◌+◌, �
 use Rattle.std.specs.Prelude.{slice_get}
 use Rattle.std.proofs.lemmas.List.{append-nil, length-take-le, take-append-le, take-take}
 use Rattle.machine.specs.Machine.{Rules}
-use Rattle.ballot.specs.lists.Lists.{In}
-use Rattle.ballot.specs.ballot_base.declared.config.Config.{Config}
-use Rattle.ballot.specs.ballot_base.Logs.{Log, places}
-use Rattle.ballot.specs.ballot_base.declared.message.Message.{Message}
-use Rattle.ballot.specs.ballot_base.Protocol.{Input, replica_step}
-use Rattle.ballot.specs.ballot_base.Protocol.Input.{Receives, Proposes, Ticks}
-use Rattle.ballot.specs.ballot_base.Sending.{nothing_done}
-use Rattle.ballot.specs.ballot_base.Unread.{is_unread}
-use Rattle.ballot.specs.ballot_base.Replica.{ReplicaState}
-use Rattle.snapshots.specs.whole.Replica.{ReplicaState as WholeState}
-use Rattle.snapshots.specs.agreement.Moments.{IsAgreed}
-use Rattle.snapshots.specs.agreement.World.{log_of}
-use Rattle.snapshots.specs.Moments.{Moment, Moments, whole_moment}
-use Rattle.snapshots.specs.Whole.{whole, whole_log}
-use Rattle.snapshots.specs.World.{MayTake}
-use Rattle.snapshots.proofs.Continues.{agreed_back, agreed_in}
-use Rattle.snapshots.proofs.Fronts.{whole_long}
-use Rattle.snapshots.proofs.MomentsAgree.{snapshots_are_read}
-use Rattle.snapshots.proofs.MomentsKept.{StandsFor, moments_stand}
-use Rattle.snapshots.proofs.Views.{get_whole}
+use Rattle.lists.specs.Lists.{In}
+use Rattle.ballot_base.specs.declared.config.Config.{Config}
+use Rattle.ballot_base.specs.Logs.{Log, places}
+use Rattle.ballot_base.specs.declared.message.Message.{Message}
+use Rattle.ballot_base.specs.Protocol.{Input, replica_step}
+use Rattle.ballot_base.specs.Protocol.Input.{Receives, Proposes, Ticks}
+use Rattle.ballot_base.specs.Sending.{nothing_done}
+use Rattle.ballot_base.specs.Unread.{is_unread}
+use Rattle.ballot_base.specs.Replica.{ReplicaState}
+use Rattle.agreement.specs.whole_logs.Replica.{ReplicaState as WholeState}
+use Rattle.agreement.specs.Moments.{IsAgreed}
+use Rattle.agreement.specs.World.{log_of}
+use Rattle.agreement.specs.cut_logs.Moments.{Moment, Moments, whole_moment}
+use Rattle.agreement.specs.cut_logs.Whole.{whole, whole_log}
+use Rattle.agreement.specs.cut_logs.World.{MayTake}
+use Rattle.agreement.proofs.of_cut_logs.Continues.{agreed_back, agreed_in}
+use Rattle.agreement.proofs.of_cut_logs.Fronts.{whole_long}
+use Rattle.agreement.proofs.of_cut_logs.MomentsAgree.{snapshots_are_read}
+use Rattle.agreement.proofs.of_cut_logs.MomentsKept.{StandsFor, moments_stand}
+use Rattle.agreement.proofs.of_cut_logs.Views.{get_whole}
 use Rattle.master.specs.Inside.{HasCounted, HoldsAt, IsShort, ToldIn, held_by, least_but_one}
 use Rattle.master.specs.Inside.Losing.{IsRead}
 use Rattle.master.proofs.AgreedLength.{counted_length, member_front, sole_length, some_long}

@@ -2,12 +2,12 @@
 -- those on whole logs.
 use Rattle.std.proofs.Common.{◌≡◌, ℕ, ◌<◌, cond, max, List, [], ◌∷◌, map, get_or, refl, ap, ap₂, ◌∙◌}
 use Rattle.std.specs.Prelude.{◌==◌}
-use Rattle.ballot.specs.ballot_base.declared.message.Body.{Body}
-use Rattle.ballot.specs.ballot_base.declared.message.Body.TheVariants.{NewBallot, Join, State, Install, Installed, Activate, Activated, Superseded, Append, Held, Commit}
-use Rattle.ballot.specs.ballot_base.declared.message.Message.{Message}
-use Rattle.snapshots.specs.agreement.Inside.ToldLengths.{max_told as whole_most, told_by as whole_by}
-use Rattle.snapshots.specs.Whole.{whole_body}
-use Rattle.snapshots.specs.World.{whole_sent}
+use Rattle.ballot_base.specs.declared.message.Body.{Body}
+use Rattle.ballot_base.specs.declared.message.Body.TheVariants.{NewBallot, Join, State, Install, Installed, Activate, Activated, Superseded, Append, Held, Commit}
+use Rattle.ballot_base.specs.declared.message.Message.{Message}
+use Rattle.agreement.specs.Inside.ToldLengths.{max_told as whole_most, told_by as whole_by}
+use Rattle.agreement.specs.cut_logs.Whole.{whole_body}
+use Rattle.agreement.specs.cut_logs.World.{whole_sent}
 use Rattle.master.specs.Inside.{HasCounted, ToldIn}
 use Rattle.master.specs.ToldLengths.{max_told, told_by}
 

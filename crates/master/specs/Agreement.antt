@@ -1,10 +1,10 @@
 -- What holds for a group whatever happened to it.
 use Rattle.std.specs.Prelude.{◌≡◌, List, ◌∷◌, ◌++◌}
 use Rattle.machine.specs.Machine.{Rules}
-use Rattle.ballot.specs.lists.Lists.{IsPrefixOf}
-use Rattle.ballot.specs.ballot_base.declared.config.Config.{Config}
-use Rattle.snapshots.specs.Agreeing.{Agrees, Holds, LeftInOrder}
-use Rattle.snapshots.specs.Moments.{IsAgreed, Moment, Moments}
+use Rattle.lists.specs.Lists.{IsPrefixOf}
+use Rattle.ballot_base.specs.declared.config.Config.{Config}
+use Rattle.agreement.specs.cut_logs.Agreeing.{Agrees, Holds, LeftInOrder}
+use Rattle.agreement.specs.cut_logs.Moments.{IsAgreed, Moment, Moments}
 
 -- the moments have continued up to one in which the nodes agree on the list that is agreed there.
 -- The outputs that left are its answers in order, and what was agreed before is a prefix of it. A

@@ -1,8 +1,8 @@
 -- Which messages are copied without memory.
 use Rattle.std.specs.Prelude.{Bool, true, false}
-use Rattle.ballot.specs.ballot_base.declared.message.Body.{Body}
-use Rattle.ballot.specs.ballot_base.declared.message.Body.TheVariants.{NewBallot, Join, State, Install, Installed, Activate}
-use Rattle.ballot.specs.ballot_base.declared.message.Body.TheVariants.{Activated, Superseded, Append, Held, Commit}
+use Rattle.ballot_base.specs.declared.message.Body.{Body}
+use Rattle.ballot_base.specs.declared.message.Body.TheVariants.{NewBallot, Join, State, Install, Installed, Activate}
+use Rattle.ballot_base.specs.declared.message.Body.TheVariants.{Activated, Superseded, Append, Held, Commit}
 
 -- whether a message has only numbers: no members, no log and no command
 abbrev pub has_numbers_alone : {C : Type 0} → Body C → Bool

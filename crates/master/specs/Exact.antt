@@ -1,17 +1,17 @@
 -- What an event does to a group if memory suffices.
 use Rattle.std.specs.Prelude.{ℕ, zero, suc, ◌-◌, List, [], ◌∷◌, slice_get, Option, Some, None}
 use Rattle.machine.specs.Machine.{Rules}
-use Rattle.ballot.specs.ballot_base.declared.message.Body.{Body}
-use Rattle.ballot.specs.ballot_base.declared.message.Body.TheVariants.{Activate}
-use Rattle.ballot.specs.ballot_base.declared.config.Config.{Config}
-use Rattle.ballot.specs.ballot_base.declared.message.Message.{Message}
-use Rattle.ballot.specs.ballot_base.Protocol.{Input}
-use Rattle.ballot.specs.ballot_base.Protocol.Input.{Receives, Proposes, Ticks}
-use Rattle.snapshots.specs.agreement.MasterState.{AssignRefusal, MasterState, refusal}
-use Rattle.snapshots.specs.Masters.{activated, assigned}
-use Rattle.snapshots.specs.Moments.{Moment}
-use Rattle.snapshots.specs.Steps.{sends_from_master}
-use Rattle.snapshots.specs.World.{CutGroupWorld, moved, recorded}
+use Rattle.ballot_base.specs.declared.message.Body.{Body}
+use Rattle.ballot_base.specs.declared.message.Body.TheVariants.{Activate}
+use Rattle.ballot_base.specs.declared.config.Config.{Config}
+use Rattle.ballot_base.specs.declared.message.Message.{Message}
+use Rattle.ballot_base.specs.Protocol.{Input}
+use Rattle.ballot_base.specs.Protocol.Input.{Receives, Proposes, Ticks}
+use Rattle.agreement.specs.MasterState.{AssignRefusal, MasterState, refusal}
+use Rattle.agreement.specs.cut_logs.Masters.{activated, assigned}
+use Rattle.agreement.specs.cut_logs.Moments.{Moment}
+use Rattle.agreement.specs.cut_logs.Steps.{sends_from_master}
+use Rattle.agreement.specs.cut_logs.World.{CutGroupWorld, moved, recorded}
 use Rattle.master.specs.declared.event.Event.{Event}
 use Rattle.master.specs.declared.event.Event.TheVariants.{Propose, Assign, Deliver, Tick}
 use Rattle.master.specs.declared.event.Event.TheVariants.{Cut, Crash}

@@ -1,6 +1,6 @@
 -- The model of a group.
 use Rattle.std.specs.Prelude.{ℕ}
-use Rattle.snapshots.specs.Moments.{Moment}
+use Rattle.agreement.specs.cut_logs.Moments.{Moment}
 
 -- a group: its moment, which is its master with the nodes, the messages and the outputs that left,
 -- and the number of its steps in which something was lost

@@ -3,20 +3,20 @@ pub mod Losing
 use Rattle.std.specs.Prelude.{ℕ, false, ◌-◌, ◌<◌, ◌≤◌, ◌≡◌, List, [], ◌∷◌, length, map, min, get_or}
 use Rattle.std.specs.Prelude.{slice_get, Option, Some, None, nat_lt, if◌then◌else◌}
 use Rattle.machine.specs.Machine.{Rules}
-use Rattle.ballot.specs.ballot_base.declared.message.Body.{Body}
-use Rattle.ballot.specs.ballot_base.declared.message.Body.TheVariants.{Activate, Activated, Superseded}
-use Rattle.ballot.specs.ballot_base.declared.config.Config.{Config}
-use Rattle.ballot.specs.ballot_base.declared.message.Message.{Message}
-use Rattle.ballot.specs.ballot_base.declared.message.Effect.{Effect}
-use Rattle.ballot.specs.ballot_base.Logs.{places}
-use Rattle.ballot.specs.lists.Lists.{Each, In}
-use Rattle.ballot.specs.ballot_base.Replica.{ReplicaState, CountedReplica}
+use Rattle.ballot_base.specs.declared.message.Body.{Body}
+use Rattle.ballot_base.specs.declared.message.Body.TheVariants.{Activate, Activated, Superseded}
+use Rattle.ballot_base.specs.declared.config.Config.{Config}
+use Rattle.ballot_base.specs.declared.message.Message.{Message}
+use Rattle.ballot_base.specs.declared.message.Effect.{Effect}
+use Rattle.ballot_base.specs.Logs.{places}
+use Rattle.lists.specs.Lists.{Each, In}
+use Rattle.ballot_base.specs.Replica.{ReplicaState, CountedReplica}
 use Rattle.master.specs.declared.activation.Activation.{Activation}
 use Rattle.master.specs.declared.activation.Activation.TheVariants as activation
 use Rattle.master.specs.ToldLengths.{max_told}
-use Rattle.snapshots.specs.agreement.MasterState.{MasterState}
-use Rattle.snapshots.specs.Moments.{Moment, Moments}
-use Rattle.snapshots.specs.World.{CutGroupWorld, outputs}
+use Rattle.agreement.specs.MasterState.{MasterState}
+use Rattle.agreement.specs.cut_logs.Moments.{Moment, Moments}
+use Rattle.agreement.specs.cut_logs.World.{CutGroupWorld, outputs}
 use Rattle.master.specs.Outcomes.{running}
 
 -- the node of a number runs, at an index

@@ -2,15 +2,15 @@
 use Rattle.std.specs.Prelude.{ℕ, zero, suc, Bool, true, List, [], slice_get, Option, Some, None}
 use Rattle.std.specs.Prelude.{◌&&◌, nat_lt, if◌then◌else◌}
 use Rattle.machine.specs.Machine.{Rules}
-use Rattle.ballot.specs.ballot_base.Cutting.{can_cut, cut}
-use Rattle.ballot.specs.ballot_base.Logs.{places}
-use Rattle.ballot.specs.ballot_base.Losses.{halted}
-use Rattle.ballot.specs.ballot_base.Protocol.{Input, replica_step}
-use Rattle.ballot.specs.ballot_base.Protocol.Input.{Receives, Proposes, Ticks}
-use Rattle.ballot.specs.ballot_base.Replica.{ReplicaState, is_active}
-use Rattle.ballot.specs.ballot_base.Sending.{Outcome}
-use Rattle.ballot.specs.ballot_base.Serving.{max_places}
-use Rattle.snapshots.specs.Masters.{MasterOutcome}
+use Rattle.ballot_base.specs.Cutting.{can_cut, cut}
+use Rattle.ballot_base.specs.Logs.{places}
+use Rattle.ballot_base.specs.Losses.{halted}
+use Rattle.ballot_base.specs.Protocol.{Input, replica_step}
+use Rattle.ballot_base.specs.Protocol.Input.{Receives, Proposes, Ticks}
+use Rattle.ballot_base.specs.Replica.{ReplicaState, is_active}
+use Rattle.ballot_base.specs.Sending.{Outcome}
+use Rattle.ballot_base.specs.Serving.{max_places}
+use Rattle.agreement.specs.cut_logs.Masters.{MasterOutcome}
 
 -- the node of a number, if it exists and has not stopped
 abbrev pub unless_stopped : {S C : Type 0} → Option (ReplicaState S C) → Option (ReplicaState S C)

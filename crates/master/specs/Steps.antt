@@ -1,12 +1,12 @@
 -- Steps of a group in which memory may have run out, and how these are counted.
 use Rattle.std.specs.Prelude.{◌<◌, ◌≡◌, ◌⊎◌, ℕ, List, [], ◌∷◌, Option, Some, None}
 use Rattle.machine.specs.Machine.{Rules}
-use Rattle.ballot.specs.ballot_base.declared.message.Effect.{Effect}
-use Rattle.ballot.specs.ballot_base.Losses.{SendsAndAddsNothing, Loses, greatest_count, one_more}
-use Rattle.ballot.specs.ballot_base.Replica.{ReplicaState}
-use Rattle.snapshots.specs.Masters.{MasterOutcome}
-use Rattle.snapshots.specs.Moments.{Moment}
-use Rattle.snapshots.specs.World.{moved}
+use Rattle.ballot_base.specs.declared.message.Effect.{Effect}
+use Rattle.ballot_base.specs.Losses.{SendsAndAddsNothing, Loses, greatest_count, one_more}
+use Rattle.ballot_base.specs.Replica.{ReplicaState}
+use Rattle.agreement.specs.cut_logs.Masters.{MasterOutcome}
+use Rattle.agreement.specs.cut_logs.Moments.{Moment}
+use Rattle.agreement.specs.cut_logs.World.{moved}
 use Rattle.master.specs.declared.event.Event.{Event}
 use Rattle.master.specs.declared.event.Event.TheVariants.{Crash}
 use Rattle.master.specs.Group.{GroupState}

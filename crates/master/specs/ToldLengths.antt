@@ -1,9 +1,9 @@
 -- How many places each node acknowledged in a ballot, by the messages that were sent.
 use Rattle.std.specs.Prelude.{ℕ, ◌==◌, List, [], ◌∷◌, max, if◌then◌else◌}
-use Rattle.ballot.specs.ballot_base.declared.message.Body.{Body}
-use Rattle.ballot.specs.ballot_base.declared.message.Body.TheVariants.{NewBallot, Join, State, Install, Installed, Activate}
-use Rattle.ballot.specs.ballot_base.declared.message.Body.TheVariants.{Activated, Superseded, Append, Held, Commit}
-use Rattle.ballot.specs.ballot_base.declared.message.Message.{Message}
+use Rattle.ballot_base.specs.declared.message.Body.{Body}
+use Rattle.ballot_base.specs.declared.message.Body.TheVariants.{NewBallot, Join, State, Install, Installed, Activate}
+use Rattle.ballot_base.specs.declared.message.Body.TheVariants.{Activated, Superseded, Append, Held, Commit}
+use Rattle.ballot_base.specs.declared.message.Message.{Message}
 
 -- the length that a body acknowledges in a ballot
 abbrev pub told_by : {C : Type 0} → ℕ → Body C → ℕ

@@ -3,7 +3,7 @@
 ghost use Rattle.std.specs.Prelude.{◌≡◌, true, IfOk, IsOk};
 ghost use Rattle.master.specs.Copying.{has_numbers_alone};
 
-use ballot::{Body, Config, Members, Message, copy_log};
+use ballot_base::{Body, Config, Members, Message, copy_log};
 use machine::{Machine, Memory};
 use std::alloc::Global;
 

@@ -2,7 +2,7 @@
 
 ghost use Rattle.std.specs.Prelude.{◌≡◌};
 
-use ballot::Config;
+use ballot_base::Config;
 use std::error::Error;
 use std::fmt;
 

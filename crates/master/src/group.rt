@@ -3,15 +3,15 @@
 ghost use Rattle.std.specs.Prelude.{ℕ, ◌-◌, ◌≡◌, ◌<◌, ◌↔◌, true, false, None, Some, [], length};
 ghost use Rattle.std.specs.Prelude.{slice_get, map, List, ◌∷◌, ◌++◌, IfOk, IfSome, OnErr};
 ghost use Rattle.std.specs.Prelude.{IsErr, IsErrOf};
-ghost use Rattle.ballot.specs.ballot_base.Protocol.{replica_step};
-ghost use Rattle.ballot.specs.ballot_base.Protocol.Input.{Receives};
-ghost use Rattle.ballot.specs.ballot_base.Sending.{nothing_done};
-ghost use Rattle.ballot.specs.ballot_base.Losses.{SendsAndAddsNothing, one_more};
-ghost use Rattle.ballot.specs.ballot_base.Replica.{ReplicaState};
-ghost use Rattle.ballot.specs.lists.Lists.{In};
-ghost use Rattle.snapshots.specs.Moments.{IsAgreed, Moment, Moments, opening_moment};
-ghost use Rattle.snapshots.specs.World.{MayTake};
-ghost use Rattle.snapshots.specs.agreement.World.{can_open};
+ghost use Rattle.ballot_base.specs.Protocol.{replica_step};
+ghost use Rattle.ballot_base.specs.Protocol.Input.{Receives};
+ghost use Rattle.ballot_base.specs.Sending.{nothing_done};
+ghost use Rattle.ballot_base.specs.Losses.{SendsAndAddsNothing, one_more};
+ghost use Rattle.ballot_base.specs.Replica.{ReplicaState};
+ghost use Rattle.lists.specs.Lists.{In};
+ghost use Rattle.agreement.specs.cut_logs.Moments.{IsAgreed, Moment, Moments, opening_moment};
+ghost use Rattle.agreement.specs.cut_logs.World.{MayTake};
+ghost use Rattle.agreement.specs.World.{can_open};
 ghost use Rattle.master.specs.Agreement.{AgreesAfter};
 ghost use Rattle.master.specs.Copying.{has_numbers_alone};
 ghost use Rattle.master.specs.Exact.{event_outcome, group_step, group_run};
@@ -25,7 +25,9 @@ use crate::inputs::{Input, counted, part, step_replica};
 use crate::master::Master;
 use crate::opening::can_open;
 use crate::told::Told;
-use ballot::{Config, Effect, Message, OpeningError, Replica};
+use ballot::Replica;
+use ballot_base::errors::OpeningError;
+use ballot_base::{Config, Effect, Message};
 use machine::Machine;
 use std::alloc::Global;
 use std::marker::Model;
@@ -75,7 +77,7 @@ impl<M: Machine> Model for Group<M> {
     ghost use Rattle.std.specs.Prelude.{◌≡◌, []};
     ghost use Rattle.master.specs.Group.{GroupState};
     ghost use Rattle.master.specs.Inside.{CountsAtMost, IsGroup, moment_of};
-    ghost use Rattle.snapshots.specs.World.{messages};
+    ghost use Rattle.agreement.specs.cut_logs.World.{messages};
 
     ghost Value = { GroupState M M.Command M.Output };
 

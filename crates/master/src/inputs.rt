@@ -2,13 +2,14 @@
 
 ghost use Rattle.std.specs.Prelude.{◌≡◌, ◌≤◌, false, [], ◌∷◌, ◌++◌, length, take, drop};
 ghost use Rattle.std.specs.Prelude.{◌&&◌, if◌then◌else◌};
-ghost use Rattle.ballot.specs.ballot_base.Losses.{one_more};
-ghost use Rattle.ballot.specs.ballot_base.Sending.{is_message};
+ghost use Rattle.ballot_base.specs.Losses.{one_more};
+ghost use Rattle.ballot_base.specs.Sending.{is_message};
 ghost use Rattle.std.specs.Bool.{OnTrue, OnFalse};
-ghost use Rattle.snapshots.specs.World.{messages};
+ghost use Rattle.agreement.specs.cut_logs.World.{messages};
 ghost use Rattle.master.specs.Inside.Losing.{InputStepOrLost, Parted, input_of};
 
-use ballot::{Effect, Message, Replica};
+use ballot::Replica;
+use ballot_base::{Effect, Message};
 use machine::Machine;
 
 /// An input of a node.

@@ -2,14 +2,14 @@
 
 ghost use Rattle.std.specs.Prelude.{◌≡◌, ◌+◌, ◌↔◌, true, false, None, Some, IfOk};
 ghost use Rattle.std.specs.Prelude.{IsErrOf, if◌then◌else◌};
-ghost use Rattle.snapshots.specs.agreement.MasterState.{activating, assigning, is_granted};
-ghost use Rattle.snapshots.specs.agreement.MasterState.{master_after, opening_master, refusal};
-ghost use Rattle.snapshots.specs.agreement.MasterState.AssignRefusal.{bad_members, ballots_spent};
-ghost use Rattle.ballot.specs.ballot_base.LawfulConfig.{is_lawful};
+ghost use Rattle.agreement.specs.MasterState.{activating, assigning, is_granted};
+ghost use Rattle.agreement.specs.MasterState.{master_after, opening_master, refusal};
+ghost use Rattle.agreement.specs.MasterState.AssignRefusal.{bad_members, ballots_spent};
+ghost use Rattle.ballot_base.specs.LawfulConfig.{is_lawful};
 
 use crate::activation::Activation;
 use crate::error::AssignError;
-use ballot::{Config, Members};
+use ballot_base::{Config, Members};
 use machine::MAX_BALLOT;
 use std::marker::Model;
 
@@ -39,7 +39,8 @@ impl Drop for Master {
 
 impl Model for Master {
     ghost use Rattle.std.specs.Prelude.{◌≤◌};
-    ghost use Rattle.snapshots.specs.agreement.MasterState.{MasterState, max_ballot};
+    ghost use Rattle.agreement.specs.MasterState.{MasterState};
+    ghost use Rattle.machine.specs.Ballots.{max_ballot};
 
     ghost Value = { MasterState };
 

@@ -2,9 +2,9 @@
 
 ghost use Rattle.std.specs.Prelude.{◌≡◌, nat_le};
 ghost use Rattle.std.specs.List.{list_all};
-ghost use Rattle.snapshots.specs.agreement.World.{can_open};
+ghost use Rattle.agreement.specs.World.{can_open};
 
-use ballot::{Config, MAX_NODE};
+use ballot_base::{Config, MAX_NODE};
 
 /// Says whether this many nodes may open in a configuration.
 pub fn can_open(nodes: u8, config: &Config) -> bool

@@ -1,7 +1,7 @@
 // The record of the places that nodes of a group cut from their logs.
 
 ghost use Rattle.std.specs.Prelude.{◌≡◌, ◌≤◌, ◌-◌, ◌++◌, length, take, drop, OnOk, OnErr};
-ghost use Rattle.ballot.specs.lists.Lists.{IsPrefixOf};
+ghost use Rattle.lists.specs.Lists.{IsPrefixOf};
 
 use machine::{Machine, Memory};
 use std::alloc::Global;

@@ -2,11 +2,11 @@
 
 ghost use Rattle.std.specs.Prelude.{◌≡◌, ◌++◌, ◌∷◌, []};
 ghost use Rattle.std.specs.Bool.{OnTrue, OnFalse};
-ghost use Rattle.ballot.specs.ballot_base.Sending.{master};
+ghost use Rattle.ballot_base.specs.Sending.{master};
 ghost use Rattle.master.specs.Inside.{activation_answer, asks_for};
 
 use crate::activation::Activation;
-use ballot::{Body, MASTER, Message};
+use ballot_base::{Body, MASTER, Message};
 
 /// Appends a message of the master to those that were sent. Returns whether there was memory for
 /// it.

@@ -1,12 +1,12 @@
 // How many places the nodes acknowledged in a ballot, counted at each message.
 
 ghost use Rattle.std.specs.Prelude.{ℕ, ◌^◌, ◌≡◌, ◌<◌, ◌≤◌, IfOk, take, length, max, get_or};
-ghost use Rattle.ballot.specs.ballot_base.Losses.{greatest_count};
+ghost use Rattle.ballot_base.specs.Losses.{greatest_count};
 ghost use Rattle.master.specs.ToldLengths.{told_in};
-ghost use Rattle.ballot.specs.lists.Lists.{In};
+ghost use Rattle.lists.specs.Lists.{In};
 ghost use Rattle.master.specs.Inside.{HasCounted, least_but_one, next_least};
 
-use ballot::{Body, MAX_NODE, Message};
+use ballot_base::{Body, MAX_NODE, Message};
 use machine::Memory;
 use std::alloc::Global;
 use std::marker::Model;

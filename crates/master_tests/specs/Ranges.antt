@@ -1,8 +1,8 @@
 -- How many ballots a master can give: rows at both edges.
 use Rattle.std.specs.Prelude.{◌≡◌, true, Some, None}
-use Rattle.master.specs.ballot_base.declared.config.Config.{Config}
-use Rattle.master.specs.ballot_base.LawfulConfig.{is_lawful}
-use Rattle.master.specs.agreement.MasterState.{MasterState, refusal, ballots_spent}
+use Rattle.ballot_base.specs.declared.config.Config.{Config}
+use Rattle.ballot_base.specs.LawfulConfig.{is_lawful}
+use Rattle.agreement.specs.MasterState.{MasterState, refusal, ballots_spent}
 
 -- the 4,294,967,296th ballot is given, and none after it
 abbrev pub MaxBallotIs : Type 0

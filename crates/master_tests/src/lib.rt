@@ -1,9 +1,11 @@
-//! Tests of crate `master` through its public calls: that events do what they name while there is
-//! memory, that what is lost is counted, and what a master alone answers.
+//! Tests of replication: one replica, pairs of them, the master, and groups that cut their logs.
 #![tactic(auto)]
 
+pub mod one_replica;
 mod rows;
+pub mod shared;
 #[cfg(test)]
 mod tests;
+pub mod twins;
 
 pub use rows::ranges_have_their_edges;

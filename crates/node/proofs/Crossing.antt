@@ -5,8 +5,8 @@ use Rattle.mailbox.proofs.receiver.Receiver.TheSendSync as receiver
 use Rattle.mailbox.specs.declared.naming.Naming as naming
 use Rattle.node.specs.contracts.node_state.NodeState as NodeState
 use Rattle.node.specs.declared.naming.NodeNaming as node_naming
-use Rattle.node_core.proofs.Crossing.{core_send}
-use Rattle.node_core.proofs.item.Item.TheSendSync as item
+use Rattle.world_base.proofs.of_node_core.Crossing.{core_send}
+use Rattle.world_base.proofs.node_core.item.Item.TheSendSync as item
 
 pub state_send : (R : RattleType) (n : node_naming.Ghosts R.Denot) (m : naming.Ghosts R.Denot) → IsSend (NodeState.the_row R n m)
 state_send R n m = search (core_send, receiver.the_send, item.the_send, sendable) depth 60

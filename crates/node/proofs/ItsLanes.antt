@@ -3,7 +3,7 @@
 use Rattle.std.proofs.Common.{◌≡◌, ℕ, ◌<◌, List, length}
 use Rattle.std.specs.Prelude.{slice_index_or}
 use Rattle.mailbox.specs.Ends.{LaneView}
-use Rattle.node_core.specs.declared.item.Item.{Item}
+use Rattle.world_base.specs.declared.node_core.item.Item.{Item}
 use Rattle.node.specs.Running.{AreItsLanes, NodeView}
 
 -- the lane at an index has the number of the inbox, and the index as its number

@@ -2,15 +2,15 @@
 use Rattle.std.proofs.Common.{◌≡◌, ℕ, List, [], ◌∷◌, ◌++◌, Ok, Err, OnOk, OnErr, sym, subst}
 use Rattle.std.specs.Prelude.{Result}
 use Rattle.mailbox.specs.Ends.{ReceiverView}
-use Rattle.node_core.specs.broker_spec.declared.command.Command.{Command}
-use Rattle.node_core.specs.broker_spec.declared.command.Output.{Output}
-use Rattle.node_core.specs.ballot_base.declared.message.Effect.{Effect}
-use Rattle.node_core.specs.declared.Handed.{Handed}
-use Rattle.node_core.specs.declared.item.Item.{Item}
-use Rattle.node_core.specs.declared.Port.{Port}
-use Rattle.node_core.specs.Core.{CountedCore}
-use Rattle.node_core.specs.Handing.{hands_over}
-use Rattle.node_core.specs.Losses.{ItemStepOrLost}
+use Rattle.broker_spec.specs.declared.command.Command.{Command}
+use Rattle.broker_spec.specs.declared.command.Output.{Output}
+use Rattle.ballot_base.specs.declared.message.Effect.{Effect}
+use Rattle.world_base.specs.declared.node_core.Handed.{Handed}
+use Rattle.world_base.specs.declared.node_core.item.Item.{Item}
+use Rattle.world_base.specs.declared.node_core.Port.{Port}
+use Rattle.world_base.specs.node_core.Core.{CountedCore}
+use Rattle.world_base.specs.node_core.Handing.{hands_over}
+use Rattle.world_base.specs.node_core.Losses.{ItemStepOrLost}
 use Rattle.node.specs.State.{Replays}
 use Rattle.node.specs.State.Replays.{opens, steps, hands}
 

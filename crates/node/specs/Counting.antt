@@ -1,6 +1,6 @@
 -- How a node's count of bytes that are not known to be agreed changes, while its log only grows.
 use Rattle.std.specs.Prelude.{ℕ, ◌+◌, ◌≤◌, nat_lt, min, if◌then◌else◌, List, [], ◌∷◌, Option, Some, None}
-use Rattle.node_core.specs.declared.Status.{Status}
+use Rattle.world_base.specs.declared.node_core.Status.{Status}
 use Rattle.node.specs.Intake.{IntakeView, status_shown, took}
 
 -- bytes that a node took, and how many places its log had once it had taken them

@@ -4,13 +4,13 @@ use Rattle.std.specs.Prelude.{ℕ, ◌+◌, ◌*◌, ◌-◌, ◌^◌, Bool, ◌
 use Rattle.packet.specs.declared.packet.Packet.{Packet}
 use Rattle.packet.specs.declared.packet.Packet.TheVariants as packets
 use Rattle.packet.specs.declared.subscribe.Subscription.{Subscription}
-use Rattle.node_core.specs.broker_spec.declared.command.Command.{Command}
-use Rattle.node_core.specs.broker_spec.declared.command.Command.TheVariants as commands
-use Rattle.node_core.specs.Core.{CoreState}
-use Rattle.node_core.specs.declared.Body.{Body}
-use Rattle.node_core.specs.declared.Body.TheVariants.{Append, State, Install}
-use Rattle.node_core.specs.declared.item.Item.{Item}
-use Rattle.node_core.specs.declared.item.Item.TheVariants.{Peer, Bytes, Cut}
+use Rattle.broker_spec.specs.declared.command.Command.{Command}
+use Rattle.broker_spec.specs.declared.command.Command.TheVariants as commands
+use Rattle.world_base.specs.node_core.Core.{CoreState}
+use Rattle.world_base.specs.declared.node_core.Body.{Body}
+use Rattle.world_base.specs.declared.node_core.Body.TheVariants.{Append, State, Install}
+use Rattle.world_base.specs.declared.node_core.item.Item.{Item}
+use Rattle.world_base.specs.declared.node_core.item.Item.TheVariants.{Peer, Bytes, Cut}
 use Rattle.node.specs.declared.growth.TheConstants.{COMMAND_BYTES, MAX_UNCUT_BYTES}
 
 -- the size of a packet apart from its fixed part: topic and payload, or filters

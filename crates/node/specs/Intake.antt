@@ -1,8 +1,8 @@
 -- When a node takes nothing more from its clients, because other members lag.
 use Rattle.std.specs.Prelude.{ℕ, ◌+◌, ◌-◌, ◌≤◌, Bool, ◌&&◌, nat_le, min, if◌then◌else◌, Option, Some, None}
-use Rattle.node_core.specs.declared.Status.{Status}
-use Rattle.node_core.specs.ballot_base.Replica.{is_active}
-use Rattle.devices.specs.declared.counted.TheConstants.{PIECE_BYTES}
+use Rattle.world_base.specs.declared.node_core.Status.{Status}
+use Rattle.ballot_base.specs.Replica.{is_active}
+use Rattle.node_base.specs.declared.devices.counted.TheConstants.{PIECE_BYTES}
 use Rattle.node.specs.declared.intake.TheConstants.{MAX_IN_TRANSIT, MAX_OPEN, MAX_OPEN_BYTES}
 
 -- What a node takes from its clients. It counts the bytes that are in transit to it. Of those that

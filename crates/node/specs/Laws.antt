@@ -1,6 +1,6 @@
 -- Which bytes that a node took are counted, and after which ticks its log is cut.
 use Rattle.std.specs.Prelude.{◌≡◌, ℕ, ◌+◌, ◌<◌, ◌≤◌, List, true}
-use Rattle.node_core.specs.ballot_base.LawfulConfig.{max_node}
+use Rattle.ballot_base.specs.LawfulConfig.{max_node}
 use Rattle.node.specs.Counting.{Counts, Taken, bytes_behind, committed_of}
 use Rattle.node.specs.Intake.{IntakeView}
 use Rattle.node.specs.Cutting.{cuts_after}

@@ -2,7 +2,7 @@
 use Rattle.std.specs.Prelude.{◌≡◌, ℕ, ◌≤◌, List, [], ◌++◌, length, vec_capacity}
 use Rattle.mailbox.specs.Delivery.{items_of_lane}
 use Rattle.mailbox.specs.Ends.{LaneView, max_items}
-use Rattle.node_core.specs.declared.item.Item.{Item}
+use Rattle.world_base.specs.declared.node_core.item.Item.{Item}
 use Rattle.node.specs.declared.report.Report.{Report}
 
 -- nothing is left over yet, and there is capacity for what an inbox of this many lanes holds

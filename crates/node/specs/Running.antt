@@ -2,8 +2,8 @@
 use Rattle.std.specs.Prelude.{◌≡◌, ℕ, ◌<◌, List, Option, Bool, length, slice_index, slice_index_or, All, EachIndex, IfSome}
 use Rattle.mailbox.specs.Delivery.{items_of_lane}
 use Rattle.mailbox.specs.Ends.{LaneView}
-use Rattle.node_core.specs.Core.{CountedCore}
-use Rattle.node_core.specs.declared.item.Item.{Item}
+use Rattle.world_base.specs.node_core.Core.{CountedCore}
+use Rattle.world_base.specs.declared.node_core.item.Item.{Item}
 use Rattle.node.specs.Report.{ReportsAll}
 use Rattle.node.specs.State.{Replays, NodeStateView, next_taking}
 use Rattle.node.specs.declared.report.Report.{Report}

@@ -1,15 +1,15 @@
 -- A node and the items that it took.
 use Rattle.std.specs.Prelude.{◌≡◌, ℕ, ◌+◌, ◌-◌, ◌^◌, [], List, ◌∷◌, ◌++◌, min}
 use Rattle.mailbox.specs.Ends.{ReceiverView}
-use Rattle.node_core.specs.broker_spec.declared.command.Command.{Command}
-use Rattle.node_core.specs.broker_spec.declared.command.Output.{Output}
-use Rattle.node_core.specs.ballot_base.declared.config.Config.{Config}
-use Rattle.node_core.specs.ballot_base.declared.message.Effect.{Effect}
-use Rattle.node_core.specs.declared.item.Item.{Item}
-use Rattle.node_core.specs.declared.Port.{Port}
-use Rattle.node_core.specs.Core.{CountedCore, opening_core}
-use Rattle.node_core.specs.Handing.{hands_over}
-use Rattle.node_core.specs.Losses.{ItemStepOrLost}
+use Rattle.broker_spec.specs.declared.command.Command.{Command}
+use Rattle.broker_spec.specs.declared.command.Output.{Output}
+use Rattle.ballot_base.specs.declared.config.Config.{Config}
+use Rattle.ballot_base.specs.declared.message.Effect.{Effect}
+use Rattle.world_base.specs.declared.node_core.item.Item.{Item}
+use Rattle.world_base.specs.declared.node_core.Port.{Port}
+use Rattle.world_base.specs.node_core.Core.{CountedCore, opening_core}
+use Rattle.world_base.specs.node_core.Handing.{hands_over}
+use Rattle.world_base.specs.node_core.Losses.{ItemStepOrLost}
 
 -- A chain from the first state of a node: one step for each item, in order, each with the lane from
 -- which it came. In between, queued bytes may have been handed over.

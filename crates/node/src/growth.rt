@@ -4,8 +4,10 @@ ghost use Rattle.std.specs.Prelude.{◌≡◌, ◌+◌, ◌*◌, ℕ, length, ma
 ghost use Rattle.node.specs.Growth.{bytes_of_body, bytes_of_command, bytes_of_packet, command_bytes};
 ghost use Rattle.node.specs.Growth.{saturated, grown, max_uncut_bytes};
 
-use node_core::{Body, Command, Item};
+use ballot_base::Body;
+use broker_spec::Command;
 use packet::{Packet, Subscribe, Unsubscribe};
+use world_base::node_core::Item;
 
 /// Up to this size a log is not cut because of it.
 const MAX_UNCUT_BYTES: u64 = 16_777_216;

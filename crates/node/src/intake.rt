@@ -3,8 +3,8 @@
 ghost use Rattle.std.specs.Prelude.{◌≡◌, ◌+◌, ◌≤◌, None, false, true};
 ghost use Rattle.node.specs.Intake.{admits, is_agreed, open_places, status_shown, took};
 
-use devices::PIECE_BYTES;
-use node_core::Status;
+use ballot_base::Status;
+use node_base::devices::PIECE_BYTES;
 use std::marker::Model;
 
 /// How many places may be open when more bytes are taken.

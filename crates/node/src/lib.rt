@@ -12,17 +12,19 @@ mod permit;
 mod report;
 mod running;
 
+pub use ballot_base::errors::{OpeningError, ProposeError};
+pub use ballot_base::{Body, Config, Effect, MAX_NODE, Members, Message, Status};
+pub use broker_spec::{Command, ConnectionName, Output};
 pub use cutting::cuts_after;
-pub use devices::{Gate, NoGate, PIECE_BYTES};
 pub use intake::Intake;
 pub use laws::{cuts_come_apart, cuts_come_often, open_bytes_are_counted};
+pub use machine::Memory;
 pub use naming::NodeNaming;
-pub use node_core::{
-    Body, Command, Config, ConnectionName, Effect, Handed, Item, MAX_NODE, Members, Memory,
-    Message, NodeCore, OpeningError, Output, Piece, Port, ProposeError, Standing, Status,
-};
+pub use node_base::devices::{Gate, NoGate, PIECE_BYTES};
 pub use node_state::NodeState;
 pub use overdue::is_overdue;
 pub use permit::Permit;
 pub use report::Report;
 pub use running::{HasState, Node};
+pub use world_base::node_connections::{Handed, Piece, Port, Standing};
+pub use world_base::node_core::{Item, NodeCore};

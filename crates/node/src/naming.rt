@@ -8,7 +8,7 @@ use std::marker::Brand;
 /// and chooses the nodes that it opened.
 pub trait NodeNaming: Naming {
     ghost use Rattle.std.specs.Prelude.{ℕ};
-    ghost use Rattle.node_core.specs.Core.{CountedCore};
+    ghost use Rattle.world_base.specs.node_core.Core.{CountedCore};
 
     ghost first_of: { ℕ → CountedCore };
 }

@@ -4,10 +4,11 @@ ghost use Rattle.std.specs.Prelude.{◌≡◌, ◌≤◌, ◌++◌, ◌*◌, ◌
 ghost use Rattle.mailbox.specs.Delivery.{items_of_lane, no_bounds};
 ghost use Rattle.mailbox.specs.Ends.{AreAllLanes, ArrivesWhole, HasArrived, WasEmpty, unmet};
 ghost use Rattle.mailbox.specs.declared.lane.TheConstants.{MAX_SENT};
-ghost use Rattle.node_core.specs.ballot_base.Replica.{status_of};
-ghost use Rattle.node_core.specs.lists.Lists.{IsPrefixOf};
-ghost use Rattle.node_core.specs.node_connections.Stands.{standing_of};
-ghost use Rattle.node_core.specs.Handing.{handed_after, pending_bytes, hands_over, idle_ports, listed_at};
+ghost use Rattle.ballot_base.specs.Replica.{status_of};
+ghost use Rattle.lists.specs.Lists.{IsPrefixOf};
+ghost use Rattle.world_base.specs.node_connections.Stands.{standing_of};
+ghost use Rattle.world_base.specs.node_connections.Pending.{handed_after, pending_bytes};
+ghost use Rattle.world_base.specs.node_core.Handing.{hands_over, idle_ports, listed_at};
 ghost use Rattle.node.specs.Growth.{wants_cut};
 ghost use Rattle.node.specs.Report.{HasCapacity, ReportsAll};
 ghost use Rattle.node.specs.State.{Replays, TakesOne, next_taking};
@@ -15,10 +16,14 @@ ghost use Rattle.node.specs.State.{Replays, TakesOne, next_taking};
 use crate::growth::{grown, is_large};
 use crate::naming::NodeNaming;
 use crate::report::Report;
+use ballot_base::{Effect, Status};
+use broker_spec::{Command, Output};
+use machine::Memory;
 use mailbox::{Lane, Receipt, Receiver};
-use node_core::{Command, Effect, Handed, Item, Memory, NodeCore, Output, Port, Standing, Status};
 use std::marker::Model;
 use std::sync::Wait;
+use world_base::node_connections::{Handed, Port, Standing};
+use world_base::node_core::{Item, NodeCore};
 
 /// A node with the receiver of its inbox. Whatever calls come, the node is what its first state
 /// became by one step for each item that was taken, in order.

@@ -3,7 +3,7 @@
 ghost use Rattle.std.specs.Prelude.{◌≡◌};
 ghost use Rattle.node.specs.Overdue.{is_overdue};
 
-use node_core::Standing;
+use world_base::node_connections::Standing;
 
 /// How long the first packet of a connection may take, in milliseconds.
 const FIRST_PACKET_MILLIS: u64 = 10_000;

@@ -3,9 +3,10 @@
 ghost use Rattle.std.specs.Prelude.{IfOk};
 ghost use Rattle.node.specs.Report.{HasCapacity};
 
+use machine::Memory;
 use mailbox::MAX_ITEMS;
-use node_core::{Item, Memory};
 use std::alloc::Global;
+use world_base::node_core::Item;
 
 /// What happened to the items that were sent to a node, once it takes no more.
 #[derive(Drop)]

@@ -8,14 +8,15 @@ use crate::naming::NodeNaming;
 use crate::node_state::NodeState;
 use crate::permit::Permit;
 use crate::report::Report;
-use devices::Gate;
+use machine::Memory;
 use mailbox::Lane;
-use node_core::{Item, Memory};
+use node_base::devices::Gate;
 use std::alloc::Global;
 use std::marker::{Model, PhantomData};
 use std::sync::{Mutex, MutexGuard, Wait};
 use std::thread;
 use std::time::{Clock, Duration};
+use world_base::node_core::Item;
 
 /// How many times, at most, a gate is asked before one taking.
 const GATE_ASKS: u32 = 10_000;

@@ -1,3 +1,2 @@
-pub use Rattle.devices.specs.Counted
-pub use Rattle.devices.specs.Engines
-pub use Rattle.devices.specs.Inside
+pub mod connection
+pub mod devices

@@ -1,4 +1,8 @@
-//! The types of `devices`, for programs that import them from `node_base`.
+//! One connection over devices that may fail. `devices` has reads, writes and the gates at which a
+//! test holds nodes, `connection` what is reported of a connection and written to it.
 #![tactic(auto)]
 
-pub use devices::{Counted, Gate, NoGate, OneRead, OneWrite, PIECE_BYTES, WholeWrite};
+pub use crate::devices::{Counted, Gate, NoGate, OneRead, OneWrite, PIECE_BYTES, WholeWrite};
+
+pub mod connection;
+pub mod devices;

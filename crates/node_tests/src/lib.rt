@@ -1,5 +1,8 @@
-//! Nodes, their inboxes, and the gates of nodes. It has only tests.
+//! Tests of nodes, inboxes, connections over failing devices, and messages between nodes.
 #![tactic(auto)]
 
+pub mod engines;
+pub mod memory;
+pub mod posts;
 #[cfg(test)]
 mod tests;

@@ -8,5 +8,3 @@ pub mod PacketReads
 pub mod After
 pub mod OneSpelling
 pub mod MoreBytes
-pub use Rattle.packet_base.proofs.Clients
-pub use Rattle.packet_base.proofs as of_packet_base

@@ -8,4 +8,3 @@ pub mod Inside
 pub mod ClientId
 pub mod QoS
 pub mod TopicFields
-pub use Rattle.topics.specs as topics

@@ -2,21 +2,21 @@
 use Rattle.std.proofs.Common.{◌≡◌, ◌<◌, ◌+◌, ℕ, zero, suc, List, [], ◌∷◌, Option, Some, None, Result, Ok, Err, OnOk, ◌++◌, length, take, drop, get_or, map, ap, refl, sym, ◌∙◌, subst, arith}
 use Rattle.std.specs.List.{position}
 use Rattle.std.proofs.lemmas.List.{append-nil, append_assoc, take_more}
-use Rattle.client.specs.client_base.declared.accepted.Accepted.{Accepted}
-use Rattle.script.specs.session_base.declared.publication.Publication.{Publication}
+use Rattle.client_base.specs.declared.accepted.Accepted.{Accepted}
+use Rattle.session_base.specs.declared.publication.Publication.{Publication}
 use Rattle.script.specs.declared.script_line.ScriptLine.{ScriptLine}
 use Rattle.play.specs.Lines.{accepted_line}
-use Rattle.world.specs.world_events.declared.event.Event.{Event}
-use Rattle.world.specs.world_clients.declared.world_client.WorldClient.{WorldClient}
+use Rattle.world_pipes.specs.declared.events.event.Event.{Event}
+use Rattle.world_pipes.specs.declared.clients.world_client.WorldClient.{WorldClient}
 use Rattle.world.specs.Found.{core_at}
-use Rattle.world.specs.world_clients.Clients.{is_named}
+use Rattle.world_pipes.specs.clients.Clients.{is_named}
 use Rattle.world.specs.Asking.{EventAsks}
 use Rattle.world.specs.Trace.{StaysReached, KeepsGroup}
-use Rattle.world.specs.world_clients.NodesGoOn.StepsOfGroup.{rests}
+use Rattle.world_pipes.specs.clients.NodesGoOn.StepsOfGroup.{rests}
 use Rattle.world.specs.Happening.{EventHappens}
-use Rattle.world.specs.world_clients.Clients.{new_world_client}
+use Rattle.world_pipes.specs.clients.Clients.{new_world_client}
 use Rattle.world.specs.StandsFor.{KeepsReached, FollowsModelAsking, asked_on}
-use Rattle.world.specs.master.declared.event.Idle.{Idle}
+use Rattle.master.specs.declared.event.Idle.{Idle}
 use Rattle.world.specs.World.{WorldState}
 use Rattle.play.specs.declared.played_world.Recipient.{Recipient}
 use Rattle.play.specs.Events.{asked_in}

@@ -3,11 +3,11 @@ use Rattle.std.proofs.Common.{◌≡◌, Bool, true, false, not, ◌||◌, List,
 use Rattle.std.specs.Prelude.{bytes_eq}
 use Rattle.std.proofs.lemmas.Bool.{and_parts, false≢true}
 use Rattle.std.proofs.lemmas.Slice.Eq.{bytes_eq-Decides}
-use Rattle.world.specs.agreement.World.{can_open}
+use Rattle.agreement.specs.World.{can_open}
 use Rattle.ballot_base.specs.LawfulConfig.{is_lawful}
 use Rattle.script.specs.Fields.{Text, fields_of}
-use Rattle.script.specs.lists.Lists.{Each}
-use Rattle.world.specs.packet_world.World.{ClientsAreApart}
+use Rattle.lists.specs.Lists.{Each}
+use Rattle.headline.specs.packet_world.World.{ClientsAreApart}
 use Rattle.script.specs.Scripts.{IsOpening, IsScript, are_distinct, are_members, has_client, is_lawful_opening}
 use Rattle.script.specs.Scripts.IsOpening.{world}
 use Rattle.script.specs.declared.opening.Opening.{Opening}

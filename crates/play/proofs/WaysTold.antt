@@ -6,9 +6,9 @@ use Rattle.std.proofs.lemmas.List.{append-nil, append_assoc, take_more}
 use Rattle.script.specs.Scripts.{IsScript, lines_of}
 use Rattle.script.specs.declared.script_line.ScriptLine.{ScriptLine}
 use Rattle.script.specs.declared.reading.Script.{Script}
-use Rattle.world.specs.world_events.declared.event.Event.{Event}
-use Rattle.world.specs.world_events.declared.escape_error.EscapeError.{EscapeError}
-use Rattle.world.specs.world_events.declared.escape_error.EscapeError.TheVariants as escapes
+use Rattle.world_pipes.specs.declared.events.event.Event.{Event}
+use Rattle.world_pipes.specs.declared.events.escape_error.EscapeError.{EscapeError}
+use Rattle.world_pipes.specs.declared.events.escape_error.EscapeError.TheVariants as escapes
 use Rattle.world.specs.Escaping.{CanEscape, LeadsClientOut}
 use Rattle.world.specs.Happening.{WorldOpens}
 use Rattle.world.specs.World.{WorldState}

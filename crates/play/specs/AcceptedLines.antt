@@ -1,7 +1,7 @@
 -- The lines of a transcript for what clients accepted.
 use Rattle.std.specs.Prelude.{ℕ, List, [], ◌∷◌, ◌++◌, Option, Some, None, drop, length}
 use Rattle.client.specs.Core.{Core}
-use Rattle.client.specs.client_base.declared.accepted.Accepted.{Accepted}
+use Rattle.client_base.specs.declared.accepted.Accepted.{Accepted}
 use Rattle.play.specs.Lines.{accepted_line}
 use Rattle.world.specs.Found.{core_named}
 use Rattle.world.specs.World.{WorldState}

@@ -1,10 +1,10 @@
 -- How other errors become those of a played script.
-use Rattle.world.specs.ballot_errors.declared.error.OpeningError.{OpeningError}
-use Rattle.world.specs.ballot_errors.declared.error.OpeningError.TheVariants as openings
+use Rattle.ballot_base.specs.declared.errors.error.OpeningError.{OpeningError}
+use Rattle.ballot_base.specs.declared.errors.error.OpeningError.TheVariants as openings
 use Rattle.script.specs.declared.error.ScriptFault.{ScriptFault}
 use Rattle.script.specs.declared.error.ScriptFault.TheVariants as scripts
-use Rattle.world.specs.world_events.declared.escape_error.EscapeError.{EscapeError}
-use Rattle.world.specs.world_events.declared.escape_error.EscapeError.TheVariants as escapes
+use Rattle.world_pipes.specs.declared.events.escape_error.EscapeError.{EscapeError}
+use Rattle.world_pipes.specs.declared.events.escape_error.EscapeError.TheVariants as escapes
 use Rattle.play.specs.declared.error.PlayError.{PlayError}
 use Rattle.play.specs.declared.error.PlayError.TheVariants as errors
 

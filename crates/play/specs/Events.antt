@@ -5,8 +5,8 @@ use Rattle.script.specs.declared.script_line.Amount.{Amount}
 use Rattle.script.specs.declared.script_line.Amount.TheVariants as amounts
 use Rattle.script.specs.declared.script_line.ScriptLine.{ScriptLine}
 use Rattle.script.specs.declared.script_line.ScriptLine.TheVariants as lines
-use Rattle.world.specs.world_events.declared.event.Event.{Event}
-use Rattle.world.specs.world_events.declared.event.Event.TheVariants as events
+use Rattle.world_pipes.specs.declared.events.event.Event.{Event}
+use Rattle.world_pipes.specs.declared.events.event.Event.TheVariants as events
 use Rattle.world.specs.Found.{way_of}
 use Rattle.world.specs.Cannot.{down_of, up_of}
 use Rattle.world.specs.World.{WorldState}

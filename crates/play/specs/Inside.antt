@@ -1,15 +1,15 @@
 -- What the private calls do with a line of a script, and with what clients accepted.
 use Rattle.std.specs.Prelude.{◌≡◌, ℕ, Bool, true, false, List, [], ◌∷◌, ◌++◌, Some, Result, length, map}
-use Rattle.world.specs.master.declared.event.Idle.{Idle}
-use Rattle.script.specs.session_base.declared.publication.Publication.{Publication}
+use Rattle.master.specs.declared.event.Idle.{Idle}
+use Rattle.session_base.specs.declared.publication.Publication.{Publication}
 use Rattle.script.specs.declared.script_line.ScriptLine.{ScriptLine}
 use Rattle.script.specs.declared.script_line.ScriptLine.TheVariants as lines
 use Rattle.play.specs.Lines.{end_line}
-use Rattle.world.specs.world_events.declared.event.Event.{Event}
+use Rattle.world_pipes.specs.declared.events.event.Event.{Event}
 use Rattle.world.specs.Trace.{StaysReached, KeepsGroup}
 use Rattle.world.specs.StandsFor.{KeepsReached}
 use Rattle.world.specs.World.{WorldState}
-use Rattle.world.specs.world_nodes.Agreed.{AgreeOnSoMany}
+use Rattle.world_nodes.specs.Agreed.{AgreeOnSoMany}
 use Rattle.play.specs.declared.played_world.Recipient.{Recipient}
 use Rattle.play.specs.Events.{asked_in, event_of}
 use Rattle.play.specs.Transcripts.{EventComesTo, IsAskedIn, IsEventLine, Played, ScriptStep}

@@ -1,8 +1,8 @@
 -- The lines of a transcript, as bytes; 32 is a space, and 10 ends a line.
 use Rattle.std.specs.Prelude.{ℕ, List, [], ◌∷◌, ◌++◌, codes}
 use Rattle.std.specs.Fmt.{decimal}
-use Rattle.client.specs.client_base.declared.accepted.Accepted.{Accepted}
-use Rattle.printing.specs.Printing.{printed_line, printed}
+use Rattle.client_base.specs.declared.accepted.Accepted.{Accepted}
+use Rattle.client_base.specs.printed.Printing.{printed_line, printed}
 
 -- the line of an idle event, as `7 idle`
 abbrev pub idle_line : ℕ → List ℕ

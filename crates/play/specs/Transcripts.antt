@@ -1,19 +1,19 @@
 -- The transcript of a script: the worlds that its lines lead through, and what is written for
 -- each.
 use Rattle.std.specs.Prelude.{◌≡◌, ℕ, List, [], ◌∷◌, ◌++◌, Option, Some, None, Result, Ok, Err, IsErr, length}
-use Rattle.script.specs.session_base.declared.publication.Publication.{Publication}
-use Rattle.world.specs.master.declared.event.Idle.{Idle}
+use Rattle.session_base.specs.declared.publication.Publication.{Publication}
+use Rattle.master.specs.declared.event.Idle.{Idle}
 use Rattle.script.specs.Scripts.{IsScript, lines_of}
 use Rattle.script.specs.declared.script_line.ScriptLine.{ScriptLine}
 use Rattle.script.specs.declared.reading.Script.{Script}
 use Rattle.play.specs.Lines.{done_line, end_line, idle_line}
-use Rattle.world.specs.world_events.declared.event.Event.{Event}
+use Rattle.world_pipes.specs.declared.events.event.Event.{Event}
 use Rattle.world.specs.Trace.{AreReached, StaysReached, KeepsGroup}
 use Rattle.world.specs.Happening.{EventHappens}
 use Rattle.world.specs.Asking.{EventAsks}
 use Rattle.world.specs.StandsFor.{IsReached, KeepsReached, asked_on}
 use Rattle.world.specs.World.{WorldState}
-use Rattle.world.specs.world_nodes.Agreed.{AgreeOnSoMany}
+use Rattle.world_nodes.specs.Agreed.{AgreeOnSoMany}
 use Rattle.play.specs.Events.{asked_in}
 use Rattle.play.specs.AcceptedLines.{new_lines}
 

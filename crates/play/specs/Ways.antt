@@ -3,8 +3,8 @@ use Rattle.std.specs.Prelude.{◌≡◌, ℕ, List, [], ◌∷◌, ◌++◌, cod
 use Rattle.std.specs.Fmt.{decimal}
 use Rattle.script.specs.Scripts.{IsScript, lines_of}
 use Rattle.script.specs.declared.reading.Script.{Script}
-use Rattle.world.specs.world_events.declared.event.Event.{Event}
-use Rattle.world.specs.world_events.declared.event.Event.TheVariants as events
+use Rattle.world_pipes.specs.declared.events.event.Event.{Event}
+use Rattle.world_pipes.specs.declared.events.event.Event.TheVariants as events
 use Rattle.world.specs.Escaping.{CanEscape, LeadsClientOut}
 use Rattle.world.specs.Happening.{WorldOpens}
 use Rattle.world.specs.World.{WorldState}

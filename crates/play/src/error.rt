@@ -1,10 +1,12 @@
 // Why a script was not played as it should be.
 
+use ballot_base::errors::OpeningError;
+use machine::Memory;
 use script::ScriptFault;
 use std::alloc::{AllocError, AllocFailed};
 use std::error::Error;
 use std::fmt;
-use world::{EscapeError, Memory, OpeningError};
+use world_pipes::events::EscapeError;
 
 /// Why a script was not played as it should be.
 #[derive(Clone, Copy, Debug, PartialEq, Eq)]

@@ -5,9 +5,9 @@ ghost use Rattle.std.specs.Fmt.{decimal};
 ghost use Rattle.play.specs.Ways.{event_line, members_text, more_members, one_field, two_fields};
 
 use ballot_base::Config;
-use packet::ClientId;
+use packet_base::ClientId;
 use std::alloc::{AllocError, Global};
-use world::Event;
+use world_pipes::events::Event;
 
 /// Appends the line of an event, as a script writes it; nothing for an event that no way out has.
 pub(crate) fn write_event(

@@ -2,7 +2,7 @@
 
 ghost use Rattle.std.specs.Prelude.{◌≡◌, true, Some, length, option_map, IfOk, IsErrOf, OnErr};
 ghost use Rattle.std.specs.List.{list_all};
-ghost use Rattle.world.specs.world_events.declared.event.Event.TheVariants as events;
+ghost use Rattle.world_pipes.specs.declared.events.event.Event.TheVariants as events;
 ghost use Rattle.world.specs.Found.{way_of};
 ghost use Rattle.world.specs.Cannot.{down_of, up_of};
 ghost use Rattle.play.specs.Events.{asked_in, assign_of, count_of, is_byte, node_of};
@@ -10,10 +10,11 @@ ghost use Rattle.play.specs.Inside.{IsCallOf, is_call};
 
 use crate::error::PlayError;
 use ballot_base::{Config, Members};
-use packet::ClientId;
+use packet_base::ClientId;
 use script::{Amount, Numbers, ScriptLine};
 use std::alloc::Global;
-use world::{Event, World};
+use world::World;
+use world_pipes::events::Event;
 
 /// Returns the event that a line asks for in a world; none if it names a number that no node can
 /// have. The only error is that memory ran out.

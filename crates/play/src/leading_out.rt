@@ -9,10 +9,10 @@ use crate::error::PlayError;
 use crate::event_lines::write_event;
 use crate::played_world::PlayedWorld;
 use crate::playing::play_all;
-use packet::ClientId;
+use packet_base::ClientId;
 use script::{Script, read};
 use std::alloc::Global;
-use world::Event;
+use world_pipes::events::Event;
 
 /// Plays a script and appends a way out of the world in which it ends, as lines that may follow it.
 /// No transcript is written. [`PlayError::Idle`] comes if there is none, by `World::escape`.

@@ -1,8 +1,8 @@
 // A world in which a script is played.
 
 ghost use Rattle.std.specs.Prelude.{◌≡◌, ◌<◌, ◌++◌, ℕ, false, [], map, IfOk, OnOk, OnErr, IsErrOf};
-ghost use Rattle.world.specs.agreement.World.{can_open};
-ghost use Rattle.world.specs.packet_world.World.{ClientsAreApart};
+ghost use Rattle.agreement.specs.World.{can_open};
+ghost use Rattle.headline.specs.packet_world.World.{ClientsAreApart};
 ghost use Rattle.world.specs.Happening.{WorldOpens};
 ghost use Rattle.world.specs.Trace.{AreReached};
 ghost use Rattle.world.specs.StandsFor.{IsReached, asked_on};
@@ -12,11 +12,12 @@ ghost use Rattle.play.specs.AcceptedLines.{accepted_by_client, accepted_lines, l
 use crate::error::PlayError;
 use crate::events::event_of;
 use crate::writing::{write_accepted, write_done, write_end, write_idle};
-use client::Accepted;
-use packet::ClientId;
+use client_base::Accepted;
+use master::Idle;
+use packet_base::ClientId;
 use script::{Opening, ScriptLine};
 use std::alloc::Global;
-use world::{Idle, World};
+use world::World;
 
 /// A client, and how many of the publications that it accepted are written.
 #[derive(Drop)]

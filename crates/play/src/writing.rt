@@ -3,9 +3,9 @@
 ghost use Rattle.std.specs.Prelude.{◌≡◌, ◌++◌, OnOk};
 ghost use Rattle.play.specs.Lines.{accepted_line, done_line, end_line, idle_line};
 
-use client::Accepted;
-use packet::ClientId;
-use printing::{print_line, print_text};
+use client_base::Accepted;
+use client_base::printed::{print_line, print_text};
+use packet_base::ClientId;
 use std::alloc::{AllocError, Global};
 
 /// Appends the line of an event that could not happen: `7 idle`.

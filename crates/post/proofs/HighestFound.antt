@@ -3,10 +3,10 @@ use Rattle.std.proofs.Common.{◌≡◌, ℕ, zero, suc, ◌≤◌, Bool, true, 
 use Rattle.std.proofs.Common.{◌∙◌}
 use Rattle.std.proofs.lemmas.Bool.{false≢true}
 use Rattle.std.proofs.lemmas.List.{append-nil}
-use Rattle.master.proofs.of_lists.Members.{in_left, in_right}
-use Rattle.master.proofs.of_lists.OfEach.{each_append, each_then}
-use Rattle.master.specs.lists.Lists.{In}
-use Rattle.master.specs.lists.Lists.In.{here}
+use Rattle.lists.proofs.Members.{in_left, in_right}
+use Rattle.lists.proofs.OfEach.{each_append, each_then}
+use Rattle.lists.specs.Lists.{In}
+use Rattle.lists.specs.Lists.In.{here}
 use Rattle.post.specs.Primaries.{IsHighest, NoneIsHigher, NoneServes, higher, highest_from, serves}
 use Rattle.post.specs.declared.choosing.Shown.{Shown}
 

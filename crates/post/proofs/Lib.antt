@@ -1,5 +1,5 @@
+pub mod of_outbox
 mod HighestFound
 mod NoneAmong
 mod QueuesJoin
 mod RefusedByConfig
-pub use Rattle.master.proofs.of_lists as of_lists

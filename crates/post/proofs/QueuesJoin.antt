@@ -1,12 +1,12 @@
 -- QueuesJoin.antt: what is queued at first and then is what is queued.
 use Rattle.std.proofs.Common.{◌≡◌, ℕ, List, [], ◌∷◌, ◌++◌, refl, ap, sym, subst}
 use Rattle.std.proofs.lemmas.List.{append-nil, append_assoc}
-use Rattle.node.specs.broker_spec.declared.command.Command.{Command}
-use Rattle.node.specs.broker_spec.declared.command.Output.{Output}
-use Rattle.node.specs.ballot_base.declared.message.Effect.{Effect}
-use Rattle.node.specs.ballot_base.declared.message.Effect.TheVariants.{To, Out}
-use Rattle.node.specs.ballot_base.declared.message.Message.{Message}
-use Rattle.outbox.specs.Given.{Addressed}
+use Rattle.broker_spec.specs.declared.command.Command.{Command}
+use Rattle.broker_spec.specs.declared.command.Output.{Output}
+use Rattle.ballot_base.specs.declared.message.Effect.{Effect}
+use Rattle.ballot_base.specs.declared.message.Effect.TheVariants.{To, Out}
+use Rattle.ballot_base.specs.declared.message.Message.{Message}
+use Rattle.post.specs.outbox.Given.{Addressed}
 use Rattle.post.specs.Queuing.{QueuesAll, messages_of}
 use Rattle.post.specs.Queuing.QueuesAll.{none, one_more}
 

@@ -4,9 +4,9 @@ use Rattle.std.proofs.Common.{◌≡◌, ℕ, ◌==◌, ◌&&◌, Bool, true, fa
 use Rattle.std.specs.Prelude.{◌⊎◌}
 use Rattle.std.specs.List.{list_any}
 use Rattle.std.proofs.lemmas.Bool.{and_parts, eqb-true, or_cases}
-use Rattle.master.specs.agreement.MasterState.AssignRefusal.{bad_members, ballots_spent}
-use Rattle.master.specs.ballot_base.LawfulConfig.{are_rising, is_lawful}
-use Rattle.master.specs.lists.Lists.{has_id}
+use Rattle.agreement.specs.MasterState.AssignRefusal.{bad_members, ballots_spent}
+use Rattle.ballot_base.specs.LawfulConfig.{are_rising, is_lawful}
+use Rattle.lists.specs.Lists.{has_id}
 use Rattle.post.specs.Numbers.{are_nodes, is_node}
 
 pub bad_by : (lawful spent : Bool)

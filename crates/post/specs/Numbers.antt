@@ -1,7 +1,7 @@
 -- The numbers of a program's nodes.
 use Rattle.std.specs.Prelude.{ℕ, Bool, List, map}
 use Rattle.std.specs.List.{list_all}
-use Rattle.master.specs.lists.Lists.{has_id}
+use Rattle.lists.specs.Lists.{has_id}
 use Rattle.post.specs.declared.peer.Peer.{Peer}
 
 -- the number of each node, in the order of the table

@@ -1,7 +1,7 @@
 -- For which node an order about a client is queued, by the status that each node showed last.
 use Rattle.std.specs.Prelude.{◌≡◌, ℕ, ◌≤◌, Bool, true, false, ◌&&◌, nat_lt, if◌then◌else◌, List, [], ◌∷◌, Option, Some, None}
-use Rattle.master.specs.ballot_base.Replica.{serves_in_role}
-use Rattle.master.specs.lists.Lists.{Each, In}
+use Rattle.ballot_base.specs.Replica.{serves_in_role}
+use Rattle.lists.specs.Lists.{Each, In}
 use Rattle.post.specs.declared.choosing.Shown.{Shown}
 
 -- the node serves clients: it is the active primary of its ballot, and has not stopped

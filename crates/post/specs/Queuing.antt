@@ -1,11 +1,11 @@
 -- The messages that steps of a node gave for others, one by one.
 use Rattle.std.specs.Prelude.{ℕ, List, [], ◌∷◌, ◌++◌}
-use Rattle.node.specs.broker_spec.declared.command.Command.{Command}
-use Rattle.node.specs.broker_spec.declared.command.Output.{Output}
-use Rattle.node.specs.ballot_base.declared.message.Effect.{Effect}
-use Rattle.node.specs.ballot_base.declared.message.Effect.TheVariants.{To, Out}
-use Rattle.node.specs.ballot_base.declared.message.Message.{Message}
-use Rattle.outbox.specs.Given.{Addressed}
+use Rattle.broker_spec.specs.declared.command.Command.{Command}
+use Rattle.broker_spec.specs.declared.command.Output.{Output}
+use Rattle.ballot_base.specs.declared.message.Effect.{Effect}
+use Rattle.ballot_base.specs.declared.message.Effect.TheVariants.{To, Out}
+use Rattle.ballot_base.specs.declared.message.Message.{Message}
+use Rattle.post.specs.outbox.Given.{Addressed}
 
 -- the messages among effects, in order
 abbrev pub messages_of : List (Effect Command Output) → List Addressed

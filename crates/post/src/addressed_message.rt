@@ -1,18 +1,20 @@
 // A message that a step of a node gave for another node.
 
 ghost use Rattle.std.specs.Prelude.{◌≡◌, ◌++◌, ◌∷◌, [], false, true};
-ghost use Rattle.master.specs.lists.Lists.{has_id};
-ghost use Rattle.node.specs.ballot_base.declared.message.Effect.TheVariants.{To};
+ghost use Rattle.lists.specs.Lists.{has_id};
+ghost use Rattle.ballot_base.specs.declared.message.Effect.TheVariants.{To};
 ghost use Rattle.node.specs.declared.Item.TheVariants.{Peer};
-ghost use Rattle.outbox.specs.Given.{IsMasterNumber};
-ghost use Rattle.outbox.specs.Queued.{WasGiven};
-ghost use Rattle.outbox.specs.Mastering.{answer_to, master_after_outcome, message_if};
-ghost use Rattle.outbox.specs.Replacing.{still_waiting};
+ghost use Rattle.post.specs.outbox.Given.{IsMasterNumber};
+ghost use Rattle.post.specs.outbox.Queued.{WasGiven};
+ghost use Rattle.post.specs.outbox.Mastering.{answer_to, master_after_outcome, message_if};
+ghost use Rattle.post.specs.outbox.Replacing.{still_waiting};
 
 use crate::cluster::Cluster;
-use node::{Command, Item, Message};
-use outbox::{Answer, MessagingMaster, Outbox};
+use crate::outbox::{Answer, MessagingMaster, Outbox};
+use ballot_base::Message;
+use broker_spec::Command;
 use std::marker::Model;
+use world_base::node_core::Item;
 
 /// A message that a step of a node gave, and the number of the node that it is for; 0 is the
 /// master. It cannot be dropped: it ends in an outbox of that node, at the master, or is lost if no
@@ -25,8 +27,8 @@ pub struct AddressedMessage {
 }
 
 impl Model for AddressedMessage {
-    ghost use Rattle.node.specs.ballot_base.declared.message.Effect.TheVariants.{To};
-    ghost use Rattle.outbox.specs.Given.{Addressed, WasGiven};
+    ghost use Rattle.ballot_base.specs.declared.message.Effect.TheVariants.{To};
+    ghost use Rattle.post.specs.outbox.Given.{Addressed, WasGiven};
 
     ghost Value = { Addressed };
 

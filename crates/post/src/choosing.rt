@@ -3,7 +3,7 @@
 ghost use Rattle.std.specs.Prelude.{◌≡◌, IfSome, None};
 ghost use Rattle.post.specs.Primaries.{IsHighest, NoneServes, higher, serves};
 
-use node::Status;
+use ballot_base::Status;
 
 /// A node's number, and its status after its last change.
 #[derive(Clone, Copy)]

@@ -1,21 +1,23 @@
 // The nodes of a program, and their master.
 
 ghost use Rattle.std.specs.Prelude.{◌≡◌, ◌&&◌, IfOk, IfSome, IsErrOf, IsOk, None, Ok, OnOk, OnSome, false, is_some, length, nat_lt, true};
-ghost use Rattle.master.specs.ballot_base.LawfulConfig.{is_lawful};
-ghost use Rattle.master.specs.lists.Lists.{has_id};
-ghost use Rattle.outbox.specs.Given.{IsMasterNumber};
-ghost use Rattle.outbox.specs.Mastering.{MayGet};
+ghost use Rattle.ballot_base.specs.LawfulConfig.{is_lawful};
+ghost use Rattle.lists.specs.Lists.{has_id};
+ghost use Rattle.post.specs.outbox.Given.{IsMasterNumber};
+ghost use Rattle.post.specs.outbox.Mastering.{MayGet};
 ghost use Rattle.post.specs.Numbers.{are_nodes, is_node, peer_numbers};
 
 use crate::addressed_message::AddressedMessage;
 use crate::choosing::{Shown, primary_of};
+use crate::outbox::{Answer, MessagingMaster, OrderError};
 use crate::peer::Peer;
 use crate::queuing::{GivenEffects, Receivers, queue_all};
-use ballot::MASTER;
+use ballot_base::errors::OpeningError;
+use ballot_base::{Config, MASTER, Status};
+use machine::Memory;
 use master::{AssignError, config_of};
-use node::{Config, Memory, NodeNaming, NodeState, OpeningError, Status};
-use outbox::{Answer, MessagingMaster, OrderError};
-use packet::ClientId;
+use node::{NodeNaming, NodeState};
+use packet_base::ClientId;
 use std::alloc::Global;
 use std::marker::Model;
 use std::sync::{Mutex, Wait};

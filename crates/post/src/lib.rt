@@ -6,12 +6,13 @@
 mod addressed_message;
 mod choosing;
 mod cluster;
+pub mod outbox;
 mod peer;
 mod queuing;
 
+pub use crate::outbox::OrderError;
 pub use addressed_message::AddressedMessage;
 pub use cluster::Cluster;
 pub use master::Idle;
-pub use outbox::OrderError;
 pub use peer::{AdmittedBytes, Peer};
 pub use queuing::{GivenEffects, Receivers, queue_all};

@@ -1,20 +1,24 @@
 // A node as the other nodes of its program see it.
 
 ghost use Rattle.std.specs.Prelude.{◌≡◌, ◌≤◌, IfOk, IfSome, IsErrOf, false, true};
-ghost use Rattle.master.specs.ballot_base.LawfulConfig.{is_lawful};
-ghost use Rattle.node.specs.lists.Lists.{Each};
-ghost use Rattle.outbox.specs.Mastering.{MayGet};
-ghost use Rattle.outbox.specs.Queued.{IsPosted, IsQueued};
+ghost use Rattle.ballot_base.specs.LawfulConfig.{is_lawful};
+ghost use Rattle.lists.specs.Lists.{Each};
+ghost use Rattle.post.specs.outbox.Mastering.{MayGet};
+ghost use Rattle.post.specs.outbox.Queued.{IsPosted, IsQueued};
 
 use crate::addressed_message::AddressedMessage;
+use crate::outbox::{Answer, MessagingMaster, OrderError, Outbox, Waker, is_urgent};
+use ballot_base::{Config, Status};
+use machine::Memory;
 use master::AssignError;
-use node::{Config, Intake, Item, Memory, PIECE_BYTES, Status};
-use outbox::{Answer, MessagingMaster, OrderError, Outbox, Waker, is_urgent};
-use packet::ClientId;
+use node::Intake;
+use node_base::devices::PIECE_BYTES;
+use packet_base::ClientId;
 use std::alloc::Global;
 use std::marker::Model;
 use std::sync::{Mutex, Wait};
 use std::time::Duration;
+use world_base::node_core::Item;
 
 // Whether an item waits that wakes the node, and whether many wait.
 #[derive(Clone, Copy)]

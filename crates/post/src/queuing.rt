@@ -1,12 +1,13 @@
 // What steps of a node gave for others, queued message by message in order.
 
 ghost use Rattle.std.specs.Prelude.{◌≡◌, [], ◌∷◌};
-ghost use Rattle.node.specs.lists.Lists.{Each};
+ghost use Rattle.lists.specs.Lists.{Each};
 ghost use Rattle.post.specs.Queuing.{QueuesAll, messages_of};
-ghost use Rattle.outbox.specs.Queued.{WasGiven};
+ghost use Rattle.post.specs.outbox.Queued.{WasGiven};
 
 use crate::addressed_message::AddressedMessage;
-use node::{Command, Effect, Output};
+use ballot_base::Effect;
+use broker_spec::{Command, Output};
 use std::marker::Model;
 use std::sync::Wait;
 
@@ -21,11 +22,11 @@ pub struct GivenEffects {
 
 impl Model for GivenEffects {
     ghost use Rattle.std.specs.Prelude.{List};
-    ghost use Rattle.node.specs.broker_spec.declared.command.Command.{Command};
-    ghost use Rattle.node.specs.broker_spec.declared.command.Output.{Output};
-    ghost use Rattle.node.specs.ballot_base.declared.message.Effect.{Effect};
-    ghost use Rattle.node.specs.lists.Lists.{Each};
-    ghost use Rattle.outbox.specs.Given.{WasGiven};
+    ghost use Rattle.broker_spec.specs.declared.command.Command.{Command};
+    ghost use Rattle.broker_spec.specs.declared.command.Output.{Output};
+    ghost use Rattle.ballot_base.specs.declared.message.Effect.{Effect};
+    ghost use Rattle.lists.specs.Lists.{Each};
+    ghost use Rattle.post.specs.outbox.Given.{WasGiven};
 
     ghost Value = { List (Effect Command Output) };
 
@@ -47,8 +48,8 @@ impl GivenEffects {
 /// The receivers of messages: nodes, for which they are queued, and the master, which answers them.
 pub trait Receivers {
     ghost use Rattle.std.specs.Prelude.{ℕ};
-    ghost use Rattle.node.specs.broker_spec.declared.command.Command.{Command};
-    ghost use Rattle.node.specs.ballot_base.declared.message.Message.{Message};
+    ghost use Rattle.broker_spec.specs.declared.command.Command.{Command};
+    ghost use Rattle.ballot_base.specs.declared.message.Message.{Message};
 
     // The state before a call, the receiver of the message, the message, and the state after it.
     ghost queues: { Self → ℕ → Message Command → Self → Type 0 };

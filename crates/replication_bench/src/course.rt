@@ -1,9 +1,11 @@
 // A world of three nodes and four clients, and what happens in it, event by event.
 
 use anyhow::{Result, bail, ensure};
-use packet::ClientId;
+use ballot_base::{Config, Members};
+use packet_base::ClientId;
 use std::alloc::Global;
-use world::{Config, Event, Members, World};
+use world::World;
+use world_pipes::events::Event;
 
 /// The clients.
 pub const CLIENTS: [&str; 4] = ["a", "b", "c", "d"];

@@ -1,7 +1,7 @@
 // Groups of machines that add numbers.
 
 use anyhow::{Result, bail};
-use ballot::{Config, Members};
+use ballot_base::{Config, Members};
 use machine::{Tally, TallyCommand};
 use master::{Event, Group};
 use std::alloc::Global;

@@ -4,11 +4,12 @@ use crate::course::{
     Course, carry_down, carry_up, connect, let_happen, let_happen_and_drop, named,
 };
 use anyhow::Result;
-use packet::{Payload, QoS};
+use packet_base::{Payload, QoS};
 use session_base::Publication;
 use std::alloc::Global;
 use topics::{Filter, TopicName};
-use world::{Event, World};
+use world::World;
+use world_pipes::events::Event;
 
 /// How many bytes a publication carries.
 const PAYLOAD: [u8; 64] = [7; 64];

@@ -3,7 +3,8 @@
 use crate::course::{Course, config, connect, deliver_all, let_happen_and_drop, named};
 use anyhow::Result;
 use std::alloc::Global;
-use world::{Event, World};
+use world::World;
+use world_pipes::events::Event;
 
 /// What happens to the end of a lost connection at its node.
 #[derive(Clone, Copy, Debug, PartialEq, Eq)]

@@ -8,9 +8,9 @@ use Rattle.std.specs.Str.Parse.{digits_value}
 use Rattle.hex.specs.Hex.{decode_of}
 use Rattle.topics.specs.declared.malformed.MalformedKind.{MalformedKind}
 use Rattle.topics.specs.Text.{filter_fault, topic_fault}
-use Rattle.session_base.specs.packet_base.ClientId.{client_fault}
-use Rattle.session_base.specs.packet.packet_base.declared.qos.QoS.{QoS}
-use Rattle.session_base.specs.packet.packet_base.declared.qos.QoS.TheVariants as qualities
+use Rattle.packet_base.specs.ClientId.{client_fault}
+use Rattle.packet_base.specs.declared.qos.QoS.{QoS}
+use Rattle.packet_base.specs.declared.qos.QoS.TheVariants as qualities
 use Rattle.script.specs.declared.script_line.Amount.{Amount}
 use Rattle.script.specs.declared.script_line.Amount.TheVariants as amounts
 

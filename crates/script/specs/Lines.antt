@@ -1,6 +1,6 @@
 -- The form of each line after the first: its fields, and what they say.
 use Rattle.std.specs.Prelude.{◌≡◌, ℕ, Bool, List, [], ◌∷◌, codes, Some}
-use Rattle.session_base.specs.packet.packet_base.declared.qos.QoS.{QoS}
+use Rattle.packet_base.specs.declared.qos.QoS.{QoS}
 use Rattle.script.specs.Fields.{Text, parse_amount, parse_client, parse_filter, parse_number, parse_numbers, parse_payload, parse_qos, parse_retain, parse_topic}
 use Rattle.script.specs.declared.script_line.Amount.{Amount}
 use Rattle.script.specs.declared.script_line.ScriptLine.{ScriptLine}

@@ -8,7 +8,7 @@ ghost use Rattle.script.specs.Inside.LineReading.{one, only, parse_publication, 
 use crate::error::FieldFault;
 use crate::script_line::ScriptLine;
 use crate::values::{amount, client, filter, number, numbers, payload, qos, retain, topic};
-use packet::ClientId;
+use packet_base::ClientId;
 use session_base::Publication;
 use std::alloc::Global;
 

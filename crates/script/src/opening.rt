@@ -9,7 +9,7 @@ ghost use Rattle.script.specs.Inside.Worlds.{is_at_most_max_node, values_of, par
 use crate::error::FieldFault;
 use crate::values::{clients, number, numbers};
 use ballot_base::{Config, Members};
-use packet::ClientId;
+use packet_base::ClientId;
 use std::alloc::Global;
 
 /// The world at the beginning.

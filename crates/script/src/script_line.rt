@@ -1,7 +1,7 @@
 // What a line of a script says.
 
 use crate::numbers::Numbers;
-use packet::{ClientId, QoS};
+use packet_base::{ClientId, QoS};
 use session_base::Publication;
 use topics::Filter;
 

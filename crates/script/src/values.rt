@@ -8,7 +8,7 @@ use crate::fields::parts_of;
 use crate::numbers::Numbers;
 use crate::script_line::Amount;
 use hex::FromHexError;
-use packet::{ClientId, Payload, QoS};
+use packet_base::{ClientId, Payload, QoS};
 use std::alloc::Global;
 use topics::{Filter, TopicName};
 

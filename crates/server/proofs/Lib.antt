@@ -1,1 +1,2 @@
+pub mod of_node_threads
 mod Namesakes

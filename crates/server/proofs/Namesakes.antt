@@ -3,11 +3,11 @@ use Rattle.std.proofs.Common.{◌≡◌, ◌==◌, ℕ, ◌+◌, ◌<◌, Bool, 
 use Rattle.std.proofs.lemmas.Bool.{eq-eqb}
 use Rattle.mailbox.specs.Naming.{no_inbox}
 use Rattle.node.specs.declared.Config.{Config}
-use Rattle.node_threads.specs.post.lists.Lists.{Each}
-use Rattle.node_threads.proofs.of_post.of_lists.OfEach.{each_append, each_then}
-use Rattle.node_threads.specs.Named.{AreNamed}
+use Rattle.lists.specs.Lists.{Each}
+use Rattle.lists.proofs.OfEach.{each_append, each_then}
+use Rattle.server.specs.node_threads.Named.{AreNamed}
 use Rattle.server.specs.Opening.{first_in, inbox_among}
-use Rattle.node_threads.specs.declared.opened_node.OpenedNode.{OpenedNode}
+use Rattle.server.specs.declared.node_threads.opened_node.OpenedNode.{OpenedNode}
 
 above : (number other : ℕ) → number < other → (other == number) ≡ false
 above number other less = grind (arith, less)

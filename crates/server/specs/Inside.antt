@@ -1,7 +1,7 @@
 -- What is kept of the end of one more node.
 use Rattle.std.specs.Prelude.{◌≡◌, [], ◌∷◌, ◌++◌, Some}
 use Rattle.std.specs.Option.{option_or}
-use Rattle.node_threads.specs.declared.served_node.NodeReport.{NodeReport}
+use Rattle.server.specs.declared.node_threads.served_node.NodeReport.{NodeReport}
 use Rattle.server.specs.declared.outcome.Outcome.{Outcome}
 use Rattle.server.specs.declared.serve_error.ServeError.{ServeError}
 

@@ -1,3 +1,4 @@
+pub mod node_threads
 pub mod Inside
 pub mod Opening
 pub mod Refusals

@@ -2,9 +2,9 @@
 use Rattle.std.specs.Prelude.{◌==◌, ℕ, List, [], ◌∷◌, if◌then◌else◌}
 use Rattle.atomic_table.specs.Seated.{TableId}
 use Rattle.mailbox.specs.Naming.{no_inbox}
-use Rattle.node_threads.specs.post.node_core.Core.{CountedCore, opening_core}
+use Rattle.world_base.specs.node_core.Core.{CountedCore, opening_core}
 use Rattle.node.specs.declared.Config.{Config}
-use Rattle.node_threads.specs.declared.opened_node.OpenedNode.{OpenedNode}
+use Rattle.server.specs.declared.node_threads.opened_node.OpenedNode.{OpenedNode}
 
 -- the inbox of the node of a number, among nodes that are about to serve
 abbrev pub inbox_among : List OpenedNode → ℕ → TableId

@@ -2,9 +2,10 @@
 
 ghost use Rattle.std.specs.Prelude.{◌≡◌, ◌≤◌, [], length, map, vec_capacity};
 
+use crate::node_threads::ServedNode;
 use crate::outcome::Outcome;
-use node::{Gate, HasState, NodeNaming, NodeState};
-use node_threads::ServedNode;
+use node::{HasState, NodeNaming, NodeState};
+use node_base::devices::Gate;
 use std::net::{Net, TcpStream};
 use std::sync::Wait;
 use std::time::Clock;

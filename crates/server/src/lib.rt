@@ -4,16 +4,20 @@
 
 mod closing;
 mod listening;
+pub mod node_threads;
 mod opening;
 mod outcome;
 mod serve_error;
 mod starting;
 
+pub use crate::node_threads::{NodeReport, THREADS};
+pub use ballot_base::errors::{OpeningError, ProposeError};
+pub use ballot_base::{Config, MAX_NODE, Members, Status};
 pub use listening::{serve_gated, serve_while};
-pub use node::{
-    Config, Gate, MAX_NODE, Members, Memory, NoGate, OpeningError, ProposeError, Status,
-};
-pub use node_threads::{NodeReport, THREADS};
-pub use post::{Cluster, Idle, OrderError};
+pub use machine::Memory;
+pub use master::Idle;
+pub use node_base::devices::{Gate, NoGate};
+pub use post::Cluster;
+pub use post::outbox::OrderError;
 pub use serve_error::ServeError;
 pub use streams::{Listener, MAX_CONNECTIONS};

@@ -3,15 +3,18 @@
 ghost use Rattle.std.specs.Prelude.{◌≡◌, ◌≤◌, [], IfOk, length, map, vec_capacity};
 ghost use Rattle.std.specs.Fn.{FnOnceReturnsAt};
 ghost use Rattle.node.specs.State.{EachOpensAs};
-ghost use Rattle.node_threads.specs.Named.{AreNamed};
+ghost use Rattle.server.specs.node_threads.Named.{AreNamed};
 
 use crate::closing::{close_all, end_all};
+use crate::node_threads::{NodeContexts, NodeReport, OpenedNode, ServedNode, THREADS, start_all};
 use crate::opening::open_all;
 use crate::outcome::Outcome;
 use crate::serve_error::ServeError;
 use crate::starting::can_start;
-use node::{Config, Gate, HasState, NoGate, NodeNaming, NodeState, OpeningError};
-use node_threads::{NodeContexts, NodeReport, OpenedNode, ServedNode, THREADS, start_all};
+use ballot_base::Config;
+use ballot_base::errors::OpeningError;
+use node::{HasState, NodeNaming, NodeState};
+use node_base::devices::{Gate, NoGate};
 use post::Cluster;
 use std::alloc::Global;
 use std::marker::Brand;

@@ -1,13 +1,15 @@
 // Nodes that are about to serve.
 
 ghost use Rattle.std.specs.Prelude.{◌≡◌, ◌≤◌, IfOk, length};
-ghost use Rattle.node_threads.specs.Named.{AreNamed};
+ghost use Rattle.server.specs.node_threads.Named.{AreNamed};
 ghost use Rattle.server.specs.Opening.{first_in, inbox_among};
 
+use crate::node_threads::{NodeContexts, OpenedNode};
+use ballot_base::errors::OpeningError;
+use ballot_base::{Config, MAX_NODE};
 use mailbox::Inbox;
-use node::{Config, MAX_NODE, NodeCore, OpeningError};
-use node_threads::{NodeContexts, OpenedNode};
 use std::alloc::Global;
+use world_base::node_core::NodeCore;
 
 /// One more than the greatest number of a node.
 const NODE_NUMBERS_END: u8 = MAX_NODE + 1;

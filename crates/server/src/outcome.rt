@@ -4,9 +4,9 @@ ghost use Rattle.std.specs.Prelude.{◌≡◌, ◌<◌, ◌≤◌, ◌⊎◌, []
 ghost use Rattle.std.specs.List.Sorted.{IsNonDecreasingBy};
 ghost use Rattle.server.specs.Inside.{AddsReport, Fails};
 
+use crate::node_threads::NodeReport;
 use crate::serve_error::ServeError;
-use node::Memory;
-use node_threads::NodeReport;
+use machine::Memory;
 use std::alloc::{AllocError, Global};
 
 /// What the nodes reported at their ends.

@@ -2,7 +2,8 @@
 
 ghost use Rattle.std.specs.Prelude.{◌≡◌};
 
-use node::{Memory, OpeningError};
+use ballot_base::errors::OpeningError;
+use machine::Memory;
 use std::error::Error;
 use std::fmt;
 

@@ -4,7 +4,7 @@ use Rattle.std.proofs.Common.{◌≡◌, ◌<◌, ℕ, zero, suc, ◌+◌, Bool,
 use Rattle.std.specs.List.{list_any}
 use Rattle.indexmap.specs.IndexMap.{insert_entry}
 use Rattle.session_base.specs.Identifiers.{free_from}
-use Rattle.session_base.specs.lists.Lists.{has_id}
+use Rattle.lists.specs.Lists.{has_id}
 
 pub stop : (left id : ℕ) (busy : List ℕ) → has_id id busy ≡ false → free_from left id busy ≡ id
 stop zero id busy free = refl

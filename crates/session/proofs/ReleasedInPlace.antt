@@ -7,7 +7,7 @@ use Rattle.std.specs.List.{position_or_len, AllByRecursion, IsDistinct as IsDist
 use Rattle.std.specs.Map.{lookup, keys_of, remove_entry}
 use Rattle.std.proofs.lemmas.Bool.{or_parts, or_from}
 use Rattle.indexmap.specs.IndexMap.{move_index}
-use Rattle.session_base.specs.lists.Lists.{has_id, IsDistinct}
+use Rattle.lists.specs.Lists.{has_id, IsDistinct}
 use Rattle.session_base.specs.declared.awaits.Awaits.{Awaits}
 use Rattle.session_base.specs.declared.awaits.Awaits.TheVariants as waits_for
 use Rattle.session_base.specs.Queue.{Flight, is_released, awaits_pubrec, ids_of, released_with}

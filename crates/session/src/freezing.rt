@@ -14,7 +14,7 @@ use crate::received::Received;
 use crate::session::Session;
 use crate::session_queue::SessionQueue;
 use crate::subscriptions::Subscriptions;
-use packet::PacketId;
+use packet_base::PacketId;
 use session_base::{
     Awaits, MAX_ENTRIES, MAX_SUBSCRIPTIONS, Publication, write_flight, write_granted_subscription,
     write_number, write_publication,

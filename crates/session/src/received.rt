@@ -1,10 +1,10 @@
 // The QoS 2 publications that arrived and whose PUBREL has not come (MQTT 4.3.3).
 
 ghost use Rattle.std.specs.Prelude.{◌≡◌, [], OnOk, OnErr};
-ghost use Rattle.session_base.specs.lists.Lists.{has_id};
+ghost use Rattle.lists.specs.Lists.{has_id};
 ghost use Rattle.session_base.specs.Identifiers.{with_id, without_id};
 
-use packet::PacketId;
+use packet_base::PacketId;
 use std::alloc::{AllocError, Global};
 use std::collections::BTreeSet;
 use std::marker::Model;

@@ -6,7 +6,8 @@ ghost use Rattle.session_base.specs.Publication.{publish_for};
 ghost use Rattle.session_base.specs.Queue.{is_puback, is_pubrec, is_pubcomp, awaited};
 ghost use Rattle.session_base.specs.Sending.{sent_anew};
 
-use packet::{Packet, PacketId, Publish, QoS};
+use packet::{Packet, Publish};
+use packet_base::{PacketId, QoS};
 use session_base::{Awaits, Publication, delivery};
 use std::alloc::AllocError;
 

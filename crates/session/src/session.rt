@@ -2,7 +2,7 @@
 
 ghost use Rattle.std.specs.Prelude.{◌≡◌, ◌≢◌, ◌≤◌, ◌++◌, ◌↔◌, [], true, length, IsOk, Ok, Err};
 ghost use Rattle.std.specs.Prelude.{OnOk, OnErr};
-ghost use Rattle.session_base.specs.lists.Lists.{has_id};
+ghost use Rattle.lists.specs.Lists.{has_id};
 ghost use Rattle.session_base.specs.Identifiers.{max_id, with_id, without_id};
 ghost use Rattle.session_base.specs.Subscriptions.{is_subscribed, with_subscription};
 ghost use Rattle.session_base.specs.Subscriptions.{without_filter, granted_qos};
@@ -19,7 +19,8 @@ use crate::received::Received;
 use crate::session_queue::SessionQueue;
 use crate::subscriptions::Subscriptions;
 use indexmap::IndexMap;
-use packet::{Packet, PacketId, QoS};
+use packet::Packet;
+use packet_base::{PacketId, QoS};
 use session_base::{MAX_ENTRIES, Publication, resend_keeps_the_order};
 use std::alloc::{AllocError, Global};
 use std::marker::Model;

@@ -3,7 +3,7 @@
 ghost use Rattle.std.specs.Prelude.{◌≡◌, ◌≤◌, ◌<◌, ◌++◌, [], ◌∷◌, true, false, length, filter};
 ghost use Rattle.std.specs.Prelude.{take, drop, IsOk, IfOk, OnOk, OnErr};
 ghost use Rattle.std.specs.List.{list_any};
-ghost use Rattle.session_base.specs.lists.Lists.{has_id};
+ghost use Rattle.lists.specs.Lists.{has_id};
 ghost use Rattle.session_base.specs.Identifiers.{least_free, max_id};
 ghost use Rattle.session_base.specs.Session.{with_flights};
 ghost use Rattle.session_base.specs.OrderLaws.{IsReleasedFirst};
@@ -17,7 +17,8 @@ use crate::sending::{
     awaits_of, packet_anew, send_publish, waits_for_puback, waits_for_pubcomp, waits_for_pubrec,
 };
 use indexmap::IndexMap;
-use packet::{Packet, PacketId};
+use packet::Packet;
+use packet_base::PacketId;
 use session_base::{Awaits, Publication, least_identifier_is_free, resend_keeps_the_order};
 use std::alloc::{AllocError, AllocFailed, Global};
 use std::collections::VecDeque;

@@ -5,7 +5,7 @@ ghost use Rattle.session_base.specs.Subscriptions.{is_subscribed, with_subscript
 ghost use Rattle.session_base.specs.Subscriptions.{without_filter, granted_qos};
 
 use indexmap::IndexMap;
-use packet::QoS;
+use packet_base::QoS;
 use std::alloc::{AllocError, Global};
 use std::marker::Model;
 use topics::{Filter, TopicName, matches};

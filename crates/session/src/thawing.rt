@@ -10,7 +10,7 @@ ghost use Rattle.session_base.specs.Form.{is_new_filter, granted_subscription_at
 ghost use Rattle.session_base.specs.Form.{anything, was_released, waiting_at};
 ghost use Rattle.session_base.specs.SessionForm.{state_at};
 ghost use Rattle.session_base.specs.Identifiers.{max_id};
-ghost use Rattle.session_base.specs.lists.Lists.{has_id};
+ghost use Rattle.lists.specs.Lists.{has_id};
 ghost use Rattle.session_base.specs.Queue.{ids_of};
 ghost use Rattle.session_base.specs.OrderLaws.{IsReleasedFirst};
 
@@ -20,8 +20,7 @@ use crate::session::Session;
 use crate::session_queue::{SessionQueue, put_last};
 use crate::subscriptions::Subscriptions;
 use indexmap::IndexMap;
-use packet::{PacketId, QoS};
-use packet_base::{OUT_OF_MEMORY, Reader, Stop};
+use packet_base::{OUT_OF_MEMORY, PacketId, QoS, Reader, Stop};
 use session_base::{
     Awaits, MAX_ENTRIES, MAX_SUBSCRIPTIONS, Publication, check_form, read_flight,
     read_granted_subscription, read_waiting,

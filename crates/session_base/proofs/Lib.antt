@@ -23,4 +23,3 @@ pub mod ReadingLoops
 pub mod FollowRead
 pub mod Writable
 pub mod Spelled
-pub use Rattle.lists.proofs as of_lists

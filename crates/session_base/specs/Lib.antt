@@ -16,6 +16,3 @@ pub mod Form
 pub mod SessionForm
 pub mod FormLaws
 pub mod FormRows
-pub use Rattle.lists.specs as lists
-pub use Rattle.packet.specs as packet
-pub use Rattle.packet_base.specs as packet_base

@@ -3,7 +3,8 @@
 ghost use Rattle.std.specs.Prelude.{◌≡◌};
 ghost use Rattle.session_base.specs.Publication.{delivery_with};
 
-use packet::{Delivery, PacketId, Payload, QoS};
+use packet::Delivery;
+use packet_base::{PacketId, Payload, QoS};
 use topics::TopicName;
 
 /// A publication, MQTT's Application Message, as a session's queue holds it.

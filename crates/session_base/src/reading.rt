@@ -10,8 +10,8 @@ ghost use Rattle.session_base.specs.Form.{publication_at, granted_subscription_a
 ghost use Rattle.session_base.specs.Form.{awaits_at, flight_at};
 
 use crate::{Awaits, Publication};
-use packet::{MAX_BODY, PacketId, Payload, QoS};
-use packet_base::{OUT_OF_MEMORY, Reader, Stop};
+use packet::MAX_BODY;
+use packet_base::{OUT_OF_MEMORY, PacketId, Payload, QoS, Reader, Stop};
 use std::alloc::Global;
 use topics::{Filter, MalformedKind};
 

@@ -6,7 +6,7 @@ ghost use Rattle.session_base.specs.Form.{long_number, publication_bytes, grante
 ghost use Rattle.session_base.specs.Form.{HasLength, IsWritable};
 
 use crate::{Awaits, Publication};
-use packet::{PacketId, QoS};
+use packet_base::{PacketId, QoS};
 use std::alloc::AllocError;
 use topics::Filter;
 

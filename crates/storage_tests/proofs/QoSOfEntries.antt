@@ -3,17 +3,17 @@
 use Rattle.std.proofs.Common.{◌≡◌, ℕ, Bool, true, false, not, ◌&&◌, ◌==◌, nat_lt, if◌then◌else◌, List, [], ◌∷◌, ◌++◌, length, map, Option, Some, None, refl}
 use Rattle.std.specs.List.{AllByRecursion}
 use Rattle.packet.specs.declared.packet.Packet.TheVariants as packets
-use Rattle.session.specs.session_base.declared.publication.Publication.{Publication}
-use Rattle.session.specs.session_base.Identifiers.{least_free}
-use Rattle.session.specs.session_base.Publication.{is_qos1}
-use Rattle.broker_form.specs.broker_spec.Connection.{ConnectionName}
-use Rattle.broker_form.specs.broker_spec.Place.{Client, same_client, Mark}
-use Rattle.broker_form.specs.broker_spec.Sessions.{current_connection, clean_session_of, begins, in_session}
-use Rattle.broker_form.specs.broker_spec.Entries.{Entry, copies_at, queued}
-use Rattle.broker_form.specs.broker_spec.Times.{at_puback, at_pubrec, at_pubcomp, answered_by, start_all, started, window_at, entries_of}
+use Rattle.session_base.specs.declared.publication.Publication.{Publication}
+use Rattle.session_base.specs.Identifiers.{least_free}
+use Rattle.session_base.specs.Publication.{is_qos1}
+use Rattle.broker_spec.specs.Connection.{ConnectionName}
+use Rattle.broker_spec.specs.Place.{Client, same_client, Mark}
+use Rattle.broker_spec.specs.Sessions.{current_connection, clean_session_of, begins, in_session}
+use Rattle.broker_spec.specs.Entries.{Entry, copies_at, queued}
+use Rattle.broker_spec.specs.Times.{at_puback, at_pubrec, at_pubcomp, answered_by, start_all, started, window_at, entries_of}
 use Rattle.storage_tests.specs.Guards.{FitsItsQoS, EntriesFitTheirQoS}
-use Rattle.broker_form.specs.broker_spec.declared.command.Command.{Command}
-use Rattle.broker_form.specs.broker_spec.declared.command.Command.TheVariants as commands
+use Rattle.broker_spec.specs.declared.command.Command.{Command}
+use Rattle.broker_spec.specs.declared.command.Command.TheVariants as commands
 
 abbrev AllFit : List Entry → Type 0
 AllFit = AllByRecursion FitsItsQoS

@@ -4,16 +4,16 @@ use Rattle.std.specs.Prelude.{◌≡◌, true, false, [], ◌∷◌, ◌++◌, S
 use Rattle.std.specs.List.{AllByRecursion}
 use Rattle.packet.specs.declared.delivery.Delivery.TheVariants as deliveries
 use Rattle.packet.specs.declared.packet.Packet.TheVariants as packets
-use Rattle.session.specs.packet.packet_base.declared.qos.QoS.TheVariants as qualities
-use Rattle.session.specs.session_base.Publication.{is_qos1}
-use Rattle.broker_form.specs.broker_spec.Commands.{usual_limits}
-use Rattle.broker_form.specs.broker_spec.Entries.{Entry}
-use Rattle.broker_form.specs.broker_spec.Place.{Client, Past, Limits}
-use Rattle.broker_form.specs.broker_spec.RowWords.{AreAnswered, b, nth, connect, gets, sends, connack}
-use Rattle.broker_form.specs.broker_spec.RowWords.{publish, subscribed_at}
-use Rattle.broker_form.specs.broker_spec.Times.{entries_of}
-use Rattle.broker_form.specs.broker_spec.declared.command.Command.TheVariants as commands
-use Rattle.broker_form.specs.broker_spec.declared.command.Output.TheVariants.{Close}
+use Rattle.packet_base.specs.declared.qos.QoS.TheVariants as qualities
+use Rattle.session_base.specs.Publication.{is_qos1}
+use Rattle.broker_spec.specs.Commands.{usual_limits}
+use Rattle.broker_spec.specs.Entries.{Entry}
+use Rattle.broker_spec.specs.Place.{Client, Past, Limits}
+use Rattle.broker_spec.specs.RowWords.{AreAnswered, b, nth, connect, gets, sends, connack}
+use Rattle.broker_spec.specs.RowWords.{publish, subscribed_at}
+use Rattle.broker_spec.specs.Times.{entries_of}
+use Rattle.broker_spec.specs.declared.command.Command.TheVariants as commands
+use Rattle.broker_spec.specs.declared.command.Output.TheVariants.{Close}
 
 -- an entry is released at QoS 2 alone, and finished without a release at QoS 1 alone
 abbrev pub FitsItsQoS : Entry → Type 0

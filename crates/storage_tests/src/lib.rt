@@ -1,12 +1,12 @@
-//! Tests of what a broker stores, through public calls: the indexes of subscriptions, retained
-//! publications. It has only tests and a few laws.
+//! Tests of subscriptions, retained publications and sessions.
 #![tactic(auto)]
 
-#[cfg(test)]
 mod indexes;
 mod readings;
 #[cfg(test)]
 mod retaining;
+#[cfg(test)]
+pub mod sessions;
 #[cfg(test)]
 mod shown;
 

@@ -2,14 +2,14 @@
 // nothing; their contracts are the rows.
 
 ghost use Rattle.std.specs.Prelude.{◌≡◌, false, [], ◌∷◌, Some};
-ghost use Rattle.broker_form.specs.broker_spec.Connection.{ConnectionName};
-ghost use Rattle.broker_form.specs.broker_spec.Entries.{Entry};
-ghost use Rattle.broker_form.specs.broker_spec.Owner.{IsLive};
-ghost use Rattle.broker_form.specs.broker_spec.Sessions.{current_connection};
-ghost use Rattle.broker_form.specs.broker_spec.Place.{Client, Limits, Past};
-ghost use Rattle.broker_form.specs.broker_spec.Readings.{sent_entries, start_place};
-ghost use Rattle.broker_form.specs.broker_spec.Retained.{is_retained_over};
-ghost use Rattle.session.specs.session_base.declared.publication.Publication.{Publication};
+ghost use Rattle.broker_spec.specs.Connection.{ConnectionName};
+ghost use Rattle.broker_spec.specs.Entries.{Entry};
+ghost use Rattle.broker_spec.specs.Owner.{IsLive};
+ghost use Rattle.broker_spec.specs.Sessions.{current_connection};
+ghost use Rattle.broker_spec.specs.Place.{Client, Limits, Past};
+ghost use Rattle.broker_spec.specs.Readings.{sent_entries, start_place};
+ghost use Rattle.broker_spec.specs.Retained.{is_retained_over};
+ghost use Rattle.session_base.specs.declared.publication.Publication.{Publication};
 ghost use Rattle.storage_tests.specs.Guards.{
   EntriesFitTheirQoS,
   AnswersOfAnotherQoSAreNothing,

@@ -5,7 +5,7 @@ mod row;
 
 use crate::retaining::row::Row::{Finds, Has, IsFull, Put};
 use crate::retaining::row::{Came, Row, came_instead, first_fault};
-use packet::QoS;
+use packet_base::QoS;
 use retained::{RetainedError, RetainedStore};
 use std::alloc::Global;
 use std::test::Fail;

@@ -1,7 +1,7 @@
 -- BusyAdded.antt: connections that are added one after another, none of an idle lane.
 use Rattle.std.proofs.Common.{◌≡◌, ℕ, zero, suc, ◌+◌, ◌≤◌, Bool, true, false, nat_le, if◌then◌else◌, List, [], ◌∷◌, ◌++◌, length, Option, Some, None, refl, sym, ◌∙◌, ap, arith, add-one, append-nil, append_assoc, length-append}
 use Rattle.std.proofs.lemmas.Bool.{cond-false, cond-true, le-leb, lt-leb}
-use Rattle.node.specs.lists.Lists.{Each}
+use Rattle.lists.specs.Lists.{Each}
 use Rattle.slab.specs.Slab.{Slab, get}
 use Rattle.streams.specs.Listing.{AddsBusy, busy_at, busy_between, is_lane_idle, connection_listed_at}
 use Rattle.streams.specs.declared.idle_lanes.IdleLanes.{IdleLanes}

@@ -3,11 +3,11 @@ use Rattle.std.proofs.Common.{◌≡◌, ℕ, ◌+◌, Option, List, [], ◌++�
 use Rattle.std.proofs.lemmas.List.{append-nil}
 use Rattle.node.specs.declared.Handed.{Handed}
 use Rattle.node.specs.Growth.{saturated}
-use Rattle.connection.specs.declared.flow.Flow.{Flow}
-use Rattle.connection.specs.declared.flow.Flow.TheVariants as flows
-use Rattle.connection.specs.Life.{Lives}
-use Rattle.connection.specs.Life.Lives.{begins, goes_on}
-use Rattle.connection.specs.Writing.{HandsAny, HandsSo}
+use Rattle.node_base.specs.declared.connection.flow.Flow.{Flow}
+use Rattle.node_base.specs.declared.connection.flow.Flow.TheVariants as flows
+use Rattle.node_base.specs.connection.Life.{Lives}
+use Rattle.node_base.specs.connection.Life.Lives.{begins, goes_on}
+use Rattle.node_base.specs.connection.Writing.{HandsAny, HandsSo}
 use Rattle.streams.specs.Laws.{TapsCountAll}
 use Rattle.streams.specs.Tapping.{HandsNone, HandsOut}
 use Rattle.streams.specs.declared.port_tap.PortTap.{PortTap}

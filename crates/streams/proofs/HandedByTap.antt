@@ -3,11 +3,12 @@ use Rattle.std.proofs.Common.{◌≡◌, List, ◌++◌, length, refl, ◌∙◌
 use Rattle.std.specs.Prelude.{ℕ, ◌+◌, ◌-◌, ◌^◌, ◌⊎◌, min, Result, Ok, Err, OnOk, OnErr}
 use Rattle.node.specs.declared.Handed.{Handed}
 use Rattle.node.specs.declared.Port.{Port}
-use Rattle.node.specs.node_core.Core.{CountedCore}
+use Rattle.world_base.specs.node_core.Core.{CountedCore}
 use Rattle.node.specs.Growth.{saturated}
-use Rattle.node.specs.node_core.Handing.{handed_after, pending_bytes, listed_at}
+use Rattle.world_base.specs.node_connections.Pending.{handed_after, pending_bytes}
+use Rattle.world_base.specs.node_core.Handing.{listed_at}
 use Rattle.node.specs.State.{Replays, NodeStateView}
-use Rattle.connection.specs.Writing.{HandsOver}
+use Rattle.node_base.specs.connection.Writing.{HandsOver}
 use Rattle.streams.specs.Tapping.{NodesBegan, HandsOut}
 use Rattle.streams.specs.declared.port_tap.PortTap.{PortTap}
 

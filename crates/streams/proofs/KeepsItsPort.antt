@@ -1,8 +1,8 @@
 -- KeepsItsPort.antt: a tap keeps its port, whatever is handed over by it.
 use Rattle.std.proofs.Common.{◌≡◌, ℕ, List, ap, inl, inr}
-use Rattle.connection.specs.declared.flow.Flow.{Flow}
-use Rattle.connection.specs.declared.flow.Flow.TheVariants as flows
-use Rattle.connection.specs.Writing.{HandsAny, HandsSo}
+use Rattle.node_base.specs.declared.connection.flow.Flow.{Flow}
+use Rattle.node_base.specs.declared.connection.flow.Flow.TheVariants as flows
+use Rattle.node_base.specs.connection.Writing.{HandsAny, HandsSo}
 use Rattle.streams.specs.Tapping.{HandsOut}
 use Rattle.streams.specs.declared.port_tap.PortTap.{PortTap}
 

@@ -1,6 +1,6 @@
 -- What readers may want to know of taps and of ports.
 use Rattle.std.specs.Prelude.{◌≡◌, ℕ, ◌<◌, ◌==◌, List, length, Option}
-use Rattle.connection.specs.Life.{Lives}
+use Rattle.node_base.specs.connection.Life.{Lives}
 use Rattle.node.specs.Growth.{saturated}
 use Rattle.streams.specs.Ports.{is_of_lane, port_of}
 use Rattle.streams.specs.Tapping.{HandsNone, HandsOut}

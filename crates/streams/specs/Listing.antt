@@ -3,7 +3,7 @@ use Rattle.std.specs.Prelude.{◌≡◌, ℕ, zero, suc, ◌≤◌, ◌%◌, ◌
 use Rattle.std.specs.Prelude.{List, [], ◌∷◌, ◌++◌, length, Option, None, Some, if◌then◌else◌}
 use Rattle.slab.specs.Slab.{Slab, get}
 use Rattle.node.specs.declared.Port.{Port}
-use Rattle.node.specs.lists.Lists.{Each}
+use Rattle.lists.specs.Lists.{Each}
 use Rattle.streams.specs.declared.link.Link.{Link}
 use Rattle.streams.specs.declared.idle_lanes.IdleLanes.{IdleLanes}
 

@@ -3,9 +3,10 @@ use Rattle.std.specs.Prelude.{◌≡◌, ℕ, ◌+◌, List, length}
 use Rattle.node.specs.declared.Config.{Config}
 use Rattle.node.specs.declared.Handed.{Handed}
 use Rattle.node.specs.declared.Port.{Port}
-use Rattle.node.specs.node_core.Core.{CountedCore}
+use Rattle.world_base.specs.node_core.Core.{CountedCore}
 use Rattle.node.specs.Growth.{saturated}
-use Rattle.node.specs.node_core.Handing.{handed_after, pending_bytes, listed_at}
+use Rattle.world_base.specs.node_connections.Pending.{handed_after, pending_bytes}
+use Rattle.world_base.specs.node_core.Handing.{listed_at}
 use Rattle.node.specs.State.{EachOpensAs, Replays, NodeStateView}
 use Rattle.streams.specs.declared.port_tap.PortTap.{PortTap}
 

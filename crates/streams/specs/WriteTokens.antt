@@ -1,7 +1,7 @@
 -- A connection's stream, wherever its token is kept.
 use Rattle.std.specs.Prelude.{◌≡◌, ◌==◌, Option, None, Some, if◌then◌else◌}
 use Rattle.node.specs.declared.Port.{Port}
-use Rattle.connection.specs.Whole.{OutflowView, IsWhole}
+use Rattle.node_base.specs.connection.Whole.{OutflowView, IsWhole}
 use Rattle.streams.specs.Tapping.{HandsNone, HandsOut}
 use Rattle.streams.specs.declared.port_tap.PortTap.{PortTap}
 use Rattle.streams.specs.declared.socket.Socket.{Socket}

@@ -1,11 +1,12 @@
 // What a node holds for connections that it has closed is forgotten.
 
 ghost use Rattle.std.specs.Prelude.{◌≡◌, ◌≢◌, ◌⊎◌};
-ghost use Rattle.node.specs.node_core.Handing.{hands_over, listed_at};
-ghost use Rattle.node.specs.node_connections.Stands.{standing_of};
+ghost use Rattle.world_base.specs.node_core.Handing.{hands_over, listed_at};
+ghost use Rattle.world_base.specs.node_connections.Stands.{standing_of};
 
-use node::{NodeNaming, NodeState, Port, Standing};
+use node::{NodeNaming, NodeState};
 use std::alloc::Global;
+use world_base::node_connections::{Port, Standing};
 
 /// Takes what a node still holds for a port whose connection it has closed, so that it holds no
 /// more. The node queues nothing more for that port, so what was written there stays a prefix of

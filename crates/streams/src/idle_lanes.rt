@@ -4,7 +4,7 @@ ghost use Rattle.std.specs.Prelude.{◌≡◌, ◌%◌, ◌^◌, ◌||◌};
 ghost use Rattle.std.specs.List.{list_any};
 ghost use Rattle.node.specs.declared.Port.{Port};
 
-use node::Port;
+use world_base::node_connections::Port;
 
 /// Lanes whose connections are idle, a bit for each. A lane has one connection at a time, and its
 /// number is below 64.

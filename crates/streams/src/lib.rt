@@ -16,6 +16,7 @@ mod ports;
 mod socket;
 mod write_slot;
 mod write_token;
+pub mod writer;
 
 pub use closing::Closed;
 pub use forgetting::forget;

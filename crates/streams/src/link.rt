@@ -8,12 +8,12 @@ use crate::port_tap::PortTap;
 use crate::socket::Socket;
 use crate::write_slot::WriteSlot;
 use crate::write_token::{Stream, WriteToken};
-use connection::Outflow;
-use node::Port;
+use node_base::connection::Outflow;
 use std::alloc::{AllocError, Global};
 use std::net::{Shutdown, TcpStream};
 use std::sync::{Arc, Mutex, Wait};
 use std::time::Duration;
+use world_base::node_connections::Port;
 
 /// How long a write waits for a full socket at most, in milliseconds.
 const WRITE_MILLIS: u64 = 1;

@@ -10,7 +10,7 @@ use crate::idle_lanes::IdleLanes;
 use crate::limits::MAX_CONNECTIONS;
 use crate::link::Link;
 use crate::links::TakenIndex;
-use node::Memory;
+use machine::Memory;
 use std::alloc::Global;
 use std::net::{Net, SocketAddr, TcpListener, TcpStream};
 use std::sync::{Arc, Wait};

@@ -1,12 +1,15 @@
 // The right to take the bytes of one port from a node.
 
 ghost use Rattle.std.specs.Prelude.{◌≡◌, ◌++◌, IfOk, OnErr, OnOk};
-ghost use Rattle.connection.specs.Writing.{HandsOver};
-ghost use Rattle.node.specs.node_core.Handing.{pending_bytes, hands_over, listed_at};
+ghost use Rattle.node_base.specs.connection.Writing.{HandsOver};
+ghost use Rattle.world_base.specs.node_connections.Pending.{pending_bytes};
+ghost use Rattle.world_base.specs.node_core.Handing.{hands_over, listed_at};
 ghost use Rattle.streams.specs.Tapping.{NodesBegan, HandsOut};
 
-use connection::Tap;
-use node::{Handed, Memory, NodeNaming, NodeState, Port};
+use machine::Memory;
+use node::{NodeNaming, NodeState};
+use node_base::connection::Tap;
+use world_base::node_connections::{Handed, Port};
 
 /// The right to take what a node queued for one port, and for no other. A connection has one, made
 /// with it, and it counts the bytes. No clause says that a port has only one, or that its bytes are

@@ -3,7 +3,7 @@
 ghost use Rattle.std.specs.Prelude.{◌≡◌, ◌<◌, ◌^◌};
 ghost use Rattle.streams.specs.Ports.{port_of};
 
-use node::Port;
+use world_base::node_connections::Port;
 
 /// The ports of a lane's connections are this far apart. Each lane's number is below it, so no two
 /// lanes have a port in common. It is a multiple of 64, so [`IdleLanes`] tells lanes below 64 apart

@@ -3,8 +3,8 @@
 ghost use Rattle.std.specs.Prelude.{◌≡◌, IfSome, None, Some, false, is_none, true};
 
 use crate::write_token::{Stream, WriteToken};
-use node::Port;
 use std::mem;
+use world_base::node_connections::Port;
 
 /// Where a connection's token is kept while no thread writes: as its stream, which may be dropped.
 #[derive(Drop)]

@@ -1,12 +1,12 @@
 // The right to write on a connection's stream.
 
 ghost use Rattle.std.specs.Prelude.{◌≡◌, None};
-ghost use Rattle.connection.specs.Writing.{Flows};
+ghost use Rattle.node_base.specs.connection.Writing.{Flows};
 ghost use Rattle.streams.specs.Tapping.{HandsOut};
 
 use crate::port_tap::PortTap;
 use crate::socket::Socket;
-use connection::{Flow, Outflow, Outlet};
+use node_base::connection::{Flow, Outflow, Outlet};
 use std::marker::Model;
 use std::sync::Wait;
 
@@ -23,7 +23,7 @@ pub struct WriteToken {
 }
 
 impl Model for WriteToken {
-    ghost use Rattle.connection.specs.Whole.{OutflowView};
+    ghost use Rattle.node_base.specs.connection.Whole.{OutflowView};
     ghost use Rattle.streams.specs.declared.port_tap.PortTap.{PortTap};
     ghost use Rattle.streams.specs.declared.socket.Socket.{Socket};
 

@@ -1,4 +1,3 @@
-pub use Rattle.subs_base.proofs.GrantsOneList
 pub mod Ways
 pub mod Written
 pub mod TextCut
@@ -18,4 +17,3 @@ pub mod WalkFinds
 pub mod ContentOfTree
 pub mod TreeGrants
 pub mod RowsGathered
-pub use Rattle.topics.proofs as of_topics

@@ -1,14 +1,14 @@
 -- CallsAreSteps.antt: each call of a caller is a step, or changes nothing.
 use Rattle.std.proofs.Common.{ℕ, ◌≡◌, ◌≢◌, Bool, ◌||◌, List, [], refl, sym, ap, ◌∙◌, subst}
 use Rattle.std.specs.Prelude.{Result, Ok, Err}
-use Rattle.client.specs.client_base.declared.error.ClientError.{ClientError}
-use Rattle.client.specs.client_base.declared.error.ClientError.TheVariants as errors
-use Rattle.client.specs.client_base.declared.accepted.Accepted.{Accepted}
-use Rattle.client.specs.client_base.State.{ClientState, is_online, kept_count}
-use Rattle.client.specs.client_base.declared.stage.Stage.{Stage}
-use Rattle.client.specs.client_base.declared.stage.Stage.TheVariants as stages
-use Rattle.client.specs.client_base.Steps.{Call, keeper_step, disconnected}
-use Rattle.client.specs.session_base.declared.publication.Publication.{Publication}
+use Rattle.client_base.specs.declared.error.ClientError.{ClientError}
+use Rattle.client_base.specs.declared.error.ClientError.TheVariants as errors
+use Rattle.client_base.specs.declared.accepted.Accepted.{Accepted}
+use Rattle.client_base.specs.State.{ClientState, is_online, kept_count}
+use Rattle.client_base.specs.declared.stage.Stage.{Stage}
+use Rattle.client_base.specs.declared.stage.Stage.TheVariants as stages
+use Rattle.client_base.specs.Steps.{Call, keeper_step, disconnected}
+use Rattle.session_base.specs.declared.publication.Publication.{Publication}
 use Rattle.client.specs.Core.{Core, AnswersCall, LeavesServer, without_accepted}
 use Rattle.client.specs.Reading.{OnBytes}
 use Rattle.user_client.specs.Tracing.{CallerView, IsAsked, Step, Trace, IsFirst}

@@ -1,15 +1,15 @@
 -- FirstPublication.antt: what a new client keeps once it took its first publication.
 use Rattle.std.proofs.Common.{◌≡◌, ℕ, Bool, true, List, Option, Some, None, is_some, refl, ap, ap₂, subst}
 use Rattle.std.proofs.lemmas.Bool.{both_ways}
-use Rattle.client.specs.packet.packet_base.declared.qos.QoS.{QoS}
-use Rattle.client.specs.packet.packet_base.declared.qos.QoS.TheVariants as qualities
+use Rattle.packet_base.specs.declared.qos.QoS.{QoS}
+use Rattle.packet_base.specs.declared.qos.QoS.TheVariants as qualities
 use Rattle.packet.specs.declared.publish.Publish.{Publish}
-use Rattle.client.specs.session_base.declared.publication.Publication.{Publication}
-use Rattle.client.specs.session_base.Publication.{is_answered}
-use Rattle.client.specs.client_base.declared.error.ClientError.{ClientError}
-use Rattle.client.specs.client_base.State.{ClientState, new_client_state}
-use Rattle.client.specs.client_base.Publishing.{published, publish_refusal}
-use Rattle.client.specs.client_base.Steps.{unless_refused}
+use Rattle.session_base.specs.declared.publication.Publication.{Publication}
+use Rattle.session_base.specs.Publication.{is_answered}
+use Rattle.client_base.specs.declared.error.ClientError.{ClientError}
+use Rattle.client_base.specs.State.{ClientState, new_client_state}
+use Rattle.client_base.specs.Publishing.{published, publish_refusal}
+use Rattle.client_base.specs.Steps.{unless_refused}
 use Rattle.client.specs.Core.{publication_with}
 use Rattle.user_client.specs.Tracing.{CallerView, IsAsked, new_called}
 use Rattle.user_client.specs.Publishing.{HasPublication, client_keeping, unkept}

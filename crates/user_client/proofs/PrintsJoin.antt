@@ -4,8 +4,8 @@ use Rattle.std.specs.Prelude.{Result, Ok, Err, OnOk}
 use native.Mathlib.Omega.{arith}
 use Rattle.std.specs.Io.KnownBytes.{Appends}
 use Rattle.std.proofs.KnownBytes.{Appends-trans, Appends-nil}
-use Rattle.client.specs.client_base.declared.accepted.Accepted.{Accepted}
-use Rattle.printing.specs.Printing.{printed_line}
+use Rattle.client_base.specs.declared.accepted.Accepted.{Accepted}
+use Rattle.client_base.specs.printed.Printing.{printed_line}
 use Rattle.user_client.specs.Tracing.{CallerView, Trace}
 use Rattle.user_client.specs.Listening.{SubscriberView, PrintsNothing, PrintsAccepted, Shows, printed_lines}
 use Rattle.user_client.proofs.TracesJoin.{traces_join, traces_follow, traces_end}

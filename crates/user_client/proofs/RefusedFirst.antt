@@ -5,18 +5,18 @@ use Rattle.std.proofs.lemmas.Bool.{both_ways}
 use Rattle.std.specs.Io.KnownBytes.{Appends}
 use Rattle.packet.specs.declared.packet.Packet.{Packet}
 use Rattle.packet.specs.declared.packet.Packet.TheVariants as packets
-use Rattle.client.specs.packet.packet_base.declared.qos.QoS.{QoS}
-use Rattle.client.specs.packet.packet_base.declared.qos.QoS.TheVariants as qualities
+use Rattle.packet_base.specs.declared.qos.QoS.{QoS}
+use Rattle.packet_base.specs.declared.qos.QoS.TheVariants as qualities
 use Rattle.packet.specs.declared.publish.Publish.{Publish}
 use Rattle.packet.specs.declared.delivery.Delivery.TheVariants as deliveries
 use Rattle.packet.specs.Spelling.{AppendsSpelling}
-use Rattle.client.specs.session_base.Publication.{is_answered}
-use Rattle.client.specs.client_base.declared.error.ClientError.{ClientError}
-use Rattle.client.specs.client_base.declared.error.ClientError.TheVariants as errors
-use Rattle.client.specs.client_base.State.{ClientState, is_online, new_client_state}
-use Rattle.client.specs.client_base.Answered.{ClientOutcome, going_on}
-use Rattle.client.specs.client_base.Publishing.{is_over_limit, next_id, published, publish_packet}
-use Rattle.client.specs.client_base.Steps.{Call, keeper_step, unless_refused}
+use Rattle.session_base.specs.Publication.{is_answered}
+use Rattle.client_base.specs.declared.error.ClientError.{ClientError}
+use Rattle.client_base.specs.declared.error.ClientError.TheVariants as errors
+use Rattle.client_base.specs.State.{ClientState, is_online, new_client_state}
+use Rattle.client_base.specs.Answered.{ClientOutcome, going_on}
+use Rattle.client_base.specs.Publishing.{is_over_limit, next_id, published, publish_packet}
+use Rattle.client_base.specs.Steps.{Call, keeper_step, unless_refused}
 use Rattle.client.specs.Core.{AppendsAll, publication_with}
 use Rattle.user_client.specs.declared.user_client_error.UserClientError.{UserClientError}
 use Rattle.user_client.specs.declared.user_client_error.UserClientError.TheVariants as clients

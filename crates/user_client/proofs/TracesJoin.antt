@@ -1,7 +1,7 @@
 -- Steps after steps are steps.
 use Rattle.std.proofs.Common.{◌≡◌, List, [], ◌++◌, sym, subst, append-nil, append_assoc}
 use Rattle.std.specs.Prelude.{Result, Ok, Err, OnOk}
-use Rattle.client.specs.client_base.declared.accepted.Accepted.{Accepted}
+use Rattle.client_base.specs.declared.accepted.Accepted.{Accepted}
 use Rattle.client.specs.Core.{Core}
 use Rattle.user_client.specs.Tracing.{CallerView, Step, Trace, with_core}
 

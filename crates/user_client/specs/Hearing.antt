@@ -1,6 +1,6 @@
 -- What a client reports after bytes of its server.
 use Rattle.std.specs.Prelude.{◌≡◌, ◌⊎◌, Bool, true, false}
-use Rattle.client.specs.client_base.State.{is_online}
+use Rattle.client_base.specs.State.{is_online}
 use Rattle.user_client.specs.declared.caller.News.{News}
 use Rattle.user_client.specs.declared.caller.News.TheVariants as news
 use Rattle.user_client.specs.Tracing.{CallerView}

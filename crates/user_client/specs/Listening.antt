@@ -2,8 +2,8 @@
 use Rattle.std.specs.Prelude.{◌≡◌, ℕ, ◌-◌, List, [], length, take, Option}
 use Rattle.std.specs.List.{flat_map}
 use Rattle.std.specs.Io.KnownBytes.{Appends}
-use Rattle.client.specs.client_base.declared.accepted.Accepted.{Accepted}
-use Rattle.printing.specs.Printing.{printed_line}
+use Rattle.client_base.specs.declared.accepted.Accepted.{Accepted}
+use Rattle.client_base.specs.printed.Printing.{printed_line}
 use Rattle.user_client.specs.Tracing.{CallerView, Trace, new_called}
 
 -- a client, how many publications it was asked for, and how many of them are still to be printed

@@ -1,7 +1,7 @@
 -- When a client ends as lost: it asked for all its connections, or the server lost its session.
 use Rattle.std.specs.Prelude.{◌≡◌, ℕ, ◌+◌, ◌⊎◌, List, Err, suc, zero}
-use Rattle.client.specs.client_base.declared.accepted.Accepted.{Accepted}
-use Rattle.client.specs.client_base.declared.error.ClientError.TheVariants as errors
+use Rattle.client_base.specs.declared.accepted.Accepted.{Accepted}
+use Rattle.client_base.specs.declared.error.ClientError.TheVariants as errors
 use Rattle.client.specs.Reading.{OnBytes}
 use Rattle.user_client.specs.declared.user_client_error.UserClientError.{UserClientError}
 use Rattle.user_client.specs.declared.user_client_error.UserClientError.TheVariants as clients

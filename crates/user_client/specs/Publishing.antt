@@ -5,10 +5,10 @@ use Rattle.packet.specs.Spelling.{AppendsSpelling}
 use Rattle.packet.specs.declared.delivery.Delivery.TheVariants as deliveries
 use Rattle.packet.specs.declared.packet.Packet.TheVariants as packets
 use Rattle.packet.specs.declared.publish.Publish.{Publish}
-use Rattle.client.specs.packet.packet_base.declared.qos.QoS.{QoS}
-use Rattle.client.specs.packet.packet_base.declared.qos.QoS.TheVariants as qualities
-use Rattle.client.specs.session_base.declared.publication.Publication.{Publication}
-use Rattle.client.specs.client_base.State.{ClientState, kept_count, new_client_state}
+use Rattle.packet_base.specs.declared.qos.QoS.{QoS}
+use Rattle.packet_base.specs.declared.qos.QoS.TheVariants as qualities
+use Rattle.session_base.specs.declared.publication.Publication.{Publication}
+use Rattle.client_base.specs.State.{ClientState, kept_count, new_client_state}
 use Rattle.user_client.specs.Tracing.{CallerView, new_called}
 
 -- a client, and its publication if that has QoS 0: otherwise the client keeps it

@@ -1,13 +1,13 @@
 -- Why a client is not made: its texts are checked in order, and memory may run out at any time.
 use Rattle.std.specs.Prelude.{◌≡◌, ◌⊎◌, ℕ, true, false, List, Option, Some, None, option_map}
-use Rattle.client.specs.client_base.Publishing.{is_over_limit, publish_packet}
-use Rattle.client.specs.client_base.Refusals.{client_number}
-use Rattle.client.specs.client_base.State.{new_client_state}
-use Rattle.client.specs.client_base.declared.error.ClientError.{ClientError}
-use Rattle.client.specs.client_base.declared.error.ClientError.TheVariants as errors
-use Rattle.client.specs.packet_base.ClientId.{client_fault}
+use Rattle.client_base.specs.Publishing.{is_over_limit, publish_packet}
+use Rattle.client_base.specs.Refusals.{client_number}
+use Rattle.client_base.specs.State.{new_client_state}
+use Rattle.client_base.specs.declared.error.ClientError.{ClientError}
+use Rattle.client_base.specs.declared.error.ClientError.TheVariants as errors
+use Rattle.packet_base.specs.ClientId.{client_fault}
 use Rattle.packet.specs.declared.packet.Packet.{Packet}
-use Rattle.client.specs.session_base.declared.publication.Publication.{Publication}
+use Rattle.session_base.specs.declared.publication.Publication.{Publication}
 use Rattle.topics.specs.Refusals.{malformed_number}
 use Rattle.topics.specs.Text.{filter_fault, topic_fault}
 use Rattle.topics.specs.declared.malformed.MalformedKind.{MalformedKind}

@@ -1,13 +1,13 @@
 -- What a client does on its connections, step by step: calls of its keeper, and bytes of its
 -- servers (MQTT 4.3, 4.4).
 use Rattle.std.specs.Prelude.{◌≡◌, ◌≢◌, ℕ, Bool, false, ◌||◌, List, [], ◌++◌, Result, Ok, Err}
-use Rattle.client.specs.packet.packet_base.declared.qos.QoS.{QoS}
-use Rattle.client.specs.session_base.declared.publication.Publication.{Publication}
-use Rattle.client.specs.client_base.declared.accepted.Accepted.{Accepted}
-use Rattle.client.specs.client_base.declared.error.ClientError.{ClientError}
-use Rattle.client.specs.client_base.declared.error.ClientError.TheVariants as errors
-use Rattle.client.specs.client_base.State.{is_online}
-use Rattle.client.specs.client_base.Steps.{Call, keeper_step}
+use Rattle.packet_base.specs.declared.qos.QoS.{QoS}
+use Rattle.session_base.specs.declared.publication.Publication.{Publication}
+use Rattle.client_base.specs.declared.accepted.Accepted.{Accepted}
+use Rattle.client_base.specs.declared.error.ClientError.{ClientError}
+use Rattle.client_base.specs.declared.error.ClientError.TheVariants as errors
+use Rattle.client_base.specs.State.{is_online}
+use Rattle.client_base.specs.Steps.{Call, keeper_step}
 use Rattle.client.specs.Core.{Core, AnswersCall, OpensConnection, LeavesServer, new_core, publication_with, without_accepted}
 use Rattle.client.specs.Reading.{OnBytes}
 

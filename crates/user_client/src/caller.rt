@@ -2,9 +2,9 @@
 
 ghost use Rattle.std.specs.Prelude.{◌≡◌, ◌≢◌, ◌++◌, IfErr, IfOk, OnOk, OnErr, Err, []};
 ghost use Rattle.std.specs.Result.{is_ok};
-ghost use Rattle.client.specs.client_base.declared.error.ClientError.TheVariants as errors;
-ghost use Rattle.client.specs.client_base.State.{kept_count};
-ghost use Rattle.client.specs.client_base.Steps.{Call, keeper_step};
+ghost use Rattle.client_base.specs.declared.error.ClientError.TheVariants as errors;
+ghost use Rattle.client_base.specs.State.{kept_count};
+ghost use Rattle.client_base.specs.Steps.{Call, keeper_step};
 ghost use Rattle.client.specs.Core.{publication_with};
 ghost use Rattle.user_client.specs.Hearing.{IsNews, news_of};
 ghost use Rattle.user_client.specs.Losing.{IsLostBy};
@@ -12,8 +12,9 @@ ghost use Rattle.user_client.specs.Refusals.{IsRefusedFor};
 ghost use Rattle.user_client.specs.Tracing.{IsAsked, IsFirst, Trace, new_called};
 
 use crate::user_client_error::UserClientError;
-use client::{Accepted, ClientCore, ClientError};
-use packet::{ClientId, Payload, QoS};
+use client::ClientCore;
+use client_base::{Accepted, ClientError};
+use packet_base::{ClientId, Payload, QoS};
 use std::alloc::Global;
 use std::marker::Model;
 use topics::{Filter, TopicName};

@@ -1,12 +1,12 @@
 // The texts that a client is made of, checked before the first connection.
 
 ghost use Rattle.std.specs.Prelude.{◌≡◌, None, IfErr, IfOk, OnOk};
-ghost use Rattle.client.specs.packet_base.ClientId.{client_fault};
+ghost use Rattle.packet_base.specs.ClientId.{client_fault};
 ghost use Rattle.topics.specs.Text.{filter_fault, topic_fault};
 ghost use Rattle.user_client.specs.Refusals.{IsRefusedBy};
 
 use crate::user_client_error::UserClientError;
-use packet::ClientId;
+use packet_base::ClientId;
 use std::alloc::Global;
 use topics::{Filter, TopicName};
 

@@ -2,9 +2,9 @@
 
 ghost use Rattle.std.specs.Prelude.{◌≡◌, ◌≢◌, None, true, [], ◌∷◌, OnOk, IfErr, IfOk};
 ghost use Rattle.std.specs.Io.KnownBytes.{Appends};
-ghost use Rattle.client.specs.packet_base.ClientId.{client_fault};
+ghost use Rattle.packet_base.specs.ClientId.{client_fault};
 ghost use Rattle.topics.specs.Text.{filter_fault};
-ghost use Rattle.printing.specs.Printing.{printed_line};
+ghost use Rattle.client_base.specs.printed.Printing.{printed_line};
 ghost use Rattle.user_client.specs.Listening.{PrintsNothing, PrintsAccepted, Shows, listening_anew, new_listening};
 ghost use Rattle.user_client.specs.Losing.{IsGivenUp, IsLostBy};
 ghost use Rattle.user_client.specs.Refusals.{RefusesListener};
@@ -14,10 +14,10 @@ use crate::checking::{checked_filter, checked_id};
 use crate::servers::Servers;
 use crate::user_client_error::UserClientError;
 use crate::visiting::{disconnect, exchange, next_stream};
-use client::Accepted;
-use devices::{Counted, PIECE_BYTES};
-use packet::QoS;
-use printing::print_line;
+use client_base::Accepted;
+use client_base::printed::print_line;
+use node_base::devices::{Counted, PIECE_BYTES};
+use packet_base::QoS;
 use std::alloc::Global;
 use std::io::{Read, Write};
 use std::marker::Model;

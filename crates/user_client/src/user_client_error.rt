@@ -2,7 +2,7 @@
 
 ghost use Rattle.std.specs.Prelude.{◌≡◌};
 
-use client::ClientError;
+use client_base::ClientError;
 use std::alloc::{AllocError, AllocFailed};
 use topics::MalformedKind;
 

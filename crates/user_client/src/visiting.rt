@@ -2,14 +2,14 @@
 
 ghost use Rattle.std.specs.Prelude.{◌≡◌, true, [], OnOk, IfErr, IfOk};
 ghost use Rattle.std.specs.Io.KnownBytes.{Appends};
-ghost use Rattle.client.specs.client_base.State.{kept_count};
+ghost use Rattle.client_base.specs.State.{kept_count};
 ghost use Rattle.user_client.specs.Losing.{AsksNext, IsLostBy};
 ghost use Rattle.user_client.specs.Tracing.{Trace};
 
 use crate::caller::{Caller, News};
 use crate::servers::Servers;
 use crate::user_client_error::UserClientError;
-use devices::{Counted, OneRead, WholeWrite};
+use node_base::devices::{Counted, OneRead, WholeWrite};
 use std::alloc::Global;
 use std::io::{Read, Write};
 

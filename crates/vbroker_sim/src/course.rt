@@ -2,9 +2,11 @@
 
 use crate::draw::Draw;
 use crate::saying::{published, subscribed, unsubscribed};
-use packet::ClientId;
+use ballot_base::{Config, Members};
+use packet_base::ClientId;
 use std::alloc::Global;
-use world::{Config, Event, Members, World};
+use world::World;
+use world_pipes::events::Event;
 
 /// What a run knows about the world that it goes through.
 #[derive(Drop)]

@@ -1,9 +1,10 @@
 // Events as lines of a script, which `vbroker play` reads.
 
-use packet::ClientId;
+use ballot_base::Config;
+use packet_base::ClientId;
 use session_base::Publication;
 use std::alloc::{AllocError, Global};
-use world::{Config, Event};
+use world_pipes::events::Event;
 
 /// Returns the line of an event. Errors: out of memory.
 pub fn line_of(alloc: Global, event: &Event) -> Result<String, AllocError> {

@@ -1,8 +1,9 @@
 // What is looked at after each event.
 
-use packet::{ClientId, QoS};
-use sim_looks::{Broken, Watch, made_by};
-use world::{Event, World};
+use crate::looks::{Broken, Watch, made_by};
+use packet_base::{ClientId, QoS};
+use world::World;
+use world_pipes::events::Event;
 
 /// Takes note of an event that happened. None if it ran out of memory, as in each call here.
 pub fn note(watch: &mut Watch, event: &Event, clients: &[ClientId]) -> Option<()> {

@@ -8,6 +8,7 @@ mod course;
 mod draw;
 mod line;
 mod looking;
+mod looks;
 mod opening;
 mod options;
 mod run;
@@ -15,11 +16,11 @@ mod saying;
 mod shortening;
 
 use crate::line::line_of;
+use crate::looks::Broken;
 use crate::options::Options;
 use crate::run::{Counts, Run, drawn};
 use crate::shortening::shortened;
 use anyhow::{Result, bail};
-use sim_looks::Broken;
 use std::env;
 
 // Draws the runs that the words ask for, and prints what they came to.

@@ -1,8 +1,9 @@
 // The worlds in which runs begin.
 
-use packet::ClientId;
+use ballot_base::{Config, Members};
+use packet_base::ClientId;
 use std::alloc::{AllocError, Global};
-use world::{Config, Members, World};
+use world::World;
 
 /// The identifiers of the clients of a run.
 const NAMES: [&str; 8] = ["a", "b", "c", "d", "e", "f", "g", "h"];

@@ -2,12 +2,13 @@
 
 use crate::course::Course;
 use crate::looking::{look, look_again, note};
+use crate::looks::{Broken, Watch};
 use crate::opening::Opening;
 use crate::options::Options;
-use packet::ClientId;
-use sim_looks::{Broken, Watch};
+use packet_base::ClientId;
 use std::alloc::Global;
-use world::{Event, World};
+use world::World;
+use world_pipes::events::Event;
 
 /// The result of a run: its events, what does not hold after the last of them, and how far it came.
 #[derive(Drop)]

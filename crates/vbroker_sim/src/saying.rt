@@ -1,12 +1,12 @@
 // What a client says to its broker.
 
 use crate::draw::Draw;
-use packet::{ClientId, Payload, QoS};
+use crate::looks::payload_of;
+use packet_base::{ClientId, Payload, QoS};
 use session_base::Publication;
-use sim_looks::payload_of;
 use std::alloc::Global;
 use topics::{Filter, TopicName};
-use world::Event;
+use world_pipes::events::Event;
 
 /// The topics of a run.
 const TOPICS: [&str; 4] = ["t/1", "t/2", "u", "t/1/x"];

@@ -1,15 +1,15 @@
 -- AgreedOnlyGrows.antt: what nodes agreed on before is a prefix of what they agree on then.
 use Rattle.std.proofs.Common.{ℕ, List, ◌∷◌, ◌++◌, sym, ap, ◌∙◌, subst}
-use Rattle.escaping_client.specs.lists.Lists.{IsPrefixOf}
-use Rattle.escaping_client.specs.lists.Lists.In.{here}
-use Rattle.escaping_client.proofs.of_lists.Prefixes.{prefix_same, prefix_then}
-use Rattle.headline.specs.ballot_base.declared.config.Config.{Config}
-use Rattle.headline.specs.snapshots.Moments.{IsAgreed, Moment}
-use Rattle.headline.proofs.of_snapshots.MomentsAgree.{has_agreed, nodes_agree}
-use Rattle.headline.specs.broker_spec.declared.command.Command.{Command}
-use Rattle.headline.specs.broker_spec.declared.command.Output.{Output}
-use Rattle.headline.specs.broker_base.State.{State}
-use Rattle.node_core.specs.Core.{rules}
+use Rattle.lists.specs.Lists.{IsPrefixOf}
+use Rattle.lists.specs.Lists.In.{here}
+use Rattle.lists.proofs.Prefixes.{prefix_same, prefix_then}
+use Rattle.ballot_base.specs.declared.config.Config.{Config}
+use Rattle.agreement.specs.cut_logs.Moments.{IsAgreed, Moment}
+use Rattle.agreement.proofs.of_cut_logs.MomentsAgree.{has_agreed, nodes_agree}
+use Rattle.broker_spec.specs.declared.command.Command.{Command}
+use Rattle.broker_spec.specs.declared.command.Output.{Output}
+use Rattle.broker_base.specs.State.{State}
+use Rattle.world_base.specs.node_core.Core.{rules}
 use Rattle.headline.specs.node_group.Group.{Group, moment_of_nodes}
 use Rattle.headline.specs.node_group.Steps.{GroupTrace, all_proposed, groups_on_trace, put_in_step}
 use Rattle.headline.specs.node_group.Steps.GroupTrace.{then_went}
@@ -21,8 +21,8 @@ use Rattle.headline.proofs.of_node_group.Ordered.{groups_keep_the_order, in_agre
 use Rattle.headline.proofs.of_node_group.Packets.{packets_join}
 use Rattle.world_nodes.specs.Nodes.{NodesState}
 use Rattle.world.specs.Trace.{AgreedListGrows}
-use Rattle.world_clients.specs.NodesGoOn.{StepsOfGroup, NodesGo}
-use Rattle.world_clients.specs.NodesGoOn.StepsOfGroup.{rests, goes_on}
+use Rattle.world_pipes.specs.clients.NodesGoOn.{StepsOfGroup, NodesGo}
+use Rattle.world_pipes.specs.clients.NodesGoOn.StepsOfGroup.{rests, goes_on}
 use Rattle.world.proofs.OneAgreed.{one_agreed}
 
 -- A group that continued from another: its moments continue those of that one.

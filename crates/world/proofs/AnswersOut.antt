@@ -1,45 +1,45 @@
 -- The CONNECT of a client comes to the primary of the new ballot, and is answered: at once, or when the others have answered.
 use Rattle.std.proofs.Common.{◌≡◌, ◌<◌, ◌+◌, ◌*◌, ℕ, suc, true, List, [], ◌∷◌, ◌++◌, Option, Some, length, map, slice_get, refl, sym, ◌∙◌}
 use Rattle.std.specs.List.{position}
-use Rattle.headline.specs.ballot_base.declared.config.Config.{Config}
-use Rattle.headline.specs.broker_spec.declared.command.Command.{Command}
-use Rattle.headline.specs.broker_spec.Connection.{ConnectionName}
-use Rattle.headline.specs.broker_spec.declared.command.Output.{Output}
-use Rattle.headline.specs.broker_base.State.{State}
-use Rattle.escaping_client.specs.client.Core.{Core}
-use Rattle.escaping_nodes.specs.Answered.{CanAsk, begun_log}
-use Rattle.ways_out.specs.CutDeliveries.Delivered.{all_came}
-use Rattle.ways_out.specs.Deliveries.{NumbersAreApart, NodeIs}
-use Rattle.ways_out.specs.Following.{Follows}
-use Rattle.escaping_nodes.proofs.ClientAnswered.{AwaitsOthers, others_are_awaited, others_let_the_client_be_answered, sole_member_answers_the_client, waits_on}
-use Rattle.escaping_nodes.proofs.NodesFollow.{deliveries_are_followed}
-use Rattle.headline.specs.snapshots.Moments.{Moment, Moments, whole_moment}
+use Rattle.ballot_base.specs.declared.config.Config.{Config}
+use Rattle.broker_spec.specs.declared.command.Command.{Command}
+use Rattle.broker_spec.specs.Connection.{ConnectionName}
+use Rattle.broker_spec.specs.declared.command.Output.{Output}
+use Rattle.broker_base.specs.State.{State}
+use Rattle.client.specs.Core.{Core}
+use Rattle.world_nodes.specs.recoveries.Answered.{CanAsk, begun_log}
+use Rattle.recovery.specs.replicas.CutDeliveries.Delivered.{all_came}
+use Rattle.recovery.specs.replicas.Deliveries.{NumbersAreApart, NodeIs}
+use Rattle.recovery.specs.replicas.Following.{Follows}
+use Rattle.world_nodes.proofs.of_recoveries.ClientAnswered.{AwaitsOthers, others_are_awaited, others_let_the_client_be_answered, sole_member_answers_the_client, waits_on}
+use Rattle.world_nodes.proofs.of_recoveries.NodesFollow.{deliveries_are_followed}
+use Rattle.agreement.specs.cut_logs.Moments.{Moment, Moments, whole_moment}
 use Rattle.headline.specs.node_moves.Moves.{NodeCall}
 use Rattle.headline.specs.node_moves.Moves.NodeCall.{takes}
-use Rattle.escaping_client.specs.lists.Lists.{In}
-use Rattle.escaping_client.proofs.of_lists.Places.{get_set}
+use Rattle.lists.specs.Lists.{In}
+use Rattle.lists.proofs.Places.{get_set}
 use Rattle.packet.specs.declared.connect.Connect.{Connect}
-use Rattle.node_core.specs.Core.{CountedCore, rules}
-use Rattle.node_core.specs.declared.item.Item.{Item}
-use Rattle.node_core.specs.declared.item.Item.TheVariants.{Bytes}
-use Rattle.node_core.specs.Step.{node_step}
+use Rattle.world_base.specs.node_core.Core.{CountedCore, rules}
+use Rattle.world_base.specs.declared.node_core.item.Item.{Item}
+use Rattle.world_base.specs.declared.node_core.item.Item.TheVariants.{Bytes}
+use Rattle.world_base.specs.node_core.Step.{node_step}
 use Rattle.world_nodes.specs.ExactSteps.{after_node_call}
 use Rattle.world_nodes.specs.Nodes.{NodesState}
 use Rattle.world_nodes.proofs.Acts.{acts}
-use Rattle.world_events.specs.declared.event.Event.{Event}
-use Rattle.world_events.specs.declared.event.Event.TheVariants as events
-use Rattle.world_clients.specs.Clients.{is_named}
+use Rattle.world_pipes.specs.declared.events.event.Event.{Event}
+use Rattle.world_pipes.specs.declared.events.event.Event.TheVariants as events
+use Rattle.world_pipes.specs.clients.Clients.{is_named}
 use Rattle.world.specs.Found.{port_at_node}
 use Rattle.world.specs.Gathering.{Gathers}
 use Rattle.world.specs.Trace.{WorldLosesNothing}
-use Rattle.world_clients.specs.NodesGoOn.{NodesGo}
+use Rattle.world_pipes.specs.clients.NodesGoOn.{NodesGo}
 use Rattle.world.specs.Happening.{EventsHappen}
-use Rattle.world_clients.specs.SlotsAreValid.{SlotsAreValid, targets_of_clients}
+use Rattle.world_pipes.specs.clients.SlotsAreValid.{SlotsAreValid, targets_of_clients}
 use Rattle.world.specs.World.{WorldState}
 use Rattle.world.proofs.ExactRuns.{in_two}
-use Rattle.world_clients.proofs.NodesGoOn.{acts_go}
+use Rattle.world_pipes.proofs.of_clients.NodesGoOn.{acts_go}
 use Rattle.world.proofs.GroupGoes.{with_nodes}
-use Rattle.world_clients.proofs.NodesGoOn.{nodes_go_join}
+use Rattle.world_pipes.proofs.of_clients.NodesGoOn.{nodes_go_join}
 use Rattle.world.proofs.PassesOn.{Passes, gathers_passes, passes_join}
 use Rattle.world.proofs.PutsFirst.{AnsweredTo, BeforeLast, IsAnswered, answers_last, numbers_before, put_first}
 use Rattle.world.proofs.StandsOn.{IsNewest}

@@ -4,25 +4,25 @@ use Rattle.std.specs.Prelude.{get_or}
 use Rattle.std.specs.List.{position}
 use Rattle.std.proofs.lemmas.Bool.{both_ways}
 use Rattle.std.proofs.lemmas.List.{append-nil, take_more}
-use Rattle.headline.specs.ballot_base.Losses.{one_more}
-use Rattle.escaping_client.specs.client_base.Steps.{Call}
-use Rattle.escaping_client.specs.client_base.declared.error.ClientError.{ClientError}
-use Rattle.escaping_client.specs.client_base.declared.error.ClientError.TheVariants as errors
-use Rattle.escaping_nodes.specs.master.declared.event.Idle.{Idle}
+use Rattle.ballot_base.specs.Losses.{one_more}
+use Rattle.client_base.specs.Steps.{Call}
+use Rattle.client_base.specs.declared.error.ClientError.{ClientError}
+use Rattle.client_base.specs.declared.error.ClientError.TheVariants as errors
+use Rattle.master.specs.declared.event.Idle.{Idle}
 use Rattle.session_base.specs.declared.publication.Publication.{Publication}
 use Rattle.world_pipes.specs.declared.sending.Sending.{Sending}
 use Rattle.world_pipes.specs.declared.sending.Sending.TheVariants as sendings
 use Rattle.world_pipes.specs.Following.{CallingFollows}
 use Rattle.world_pipes.specs.Piped.{Piped}
 use Rattle.world_pipes.proofs.CallingFollows.{calling_goes}
-use Rattle.world_events.specs.declared.event.Event.{Event}
-use Rattle.world_events.specs.declared.event.Event.TheVariants as events
-use Rattle.world_clients.specs.declared.world_client.WorldClient.{WorldClient}
+use Rattle.world_pipes.specs.declared.events.event.Event.{Event}
+use Rattle.world_pipes.specs.declared.events.event.Event.TheVariants as events
+use Rattle.world_pipes.specs.declared.clients.world_client.WorldClient.{WorldClient}
 use Rattle.world.specs.Asking.{AskedBy, AsksOne, EventAsks, RunAsks}
-use Rattle.world_clients.specs.Clients.{is_named}
+use Rattle.world_pipes.specs.clients.Clients.{is_named}
 use Rattle.world.specs.Happening.{EventHappens}
 use Rattle.world.specs.Inside.Calling.{CountsRefusal, with_one_loss}
-use Rattle.world_clients.specs.Calling.{IsCall}
+use Rattle.world_pipes.specs.clients.Calling.{IsCall}
 use Rattle.world.specs.Inside.Steps.{PublishesAsked, IsTrace, IsTraceAsking, IsCounted}
 use Rattle.world.specs.StandsFor.{KeepsReached, FollowsModelAsking}
 use Rattle.world.specs.World.{WorldState}

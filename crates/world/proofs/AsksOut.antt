@@ -4,37 +4,37 @@
 use Rattle.std.proofs.Common.{◌≡◌, ◌⊎◌, inl, inr, ◌<◌, ◌≤◌, ◌+◌, ◌*◌, ℕ, suc, true, false, List, [], ◌∷◌, ◌++◌, Some, Ok, drop, length, map, refl, ap, ◌∙◌, subst, append_assoc, arith}
 use Rattle.std.specs.List.{position}
 use Rattle.std.proofs.lemmas.List.{length-append, map-append}
-use Rattle.headline.specs.ballot_base.declared.config.Config.{Config}
-use Rattle.headline.specs.ballot_base.Serving.{max_places}
-use Rattle.headline.specs.broker_spec.declared.command.Command.{Command}
-use Rattle.headline.specs.broker_spec.declared.command.Command.TheVariants as commands
-use Rattle.headline.specs.broker_spec.Commands.{past_of, usual_limits}
-use Rattle.headline.specs.broker_spec.declared.command.Output.{Output}
-use Rattle.headline.specs.broker_spec.Sessions.{clean_session_of}
-use Rattle.headline.specs.broker_base.State.{State}
-use Rattle.escaping_client.specs.client.Core.{Core}
-use Rattle.escaping_nodes.specs.Answered.{CanAsk, begun_log}
-use Rattle.escaping_nodes.specs.Opened.{IsOpened, first_of}
-use Rattle.ways_out.specs.Deliveries.{NumbersAreApart, NodeIs, asked_and_answered}
-use Rattle.ways_out.specs.Following.{Follows}
-use Rattle.headline.specs.snapshots.Moments.{Moment, Moments, whole_moment}
+use Rattle.ballot_base.specs.declared.config.Config.{Config}
+use Rattle.ballot_base.specs.Serving.{max_places}
+use Rattle.broker_spec.specs.declared.command.Command.{Command}
+use Rattle.broker_spec.specs.declared.command.Command.TheVariants as commands
+use Rattle.broker_spec.specs.Commands.{past_of, usual_limits}
+use Rattle.broker_spec.specs.declared.command.Output.{Output}
+use Rattle.broker_spec.specs.Sessions.{clean_session_of}
+use Rattle.broker_base.specs.State.{State}
+use Rattle.client.specs.Core.{Core}
+use Rattle.world_nodes.specs.recoveries.Answered.{CanAsk, begun_log}
+use Rattle.world_nodes.specs.recoveries.Opened.{IsOpened, first_of}
+use Rattle.recovery.specs.replicas.Deliveries.{NumbersAreApart, NodeIs, asked_and_answered}
+use Rattle.recovery.specs.replicas.Following.{Follows}
+use Rattle.agreement.specs.cut_logs.Moments.{Moment, Moments, whole_moment}
 use Rattle.headline.specs.node_moves.Moves.NodeCall.{takes}
-use Rattle.escaping_client.specs.lists.Lists.{In}
+use Rattle.lists.specs.Lists.{In}
 use Rattle.packet.specs.declared.connect.Connect.{Connect}
 use Rattle.packet.specs.declared.packet.Packet.TheVariants as packets
 use Rattle.packet.specs.Verdict.{verdict}
-use Rattle.node_core.specs.Core.{rules}
-use Rattle.node_core.specs.declared.item.Item.TheVariants.{Bytes}
+use Rattle.world_base.specs.node_core.Core.{rules}
+use Rattle.world_base.specs.declared.node_core.item.Item.TheVariants.{Bytes}
 use Rattle.world_nodes.specs.ExactSteps.{after_node_call}
 use Rattle.world_nodes.specs.Nodes.{NodesState}
-use Rattle.world_events.specs.declared.event.Event.{Event}
-use Rattle.world_events.specs.declared.event.Event.TheVariants as events
-use Rattle.world_clients.specs.Clients.{is_named}
+use Rattle.world_pipes.specs.declared.events.event.Event.{Event}
+use Rattle.world_pipes.specs.declared.events.event.Event.TheVariants as events
+use Rattle.world_pipes.specs.clients.Clients.{is_named}
 use Rattle.world.specs.Found.{port_at_node}
 use Rattle.world.specs.Gathering.{Gathers}
 use Rattle.world.specs.Trace.{WorldLosesNothing}
 use Rattle.world.specs.Happening.{EventsHappen}
-use Rattle.world_clients.specs.SlotsAreValid.{SlotsAreValid, targets_of_clients}
+use Rattle.world_pipes.specs.clients.SlotsAreValid.{SlotsAreValid, targets_of_clients}
 use Rattle.world.specs.World.{WorldState}
 use Rattle.world.proofs.AnswersOut.{answers_alone, answers_with_others}
 use Rattle.world.proofs.ExactRuns.{First, first_done}

@@ -4,29 +4,29 @@ use Rattle.std.specs.List.{position}
 use Rattle.std.specs.Option.{is_some}
 use Rattle.std.proofs.lemmas.Bool.{both_ways}
 use Rattle.std.proofs.lemmas.Option.{none-some}
-use Rattle.headline.specs.ballot_base.Losses.{one_more}
-use Rattle.escaping_client.specs.client.Core.{Core}
-use Rattle.escaping_client.specs.client_base.Answered.{ClientOutcome}
-use Rattle.escaping_client.specs.client_base.Publishing.{publish_refusal, published}
-use Rattle.escaping_client.specs.client_base.State.{ClientState, is_online, is_open}
-use Rattle.escaping_client.specs.client_base.Steps.{Call, disconnected, keeper_step, request_refusal, subscribed, unless_refused, unsubscribed}
-use Rattle.escaping_client.specs.client_base.declared.error.ClientError.{ClientError}
-use Rattle.escaping_client.specs.client_base.declared.error.ClientError.TheVariants as errors
-use Rattle.escaping_client.specs.client_base.declared.stage.Stage.{Stage}
-use Rattle.escaping_client.specs.client_base.declared.stage.Stage.TheVariants as stages
-use Rattle.escaping_nodes.specs.master.declared.event.Idle.{Idle}
-use Rattle.escaping_client.specs.packet.packet_base.declared.qos.QoS.{QoS}
+use Rattle.ballot_base.specs.Losses.{one_more}
+use Rattle.client.specs.Core.{Core}
+use Rattle.client_base.specs.Answered.{ClientOutcome}
+use Rattle.client_base.specs.Publishing.{publish_refusal, published}
+use Rattle.client_base.specs.State.{ClientState, is_online, is_open}
+use Rattle.client_base.specs.Steps.{Call, disconnected, keeper_step, request_refusal, subscribed, unless_refused, unsubscribed}
+use Rattle.client_base.specs.declared.error.ClientError.{ClientError}
+use Rattle.client_base.specs.declared.error.ClientError.TheVariants as errors
+use Rattle.client_base.specs.declared.stage.Stage.{Stage}
+use Rattle.client_base.specs.declared.stage.Stage.TheVariants as stages
+use Rattle.master.specs.declared.event.Idle.{Idle}
+use Rattle.packet_base.specs.declared.qos.QoS.{QoS}
 use Rattle.session_base.specs.declared.publication.Publication.{Publication}
 use Rattle.world_pipes.specs.declared.sending.Sending.{Sending}
 use Rattle.world_pipes.specs.declared.sending.Sending.TheVariants as sendings
 use Rattle.world_pipes.specs.Following.{CallingFollows}
 use Rattle.world_pipes.specs.Piped.{Piped, TakesLeave}
-use Rattle.world_events.specs.declared.event.Event.TheVariants as events
-use Rattle.world_clients.specs.declared.world_client.WorldClient.{WorldClient}
+use Rattle.world_pipes.specs.declared.events.event.Event.TheVariants as events
+use Rattle.world_pipes.specs.declared.clients.world_client.WorldClient.{WorldClient}
 use Rattle.world.specs.Found.{core_named, with_piped}
-use Rattle.world_clients.specs.Clients.{is_named}
+use Rattle.world_pipes.specs.clients.Clients.{is_named}
 use Rattle.world.specs.ClientCalls.{SendsCall, ClientDoes, SendsDisconnect, LosesAsking, LosesLeaving}
-use Rattle.world_clients.specs.Calling.{LosesConnection, IsCall}
+use Rattle.world_pipes.specs.clients.Calling.{LosesConnection, IsCall}
 use Rattle.world.specs.Cannot.{HoldsNone, RefusesCall}
 use Rattle.world.specs.Inside.Calling.{CountsRefusal, with_one_loss}
 use Rattle.world.specs.Inside.Steps.{EventIsDone, EventResultOrLost}

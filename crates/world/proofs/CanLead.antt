@@ -5,27 +5,27 @@ use Rattle.std.specs.List.{list_all, position}
 use Rattle.std.proofs.lemmas.Bool.{and_parts}
 use Rattle.std.proofs.lemmas.List.Quantifiers.{position-Some}
 use Rattle.std.proofs.lemmas.Option.{get_or_from_slice_get}
-use Rattle.headline.specs.agreement.MasterState.{MasterState, refusal}
-use Rattle.headline.specs.ballot_base.declared.config.Config.{Config}
-use Rattle.headline.specs.ballot_base.Serving.{max_places}
-use Rattle.headline.specs.broker_spec.declared.command.Command.{Command}
-use Rattle.headline.specs.broker_spec.declared.command.Output.{Output}
-use Rattle.headline.specs.broker_spec.Place.{Client}
-use Rattle.headline.specs.broker_base.State.{State}
-use Rattle.escaping_nodes.specs.Coming.{IsSeen}
-use Rattle.ways_out.specs.Deliveries.{NodeIs}
-use Rattle.ways_out.specs.Following.{IsRunning}
-use Rattle.ways_out.specs.Laws.{CanBeLed}
-use Rattle.escaping_nodes.proofs.NodesFollow.{replica_at}
+use Rattle.agreement.specs.MasterState.{MasterState, refusal}
+use Rattle.ballot_base.specs.declared.config.Config.{Config}
+use Rattle.ballot_base.specs.Serving.{max_places}
+use Rattle.broker_spec.specs.declared.command.Command.{Command}
+use Rattle.broker_spec.specs.declared.command.Output.{Output}
+use Rattle.broker_spec.specs.Place.{Client}
+use Rattle.broker_base.specs.State.{State}
+use Rattle.world_nodes.specs.recoveries.Coming.{IsSeen}
+use Rattle.recovery.specs.replicas.Deliveries.{NodeIs}
+use Rattle.recovery.specs.replicas.Following.{IsRunning}
+use Rattle.recovery.specs.replicas.Laws.{CanBeLed}
+use Rattle.world_nodes.proofs.of_recoveries.NodesFollow.{replica_at}
 use Rattle.headline.specs.node_group.Group.{Group, moment_of_nodes, replica_of}
-use Rattle.headline.specs.snapshots.Moments.{Moment, Moments, whole_moment}
-use Rattle.headline.specs.snapshots.Whole.{whole, whole_log}
-use Rattle.headline.proofs.of_snapshots.Fronts.{whole_long}
-use Rattle.headline.proofs.of_snapshots.MomentsKept.{moments_stand}
-use Rattle.headline.proofs.of_snapshots.Views.{get_whole}
-use Rattle.escaping_client.specs.lists.Lists.{In}
-use Rattle.escaping_client.specs.lists.Lists.In.{here, there}
-use Rattle.node_core.specs.Core.{CountedCore, rules}
+use Rattle.agreement.specs.cut_logs.Moments.{Moment, Moments, whole_moment}
+use Rattle.agreement.specs.cut_logs.Whole.{whole, whole_log}
+use Rattle.agreement.proofs.of_cut_logs.Fronts.{whole_long}
+use Rattle.agreement.proofs.of_cut_logs.MomentsKept.{moments_stand}
+use Rattle.agreement.proofs.of_cut_logs.Views.{get_whole}
+use Rattle.lists.specs.Lists.{In}
+use Rattle.lists.specs.Lists.In.{here, there}
+use Rattle.world_base.specs.node_core.Core.{CountedCore, rules}
 use Rattle.world_nodes.specs.Asking.{whole_log_in, whole_log_of}
 use Rattle.world_nodes.specs.Running.{is_running, is_up, numbered_node}
 use Rattle.world_nodes.specs.Nodes.{NodesState, NodesStandFor}

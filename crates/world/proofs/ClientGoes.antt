@@ -1,7 +1,7 @@
 -- ClientTrace.antt: if a client takes a step, its world does.
 use Rattle.std.proofs.Common.{◌≡◌, ◌≤◌, ℕ, List, [], ◌++◌, Some, set, slice_get, refl, sym, ap, ap₂, ◌∙◌, subst, arith}
 use Rattle.std.proofs.lemmas.List.{append-nil, map-append, set-set}
-use Rattle.escaping_client.proofs.of_lists.Places.{get_set}
+use Rattle.lists.proofs.Places.{get_set}
 use Rattle.headline.specs.byte_world.World.{ClientPipes, ByteWorld, with_client}
 use Rattle.headline.specs.byte_world.Published.{from_client}
 use Rattle.session_base.specs.declared.publication.Publication.{Publication}
@@ -9,9 +9,9 @@ use Rattle.world_pipes.specs.Following.{FollowsAll, FollowsBy}
 use Rattle.world_pipes.specs.Steps.{ClientTrace, published_in_steps as published_with, published_with as published_with_one}
 use Rattle.world_pipes.specs.Piped.{Piped}
 use Rattle.world_pipes.proofs.StepsInWorlds.{steps_in_worlds}
-use Rattle.world_clients.specs.declared.connection_slot.ConnectionSlot.{ConnectionSlot}
-use Rattle.world_clients.specs.declared.world_client.WorldClient.{WorldClient}
-use Rattle.world_clients.specs.SlotsAreValid.{SlotsAreValid, connection_targets, targets_of_clients}
+use Rattle.world_pipes.specs.declared.clients.connection_slot.ConnectionSlot.{ConnectionSlot}
+use Rattle.world_pipes.specs.declared.clients.world_client.WorldClient.{WorldClient}
+use Rattle.world_pipes.specs.clients.SlotsAreValid.{SlotsAreValid, connection_targets, targets_of_clients}
 use Rattle.world.specs.Inside.Steps.{IsTrace, IsTraceAsking}
 use Rattle.world.specs.Inside.Calling.{with_one_loss}
 use Rattle.world.specs.StandsFor.{WorldSteps, FollowsModel, FollowsModelAsking, published_along}
@@ -19,9 +19,9 @@ use Rattle.world.specs.StandsFor.WorldSteps.{rests, goes_on}
 use Rattle.world.specs.World.{WorldState}
 use Rattle.world.proofs.ClientsStand.{client_at, stand_set}
 use Rattle.world.proofs.Joined.{asked_goes_join, world_stays}
-use Rattle.world_clients.proofs.LeadsKept.{housed_set}
-use Rattle.world_clients.proofs.NodesGoOn.{nodes_rest}
-use Rattle.world_clients.proofs.Turned.{set_itself}
+use Rattle.world_pipes.proofs.of_clients.LeadsKept.{housed_set}
+use Rattle.world_pipes.proofs.of_clients.NodesGoOn.{nodes_rest}
+use Rattle.world_pipes.proofs.of_clients.Turned.{set_itself}
 
 -- ---- the model
 

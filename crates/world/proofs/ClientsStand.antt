@@ -4,8 +4,8 @@ use Rattle.std.proofs.lemmas.Option.{same_Some, none-some}
 use Rattle.headline.specs.byte_world.World.{ClientPipes}
 use Rattle.world_pipes.specs.Piped.{Piped}
 use Rattle.world_pipes.specs.StandsFor.{ClientStandsFor}
-use Rattle.world_clients.specs.declared.world_client.WorldClient.{WorldClient}
-use Rattle.world_clients.specs.Clients.{ClientsStand}
+use Rattle.world_pipes.specs.declared.clients.world_client.WorldClient.{WorldClient}
+use Rattle.world_pipes.specs.clients.Clients.{ClientsStand}
 
 -- the model's client to which the one at a place corresponds
 pub record StandsAt (cs : List ClientPipes) (i : ℕ) (piped : Piped) : Type 0 where

@@ -2,8 +2,8 @@
 use Rattle.std.proofs.Common.{◌≡◌, ◌-◌, ◌≤◌, ℕ, suc, List, [], ◌++◌, take, drop, length, slice_get, Some, refl, sym, ap, ◌∙◌, subst, arith}
 use Rattle.std.proofs.lemmas.List.{take-append-drop, take-append-le, drop-append-le}
 use Rattle.std.proofs.lemmas.Option.{same_Some}
-use Rattle.node_core.specs.declared.item.Item.TheVariants.{Bytes}
-use Rattle.node_core.specs.declared.Port.{Port}
+use Rattle.world_base.specs.declared.node_core.item.Item.TheVariants.{Bytes}
+use Rattle.world_base.specs.declared.node_core.Port.{Port}
 use Rattle.headline.specs.node_moves.Moves.NodeCall.{takes}
 use Rattle.headline.specs.byte_world.World.{HasPipe, Pipe, ByteWorld, with_client, with_pipe}
 use Rattle.headline.specs.byte_world.Steps.ByteWorldStep.{comes_up}
@@ -11,17 +11,17 @@ use Rattle.world_nodes.specs.ExactSteps.{NodeDoesCall}
 use Rattle.world_nodes.specs.Nodes.{NodesState}
 use Rattle.world_pipes.specs.declared.way.Way.{Way}
 use Rattle.world_pipes.specs.Piped.{Piped}
-use Rattle.world_clients.specs.declared.connection_slot.ConnectionSlot.{ConnectionSlot}
-use Rattle.world_clients.specs.declared.world_client.WorldClient.{WorldClient}
-use Rattle.world_clients.specs.SlotsAreValid.{LeadsThere, targets_of_clients}
-use Rattle.world_clients.specs.Carrying.{with_less}
-use Rattle.world_clients.specs.Carrying.{CarriesUp}
+use Rattle.world_pipes.specs.declared.clients.connection_slot.ConnectionSlot.{ConnectionSlot}
+use Rattle.world_pipes.specs.declared.clients.world_client.WorldClient.{WorldClient}
+use Rattle.world_pipes.specs.clients.SlotsAreValid.{LeadsThere, targets_of_clients}
+use Rattle.world_pipes.specs.clients.Carrying.{with_less}
+use Rattle.world_pipes.specs.clients.Carrying.{CarriesUp}
 use Rattle.world.specs.StandsFor.{ModelStepsTo, WorldStandsFor, FollowsModel}
 use Rattle.world.specs.StandsFor.WorldSteps.{rests, goes_on}
 use Rattle.world.specs.World.{WorldState}
 use Rattle.world.proofs.ClientsStand.{StandsAt, client_at, stand_set}
 use Rattle.world.proofs.GoesDown.{put_down}
-use Rattle.world_clients.proofs.LeadsKept.{led}
+use Rattle.world_pipes.proofs.of_clients.LeadsKept.{led}
 use Rattle.world.proofs.WaysStand.{PipeAt, pipe_at, way_changes}
 
 taken_up : (old : WorldState) (m : ByteWorld) (s : WorldStandsFor m old) (place : ConnectionSlot) (client : WorldClient) (one : StandsAt m.clients place.client client.piped) (way : Way)

@@ -3,26 +3,26 @@ use Rattle.std.proofs.Common.{◌≡◌, ◌⊎◌, inl, inr, ◌<◌, ◌≤◌
 use Rattle.std.specs.List.{position}
 use Rattle.std.proofs.lemmas.List.{length-append, take_at}
 use Rattle.std.proofs.lemmas.Option.{same_Some}
-use Rattle.escaping_client.specs.client_base.declared.error.ClientError.{ClientError}
-use Rattle.escaping_client.specs.client_base.declared.error.ClientError.TheVariants as errors
-use Rattle.escaping_client.specs.client.Core.{Core, nothing_read}
-use Rattle.escaping_client.specs.client_base.declared.stage.Stage.TheVariants as stages
-use Rattle.escaping_client.specs.client_base.State.{is_online, is_open}
-use Rattle.escaping_client.specs.Online.{IsServed}
-use Rattle.escaping_client.proofs.ConnackServed.{connack_serves}
-use Rattle.escaping_nodes.specs.Answered.{session_present}
-use Rattle.escaping_client.specs.lists.Lists.{IsPrefixOf}
-use Rattle.escaping_client.proofs.of_lists.Places.{get_pushed, get_set}
+use Rattle.client_base.specs.declared.error.ClientError.{ClientError}
+use Rattle.client_base.specs.declared.error.ClientError.TheVariants as errors
+use Rattle.client.specs.Core.{Core, nothing_read}
+use Rattle.client_base.specs.declared.stage.Stage.TheVariants as stages
+use Rattle.client_base.specs.State.{is_online, is_open}
+use Rattle.recovery.specs.one_client.Online.{IsServed}
+use Rattle.recovery.proofs.of_one_client.ConnackServed.{connack_serves}
+use Rattle.world_nodes.specs.recoveries.Answered.{session_present}
+use Rattle.lists.specs.Lists.{IsPrefixOf}
+use Rattle.lists.proofs.Places.{get_pushed, get_set}
 use Rattle.packet.specs.Spelling.{spelling}
 use Rattle.packet.specs.Verdict.{verdict}
 use Rattle.world_pipes.specs.declared.way.Way.{Way}
 use Rattle.world_pipes.specs.Piped.{CarriesDown, Piped, broken, come_down, piped_up}
-use Rattle.world_events.specs.declared.event.Event.TheVariants as events
-use Rattle.world_clients.specs.declared.connection_slot.ConnectionSlot.{ConnectionSlot}
-use Rattle.world_clients.specs.declared.world_client.WorldClient.{WorldClient}
+use Rattle.world_pipes.specs.declared.events.event.Event.TheVariants as events
+use Rattle.world_pipes.specs.declared.clients.connection_slot.ConnectionSlot.{ConnectionSlot}
+use Rattle.world_pipes.specs.declared.clients.world_client.WorldClient.{WorldClient}
 use Rattle.world.specs.Doing.{DoesEvent}
 use Rattle.world.specs.Found.{core_named, with_piped}
-use Rattle.world_clients.specs.Clients.{is_named}
+use Rattle.world_pipes.specs.clients.Clients.{is_named}
 use Rattle.world.specs.Trace.{WorldLosesNothing}
 use Rattle.world.specs.Happening.{EventsHappen}
 use Rattle.world.specs.World.{WorldState}

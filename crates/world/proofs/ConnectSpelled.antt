@@ -6,15 +6,15 @@ use Rattle.std.proofs.lemmas.List.{append-nil}
 use Rattle.packet.specs.declared.connect.Connect.{Connect}
 use Rattle.packet.specs.declared.packet.Packet.{Packet}
 use Rattle.packet.specs.declared.packet.Packet.TheVariants as packets
-use Rattle.escaping_client.specs.packet_base.ClientId.{is_client}
-use Rattle.escaping_client.specs.packet_base.declared.stop.Stop.{Stop}
+use Rattle.packet_base.specs.ClientId.{is_client}
+use Rattle.packet_base.specs.declared.stop.Stop.{Stop}
 use Rattle.packet.specs.Spelling.{IsPacket, body, spelling}
 use Rattle.packet.specs.Verdict.{verdict}
-use Rattle.escaping_client.proofs.of_packet_base.Clients.{client_parts, client_short}
+use Rattle.packet_base.proofs.Clients.{client_parts, client_short}
 use Rattle.packet.proofs.OneSpelling.{spelling_is}
 use Rattle.packet.proofs.PacketReads.{verdict_again}
-use Rattle.escaping_client.specs.client.Core.{AppendsAll}
-use Rattle.escaping_nodes.specs.Answered.{session_present}
+use Rattle.client.specs.Core.{AppendsAll}
+use Rattle.world_nodes.specs.recoveries.Answered.{session_present}
 
 -- what is spelled is read, and nothing is left
 pub verdict_spelled : (p : Packet) → IsPacket p → verdict (spelling p) ≡ Ok (p, [])

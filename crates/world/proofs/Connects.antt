@@ -5,11 +5,11 @@ use Rattle.std.specs.Option.{is_some}
 use Rattle.std.proofs.lemmas.Bool.{both_ways, ne_eqb}
 use Rattle.std.proofs.lemmas.List.{reverse-reverse}
 use Rattle.std.proofs.lemmas.Option.{none-some}
-use Rattle.escaping_client.proofs.of_lists.Tests.{none_or}
-use Rattle.node_core.specs.declared.item.Item.TheVariants.{Opened}
-use Rattle.node_core.specs.declared.Port.{Port}
-use Rattle.node_core.specs.Core.{CoreState, CountedCore}
-use Rattle.node_core.specs.Handing.{listed_at}
+use Rattle.lists.proofs.Tests.{none_or}
+use Rattle.world_base.specs.declared.node_core.item.Item.TheVariants.{Opened}
+use Rattle.world_base.specs.declared.node_core.Port.{Port}
+use Rattle.world_base.specs.node_core.Core.{CoreState, CountedCore}
+use Rattle.world_base.specs.node_core.Handing.{listed_at}
 use Rattle.headline.specs.node_moves.Moves.NodeCall.{takes}
 use Rattle.headline.proofs.of_node_group.Placed.{get_mapped}
 use Rattle.headline.specs.byte_world.World.{ClientPipes, Pipe, ByteWorld, is_used, leads_to, with_client}
@@ -21,16 +21,16 @@ use Rattle.world_nodes.specs.Nodes.{NodesState, NodesStandFor}
 use Rattle.world_pipes.specs.declared.way.Way.{Way}
 use Rattle.world_pipes.specs.Following.{ConnectingFollows}
 use Rattle.world_pipes.specs.StandsFor.{AreWays}
-use Rattle.world_clients.specs.declared.world_client.WorldClient.{WorldClient}
-use Rattle.world_clients.specs.SlotsAreValid.{SlotsAreValid, connection_targets, targets_of_clients}
+use Rattle.world_pipes.specs.declared.clients.world_client.WorldClient.{WorldClient}
+use Rattle.world_pipes.specs.clients.SlotsAreValid.{SlotsAreValid, connection_targets, targets_of_clients}
 use Rattle.world.specs.Inside.Connecting.{ConnectsAt}
-use Rattle.world_clients.specs.Opening.{IsKnown}
-use Rattle.world_clients.specs.Clients.{ClientsStand}
+use Rattle.world_pipes.specs.clients.Opening.{IsKnown}
+use Rattle.world_pipes.specs.clients.Clients.{ClientsStand}
 use Rattle.world.specs.StandsFor.{ModelStepsTo, FollowsModel}
 use Rattle.world.specs.StandsFor.WorldSteps.{rests, goes_on}
 use Rattle.world.specs.World.{WorldState}
 use Rattle.world.proofs.ClientsStand.{client_at, stand_set}
-use Rattle.world_clients.proofs.Turned.{turned_at}
+use Rattle.world_pipes.proofs.of_clients.Turned.{turned_at}
 
 -- ---- the node has it
 

@@ -1,9 +1,9 @@
 -- CountedOnce.antt: an event is counted once, if at all.
 use Rattle.std.proofs.Common.{◌≡◌, inl, inr, ℕ, Bool, true, false, if◌then◌else◌, Result, Ok, Err, ap, ◌∙◌}
-use Rattle.headline.specs.ballot_base.Losses.{one_more}
-use Rattle.escaping_client.specs.client_base.declared.error.ClientError.{ClientError}
-use Rattle.escaping_client.specs.client_base.declared.error.ClientError.TheVariants as errors
-use Rattle.escaping_nodes.specs.master.declared.event.Idle.{Idle}
+use Rattle.ballot_base.specs.Losses.{one_more}
+use Rattle.client_base.specs.declared.error.ClientError.{ClientError}
+use Rattle.client_base.specs.declared.error.ClientError.TheVariants as errors
+use Rattle.master.specs.declared.event.Idle.{Idle}
 use Rattle.world_pipes.specs.declared.sending.Sending.{Sending}
 use Rattle.world_pipes.specs.declared.sending.Sending.TheVariants as sendings
 use Rattle.world.specs.Trace.{CountsOnce}

@@ -2,43 +2,43 @@
 use Rattle.std.proofs.Common.{◌≡◌, ◌-◌, ◌+◌, ℕ, suc, Bool, true, false, if◌then◌else◌, List, [], ◌∷◌, Option, Some, None, map, refl, sym, ap, ◌∙◌, subst, arith}
 use Rattle.std.specs.Prelude.{slice_get}
 use Rattle.std.proofs.lemmas.Option.{none-some, same_Some}
-use Rattle.headline.specs.ballot_base.declared.message.Body.TheVariants.{Activate}
-use Rattle.headline.specs.ballot_base.declared.message.Message.{Message}
-use Rattle.headline.specs.ballot_base.Protocol.{received}
-use Rattle.headline.specs.ballot_base.Replica.{ReplicaState}
-use Rattle.headline.specs.broker_spec.declared.command.Command.{Command}
-use Rattle.headline.specs.broker_spec.declared.command.Output.{Output}
-use Rattle.headline.specs.broker_base.State.{State}
-use Rattle.ways_out.specs.CutDeliveries.{Delivered, after_activate, after_outcome}
-use Rattle.ways_out.specs.CutDeliveries.Delivered.{all_came, to_node, to_master}
-use Rattle.escaping_nodes.specs.Coming.{AreCalm, Come, IsSeen}
-use Rattle.escaping_nodes.specs.Coming.Come.{all_came as none_comes, to_node as comes_to_node, to_master as comes_to_master}
-use Rattle.escaping_nodes.proofs.NodesFollow.{deliveries_are_followed}
+use Rattle.ballot_base.specs.declared.message.Body.TheVariants.{Activate}
+use Rattle.ballot_base.specs.declared.message.Message.{Message}
+use Rattle.ballot_base.specs.Protocol.{received}
+use Rattle.ballot_base.specs.Replica.{ReplicaState}
+use Rattle.broker_spec.specs.declared.command.Command.{Command}
+use Rattle.broker_spec.specs.declared.command.Output.{Output}
+use Rattle.broker_base.specs.State.{State}
+use Rattle.recovery.specs.replicas.CutDeliveries.{Delivered, after_activate, after_outcome}
+use Rattle.recovery.specs.replicas.CutDeliveries.Delivered.{all_came, to_node, to_master}
+use Rattle.world_nodes.specs.recoveries.Coming.{AreCalm, Come, IsSeen}
+use Rattle.world_nodes.specs.recoveries.Coming.Come.{all_came as none_comes, to_node as comes_to_node, to_master as comes_to_master}
+use Rattle.world_nodes.proofs.of_recoveries.NodesFollow.{deliveries_are_followed}
 use Rattle.headline.specs.node_group.Group.{replica_of}
-use Rattle.headline.specs.snapshots.Moments.{Moment}
+use Rattle.agreement.specs.cut_logs.Moments.{Moment}
 use Rattle.headline.specs.node_moves.Moves.NodeCall.{takes}
-use Rattle.escaping_client.specs.lists.Lists.{In}
-use Rattle.escaping_client.proofs.of_lists.Members.{in_at}
-use Rattle.node_core.specs.Core.{CoreState, CountedCore, rules}
-use Rattle.node_core.specs.declared.item.Item.TheVariants.{Peer}
+use Rattle.lists.specs.Lists.{In}
+use Rattle.lists.proofs.Members.{in_at}
+use Rattle.world_base.specs.node_core.Core.{CoreState, CountedCore, rules}
+use Rattle.world_base.specs.declared.node_core.item.Item.TheVariants.{Peer}
 use Rattle.world_nodes.specs.ExactSteps.{MessageArrives, ComesToNobody, TakesExactly, after_answer, after_node_call}
 use Rattle.world_nodes.specs.Running.{running, unless_stopped}
 use Rattle.world_nodes.specs.Nodes.{NodesState, cores_of}
 use Rattle.world_nodes.proofs.Acts.{acts}
 use Rattle.world_nodes.proofs.MasterActs.{answers_exactly}
-use Rattle.world_events.specs.declared.event.Event.TheVariants as events
+use Rattle.world_pipes.specs.declared.events.event.Event.TheVariants as events
 use Rattle.world.specs.Cannot.{CannotHappen}
 use Rattle.world.specs.Doing.{DoesEvent, receiver_of}
 use Rattle.world.specs.Gathering.{Gathers}
 use Rattle.world.specs.Trace.{WorldLosesNothing}
 use Rattle.world.specs.Happening.{EventsHappen}
-use Rattle.world_clients.specs.SlotsAreValid.{SlotsAreValid, targets_of_clients}
+use Rattle.world_pipes.specs.clients.SlotsAreValid.{SlotsAreValid, targets_of_clients}
 use Rattle.world.specs.World.{WorldState}
 use Rattle.world.proofs.ExactRuns.{first_done}
 use Rattle.world.proofs.GroupGoes.{GoesApart, goes_apart, with_nodes}
 use Rattle.world.proofs.GroupGoes.GoesApart.{acts as goes_by}
 use Rattle.world.proofs.PassesOn.{Passes, gathers_passes, passes_join, passes_rest}
-use Rattle.world_clients.proofs.Turned.{mapped_from}
+use Rattle.world_pipes.proofs.of_clients.Turned.{mapped_from}
 
 -- ---- the nodes change, by a call in which connections have no part
 

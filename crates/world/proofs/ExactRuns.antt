@@ -1,7 +1,7 @@
 -- A list of events in which nothing is lost, taken apart: each event that can happen is done exactly.
 use Rattle.std.proofs.Common.{inl, inr, ◌≤◌, ◌-◌, ◌^◌, ℕ, true, List, [], ◌∷◌, ◌++◌, Result, Ok, Err, refl, ap, arith}
-use Rattle.escaping_nodes.specs.master.declared.event.Idle.{Idle}
-use Rattle.world_events.specs.declared.event.Event.{Event}
+use Rattle.master.specs.declared.event.Idle.{Idle}
+use Rattle.world_pipes.specs.declared.events.event.Event.{Event}
 use Rattle.world.specs.Cannot.{CannotHappen}
 use Rattle.world.specs.Doing.{DoesEvent}
 use Rattle.world.specs.Trace.{WorldLosesNothing}

@@ -2,17 +2,17 @@
 use Rattle.std.proofs.Common.{◌≡◌, inl, inr, ◌<◌, ◌-◌, ℕ, zero, suc, Bool, true, false, List, ◌++◌, Some, length, set, slice_get, refl, sym, ap, ◌∙◌, subst, arith}
 use Rattle.world_nodes.specs.Running.{numbered_node}
 use Rattle.world_nodes.specs.Steps.{nodes_with_loss}
-use Rattle.world_clients.specs.declared.connection_slot.ConnectionSlot.{ConnectionSlot}
+use Rattle.world_pipes.specs.declared.clients.connection_slot.ConnectionSlot.{ConnectionSlot}
 use Rattle.world.specs.Found.{slot_numbered, port_at_node, with_piped}
-use Rattle.world_clients.specs.Handing.{with_down}
+use Rattle.world_pipes.specs.clients.Handing.{with_down}
 use Rattle.world.specs.Gathering.{GatheredWhere, Gathers, GathersAmong, IsGathered, MayBeGathered, leads_open_to}
-use Rattle.world_clients.specs.Handing.{bytes_put_out}
+use Rattle.world_pipes.specs.clients.Handing.{bytes_put_out}
 use Rattle.world.specs.Inside.Steps.{IsTrace}
 use Rattle.world.specs.Inside.Handing.{GatheringOrLost, GathersOn, marked}
 use Rattle.world.specs.World.{WorldState}
 use Rattle.world.proofs.Joined.{goes_on_join}
 use Rattle.world.proofs.StandsThere.{numbered_at}
-use Rattle.world_clients.proofs.Turned.{set_itself}
+use Rattle.world_pipes.proofs.of_clients.Turned.{set_itself}
 
 -- ---- one connection
 

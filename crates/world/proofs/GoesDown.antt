@@ -1,17 +1,18 @@
 -- GoesDown.antt: what a node hands over for a connection goes down on it.
 use Rattle.std.proofs.Common.{◌≡◌, inl, inr, ◌-◌, ℕ, suc, Bool, if◌then◌else◌, List, [], ◌++◌, Option, Some, None, set, slice_get, refl, sym, ap, ◌∙◌, subst, arith}
 use Rattle.std.proofs.lemmas.Option.{same_Some}
-use Rattle.headline.specs.ballot_base.declared.config.Config.{Config}
-use Rattle.headline.specs.broker_spec.Connection.{ConnectionName, same_connection}
-use Rattle.headline.specs.broker_spec.Place.{Client}
-use Rattle.escaping_client.specs.lists.Lists.{In}
-use Rattle.escaping_client.proofs.of_lists.Tests.{eq_is}
-use Rattle.headline.proofs.of_exactly_once.Takes.{same_name_self}
-use Rattle.node_core.specs.declared.Connection.{Connection as NodesEnd}
-use Rattle.node_core.specs.declared.Port.{Port}
-use Rattle.headline.specs.node_connections.Connections.{is_at}
-use Rattle.node_core.specs.Core.{CoreState, CountedCore}
-use Rattle.node_core.specs.Handing.{pending_bytes, listed_at}
+use Rattle.ballot_base.specs.declared.config.Config.{Config}
+use Rattle.broker_spec.specs.Connection.{ConnectionName, same_connection}
+use Rattle.broker_spec.specs.Place.{Client}
+use Rattle.lists.specs.Lists.{In}
+use Rattle.lists.proofs.Tests.{eq_is}
+use Rattle.exactly_once.proofs.Takes.{same_name_self}
+use Rattle.world_base.specs.declared.node_core.Connection.{Connection as NodesEnd}
+use Rattle.world_base.specs.declared.node_core.Port.{Port}
+use Rattle.world_base.specs.node_connections.Connections.{is_at}
+use Rattle.world_base.specs.node_core.Core.{CoreState, CountedCore}
+use Rattle.world_base.specs.node_connections.Pending.{pending_bytes}
+use Rattle.world_base.specs.node_core.Handing.{listed_at}
 use Rattle.headline.specs.node_moves.Moves.NodeCall.{hands_out}
 use Rattle.headline.proofs.of_node_moves.Views.{found_passes}
 use Rattle.headline.specs.node_group.Streams.{bytes_named}
@@ -26,18 +27,18 @@ use Rattle.world_nodes.specs.ExactSteps.{NodeDoesCall, HandsOver}
 use Rattle.world_nodes.specs.Nodes.{NodesState}
 use Rattle.world_pipes.specs.declared.way.Way.{Way}
 use Rattle.world_pipes.specs.Piped.{Piped}
-use Rattle.world_clients.specs.declared.connection_slot.ConnectionSlot.{ConnectionSlot}
-use Rattle.world_clients.specs.declared.world_client.WorldClient.{WorldClient}
-use Rattle.world_clients.specs.SlotsAreValid.{LeadsThere, targets_of_clients}
-use Rattle.world_clients.specs.Handing.{with_down}
-use Rattle.world_clients.specs.Handing.{MayHandDown, MayPutDown}
-use Rattle.world_clients.specs.NodesGoOn.{NodesStay}
+use Rattle.world_pipes.specs.declared.clients.connection_slot.ConnectionSlot.{ConnectionSlot}
+use Rattle.world_pipes.specs.declared.clients.world_client.WorldClient.{WorldClient}
+use Rattle.world_pipes.specs.clients.SlotsAreValid.{LeadsThere, targets_of_clients}
+use Rattle.world_pipes.specs.clients.Handing.{with_down}
+use Rattle.world_pipes.specs.clients.Handing.{MayHandDown, MayPutDown}
+use Rattle.world_pipes.specs.clients.NodesGoOn.{NodesStay}
 use Rattle.world.specs.StandsFor.{ModelStepsTo, WorldStandsFor, FollowsModel}
 use Rattle.world.specs.StandsFor.WorldSteps.{rests, goes_on}
 use Rattle.world.specs.World.{WorldState}
 use Rattle.world.proofs.ClientsStand.{StandsAt, client_at, stand_set}
-use Rattle.world_clients.proofs.LeadsKept.{led}
-use Rattle.world_clients.proofs.Turned.{mapped_from, set_itself}
+use Rattle.world_pipes.proofs.of_clients.LeadsKept.{led}
+use Rattle.world_pipes.proofs.of_clients.Turned.{mapped_from, set_itself}
 use Rattle.world.proofs.WaysStand.{PipeAt, pipe_at, way_changes}
 
 -- all that a node hands over at a port is of one name

@@ -2,13 +2,13 @@
 -- memory runs out.
 use Rattle.std.proofs.Common.{◌≡◌, ◌⊎◌, inl, inr, ◌≤◌, ◌-◌, ℕ, zero, suc, true, Option, Some, None, Result, Ok, Err, OnOk, OnErr, refl, arith}
 use Rattle.std.specs.Prelude.{slice_get}
-use Rattle.headline.specs.ballot_base.declared.message.Body.{Body}
-use Rattle.headline.specs.ballot_base.declared.message.Body.TheVariants.{NewBallot, Join, State, Install, Installed, Activate, Activated, Superseded, Append, Held, Commit}
-use Rattle.headline.specs.ballot_base.declared.message.Message.{Message}
-use Rattle.headline.specs.broker_spec.declared.command.Command.{Command}
-use Rattle.headline.specs.broker_spec.Place.{Client}
-use Rattle.escaping_nodes.specs.master.declared.event.Idle.{Idle}
-use Rattle.node_core.specs.declared.item.Item.TheVariants.{Cut, Expel, Peer}
+use Rattle.ballot_base.specs.declared.message.Body.{Body}
+use Rattle.ballot_base.specs.declared.message.Body.TheVariants.{NewBallot, Join, State, Install, Installed, Activate, Activated, Superseded, Append, Held, Commit}
+use Rattle.ballot_base.specs.declared.message.Message.{Message}
+use Rattle.broker_spec.specs.declared.command.Command.{Command}
+use Rattle.broker_spec.specs.Place.{Client}
+use Rattle.master.specs.declared.event.Idle.{Idle}
+use Rattle.world_base.specs.declared.node_core.item.Item.TheVariants.{Cut, Expel, Peer}
 use Rattle.headline.specs.node_moves.Moves.{NodeCall}
 use Rattle.headline.specs.node_moves.Moves.NodeCall.{takes}
 use Rattle.headline.specs.node_group.Group.{Group}
@@ -19,13 +19,13 @@ use Rattle.world_nodes.specs.Nodes.{NodesState, NodesStandFor}
 use Rattle.world_nodes.specs.ExactSteps.{NodeDoesCall, GoesBy}
 use Rattle.world_nodes.specs.Steps.{nodes_with_loss}
 use Rattle.world_nodes.specs.GroupSteps.{GroupDeliveryOrLost, MasterHears, MasterStepOrLost, NodeCallOrLost}
-use Rattle.world_clients.specs.NodesGoOn.{NodesGo, NodesStay}
+use Rattle.world_pipes.specs.clients.NodesGoOn.{NodesGo, NodesStay}
 use Rattle.world.specs.Inside.Steps.{IsTrace}
 use Rattle.world.specs.StandsFor.{FollowsModel}
 use Rattle.world.specs.StandsFor.WorldSteps.{rests, goes_on}
 use Rattle.world.specs.World.{WorldState}
-use Rattle.world_clients.proofs.NodesGoOn.{nodes_forget, nodes_stay, staying_goes}
-use Rattle.world_clients.proofs.NodesGoOn.{acts_go}
+use Rattle.world_pipes.proofs.of_clients.NodesGoOn.{nodes_forget, nodes_stay, staying_goes}
+use Rattle.world_pipes.proofs.of_clients.NodesGoOn.{acts_go}
 
 abbrev pub with_nodes : NodesState → WorldState → WorldState
 with_nodes nodes w = record w { nodes = nodes }

@@ -2,17 +2,17 @@
 use Rattle.std.proofs.Common.{◌≡◌, inl, inr, ◌<◌, ◌-◌, ℕ, Bool, true, false, List, Some, Result, Ok, Err, OnErr, slice_get, refl, sym, ap, ◌∙◌, subst, arith}
 use Rattle.std.specs.Prelude.{IfOk}
 use Rattle.std.proofs.lemmas.Option.{same_Some}
-use Rattle.escaping_nodes.specs.master.declared.event.Idle.{Idle}
+use Rattle.master.specs.declared.event.Idle.{Idle}
 use Rattle.world_nodes.specs.Nodes.{NodesState}
 use Rattle.world_pipes.specs.declared.way.Way.{Way}
 use Rattle.world_pipes.specs.Piped.{Piped}
-use Rattle.world_clients.specs.declared.connection_slot.ConnectionSlot.{ConnectionSlot}
-use Rattle.world_clients.specs.declared.world_client.WorldClient.{WorldClient}
-use Rattle.world_clients.specs.NodesGoOn.{NodesGoOn}
-use Rattle.world_clients.specs.SlotsAreValid.{SlotsAreValid, targets_of_clients}
+use Rattle.world_pipes.specs.declared.clients.connection_slot.ConnectionSlot.{ConnectionSlot}
+use Rattle.world_pipes.specs.declared.clients.world_client.WorldClient.{WorldClient}
+use Rattle.world_pipes.specs.clients.NodesGoOn.{NodesGoOn}
+use Rattle.world_pipes.specs.clients.SlotsAreValid.{SlotsAreValid, targets_of_clients}
 use Rattle.world.specs.Found.{port_at_node}
-use Rattle.world_clients.specs.Handing.{with_down, BytesDownOrLost, MayPutDown, PipeBytesDownOrLost}
-use Rattle.world_clients.specs.Carrying.{CannotCarryUp, CarriesUpWhere}
+use Rattle.world_pipes.specs.clients.Handing.{with_down, BytesDownOrLost, MayPutDown, PipeBytesDownOrLost}
+use Rattle.world_pipes.specs.clients.Carrying.{CannotCarryUp, CarriesUpWhere}
 use Rattle.world.specs.Inside.Carrying.{CannotCarryUpOn, CarriesUpOnWhere}
 use Rattle.world.specs.Inside.Steps.{IsTrace}
 use Rattle.world.specs.Inside.Handing.{GatheringOrLost}
@@ -20,8 +20,8 @@ use Rattle.world.specs.World.{WorldState}
 use Rattle.world.proofs.ComesUp.{takes_up}
 use Rattle.world.proofs.GoesDown.{put_down, puts_down}
 use Rattle.world.proofs.Joined.{goes_on_rest}
-use Rattle.world_clients.proofs.LeadsKept.{led_there}
-use Rattle.world_clients.proofs.Turned.{set_itself, there}
+use Rattle.world_pipes.proofs.of_clients.LeadsKept.{led_there}
+use Rattle.world_pipes.proofs.of_clients.Turned.{set_itself, there}
 
 -- nothing is changed but the nodes
 same_client : (old : WorldState) (i : ℕ) (client : WorldClient) (new : NodesState) (later : Piped) → slice_get old.clients i ≡ Some client → later ≡ client.piped

@@ -2,11 +2,11 @@
 use Rattle.std.proofs.Common.{◌≡◌, ◌⊎◌, inl, inr, ◌≤◌, ℕ, zero, suc, Bool, List, [], ◌∷◌, ◌++◌, Some, length, set, slice_get, refl, sym, ap, ◌∙◌, subst, arith}
 use Rattle.std.proofs.lemmas.List.{length-append, length-set}
 use Rattle.std.proofs.lemmas.Option.{same_Some, none-some}
-use Rattle.escaping_client.proofs.of_lists.Places.{get_pushed, get_set, get_set_other}
+use Rattle.lists.proofs.Places.{get_pushed, get_set, get_set_other}
 use Rattle.headline.proofs.of_packet_world.Lists.{same_or_other, set_get}
-use Rattle.node_core.specs.declared.Port.{Port}
-use Rattle.world_clients.specs.declared.connection_slot.ConnectionSlot.{ConnectionSlot}
-use Rattle.world_clients.specs.SlotsAreValid.{SlotsAreValid, LeadsThere}
+use Rattle.world_base.specs.declared.node_core.Port.{Port}
+use Rattle.world_pipes.specs.declared.clients.connection_slot.ConnectionSlot.{ConnectionSlot}
+use Rattle.world_pipes.specs.clients.SlotsAreValid.{SlotsAreValid, LeadsThere}
 
 -- ---- an end is open, or closed
 

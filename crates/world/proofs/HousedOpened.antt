@@ -1,14 +1,14 @@
 -- HousedOpened.antt: after an opening each connection is at its known place.
 use Rattle.std.proofs.Common.{◌≡◌, ℕ, suc, List, [], ◌∷◌, ◌++◌, Some, length, set, slice_get, sym, ap, ◌∙◌, subst}
 use Rattle.std.proofs.lemmas.List.{length-map, map-append, map-set}
-use Rattle.escaping_client.specs.client.Core.{Core}
+use Rattle.client.specs.Core.{Core}
 use Rattle.headline.proofs.of_node_group.Placed.{get_mapped}
-use Rattle.node_core.specs.declared.Port.{Port}
+use Rattle.world_base.specs.declared.node_core.Port.{Port}
 use Rattle.world_pipes.specs.declared.way.Way.{Way}
 use Rattle.world_pipes.specs.Piped.{Piped, new_way, piped_up}
-use Rattle.world_clients.specs.declared.connection_slot.ConnectionSlot.{ConnectionSlot}
-use Rattle.world_clients.specs.declared.world_client.WorldClient.{WorldClient}
-use Rattle.world_clients.specs.SlotsAreValid.{SlotsAreValid, connection_targets, targets_of_clients}
+use Rattle.world_pipes.specs.declared.clients.connection_slot.ConnectionSlot.{ConnectionSlot}
+use Rattle.world_pipes.specs.declared.clients.world_client.WorldClient.{WorldClient}
+use Rattle.world_pipes.specs.clients.SlotsAreValid.{SlotsAreValid, connection_targets, targets_of_clients}
 use Rattle.world.proofs.HousedOn.{housed_more}
 
 abbrev lead : Way → ℕ × Port

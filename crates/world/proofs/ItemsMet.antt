@@ -5,34 +5,34 @@ use Rattle.std.specs.List.{position}
 use Rattle.std.proofs.lemmas.List.{take_more}
 use Rattle.std.proofs.lemmas.Bool.{both_ways}
 use Rattle.std.proofs.lemmas.Option.{same_Some}
-use Rattle.headline.specs.agreement.MasterState.{refusal}
-use Rattle.headline.specs.ballot_base.declared.config.Config.{Config}
-use Rattle.headline.specs.ballot_base.Losses.{one_more}
-use Rattle.escaping_nodes.specs.master.declared.event.Idle.{Idle}
-use Rattle.node_core.specs.declared.item.Item.{Item}
-use Rattle.node_core.specs.declared.item.Item.TheVariants.{Bytes, Crash, Ended, Expel, Tick}
+use Rattle.agreement.specs.MasterState.{refusal}
+use Rattle.ballot_base.specs.declared.config.Config.{Config}
+use Rattle.ballot_base.specs.Losses.{one_more}
+use Rattle.master.specs.declared.event.Idle.{Idle}
+use Rattle.world_base.specs.declared.node_core.item.Item.{Item}
+use Rattle.world_base.specs.declared.node_core.item.Item.TheVariants.{Bytes, Crash, Ended, Expel, Tick}
 use Rattle.world_nodes.specs.ExactSteps.{MessageArrives, ComesToNobody, CutsExactly, TakesExactly}
 use Rattle.world_nodes.specs.Running.{cutting, proposing, running}
 use Rattle.world_nodes.specs.Nodes.{NodesState}
 use Rattle.world_nodes.specs.Steps.{DeliveryOrLost, NewBallotOrLost, NodeCutOrLost, NodeExpelOrLost, NodeItemOrLost, NodesLoseNothing}
 use Rattle.world_pipes.specs.declared.way.Way.{Way}
 use Rattle.world_pipes.specs.Piped.{Piped, is_holding}
-use Rattle.world_events.specs.declared.event.Event.{Event}
-use Rattle.world_events.specs.declared.event.Event.TheVariants as events
-use Rattle.world_clients.specs.declared.connection_slot.ConnectionSlot.{ConnectionSlot}
-use Rattle.world_clients.specs.declared.world_client.WorldClient.{WorldClient}
+use Rattle.world_pipes.specs.declared.events.event.Event.{Event}
+use Rattle.world_pipes.specs.declared.events.event.Event.TheVariants as events
+use Rattle.world_pipes.specs.declared.clients.connection_slot.ConnectionSlot.{ConnectionSlot}
+use Rattle.world_pipes.specs.declared.clients.world_client.WorldClient.{WorldClient}
 use Rattle.world.specs.Found.{Connected, slot_numbered, port_at_node, with_piped}
-use Rattle.world_clients.specs.Clients.{is_named}
-use Rattle.world_clients.specs.Carrying.{with_less}
+use Rattle.world_pipes.specs.clients.Clients.{is_named}
+use Rattle.world_pipes.specs.clients.Carrying.{with_less}
 use Rattle.world.specs.Gathering.{Gathers, TakesItem}
 use Rattle.world.specs.Cannot.{CannotHappen, IsClosed, down_of, is_held, is_held_by, up_of}
-use Rattle.world_clients.specs.Carrying.{IsNoPart}
+use Rattle.world_pipes.specs.clients.Carrying.{IsNoPart}
 use Rattle.world.specs.Doing.{DoesEvent, LosesAtClient, receiver_of}
-use Rattle.world_clients.specs.Carrying.{CarriesDownWhere}
+use Rattle.world_pipes.specs.clients.Carrying.{CarriesDownWhere}
 use Rattle.world.specs.Happening.{EventHappens, HappensExactly, HappensLosing, EventsHappen}
-use Rattle.world_clients.specs.SlotsAreValid.{SlotsAreValid, targets_of_clients}
+use Rattle.world_pipes.specs.clients.SlotsAreValid.{SlotsAreValid, targets_of_clients}
 use Rattle.world.specs.Quiet.{EventTakesNoMemory}
-use Rattle.world_clients.specs.Carrying.{CanCarryUp, CannotCarryDown, CarriesDownOn}
+use Rattle.world_pipes.specs.clients.Carrying.{CanCarryUp, CannotCarryDown, CarriesDownOn}
 use Rattle.world.specs.Inside.Carrying.{CannotCarryUpOn, CarriesUpOn}
 use Rattle.world.specs.Inside.Steps.{IsCounted, EventIsDone, EventResultOrLost}
 use Rattle.world.specs.Inside.Calling.{with_one_loss}

@@ -1,9 +1,9 @@
 -- Joined.antt: steps of worlds, one after another.
 use Rattle.std.proofs.Common.{◌≡◌, ◌<◌, ◌≤◌, ◌^◌, ◌-◌, ℕ, List, [], ◌++◌, refl, sym, ap, ap₂, ◌∙◌, subst, arith, append_assoc}
 use Rattle.std.proofs.lemmas.List.{append-nil}
-use Rattle.headline.specs.ballot_base.declared.config.Config.{Config}
-use Rattle.headline.specs.ballot_base.Losses.{one_more}
-use Rattle.headline.specs.broker_spec.Place.{Client}
+use Rattle.ballot_base.specs.declared.config.Config.{Config}
+use Rattle.ballot_base.specs.Losses.{one_more}
+use Rattle.broker_spec.specs.Place.{Client}
 use Rattle.headline.proofs.WorldsExact.{worlds_are_exact}
 use Rattle.headline.specs.packet_world.World.{ClientsAreApart}
 use Rattle.session_base.specs.declared.publication.Publication.{Publication}
@@ -14,12 +14,12 @@ use Rattle.headline.specs.byte_world.Published.{published_in_step, published_on_
 use Rattle.world_nodes.specs.Nodes.{NodesState, NodesStandFor}
 use Rattle.world.specs.Trace.{WorldLosesNothing, KeepsGroup}
 use Rattle.world.specs.Inside.Steps.{IsTrace, IsTraceAsking}
-use Rattle.world_clients.specs.declared.world_client.WorldClient.{WorldClient}
-use Rattle.world_clients.specs.Clients.{ClientsStand}
+use Rattle.world_pipes.specs.declared.clients.world_client.WorldClient.{WorldClient}
+use Rattle.world_pipes.specs.clients.Clients.{ClientsStand}
 use Rattle.world.specs.StandsFor.{ModelStepsTo, IsReached, KeepsReached, WorldStandsFor, WorldSteps, FollowsModel, FollowsModelAsking, asked_on, published_along}
 use Rattle.world.specs.StandsFor.WorldSteps.{rests, goes_on}
 use Rattle.world.specs.World.{WorldState}
-use Rattle.world_clients.proofs.NodesGoOn.{nodes_go_join, nodes_join, nodes_rest}
+use Rattle.world_pipes.proofs.of_clients.NodesGoOn.{nodes_go_join, nodes_join, nodes_rest}
 
 -- ---- worlds of the model
 

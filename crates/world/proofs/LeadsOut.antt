@@ -1,40 +1,40 @@
 -- The events of a way out lead out: to the next ballot, and to the client online with its session present.
 use Rattle.std.proofs.Common.{◌≡◌, ◌-◌, ◌+◌, ℕ, suc, Bool, List, [], ◌∷◌, ◌++◌, length, map, refl, sym, ap, ◌∙◌, subst, append_assoc, arith}
 use Rattle.std.proofs.lemmas.Option.{none-some}
-use Rattle.headline.specs.agreement.MasterState.{MasterState}
-use Rattle.headline.specs.agreement.MasterState.AssignRefusal.{bad_members}
-use Rattle.headline.specs.ballot_base.declared.config.Config.{Config}
-use Rattle.headline.specs.ballot_base.declared.message.Message.{Message}
-use Rattle.headline.specs.broker_spec.declared.command.Command.{Command}
-use Rattle.headline.specs.broker_spec.declared.command.Output.{Output}
-use Rattle.headline.specs.broker_spec.Place.{Client}
-use Rattle.headline.specs.broker_base.State.{State}
-use Rattle.escaping_client.specs.client.Core.{AppendsAll, Core}
-use Rattle.escaping_client.specs.client_base.State.{is_open}
-use Rattle.escaping_nodes.specs.Answered.{begun_log}
-use Rattle.escaping_nodes.specs.Opened.{CanOpen}
-use Rattle.ways_out.specs.Deliveries.{asked_and_answered}
+use Rattle.agreement.specs.MasterState.{MasterState}
+use Rattle.agreement.specs.MasterState.AssignRefusal.{bad_members}
+use Rattle.ballot_base.specs.declared.config.Config.{Config}
+use Rattle.ballot_base.specs.declared.message.Message.{Message}
+use Rattle.broker_spec.specs.declared.command.Command.{Command}
+use Rattle.broker_spec.specs.declared.command.Output.{Output}
+use Rattle.broker_spec.specs.Place.{Client}
+use Rattle.broker_base.specs.State.{State}
+use Rattle.client.specs.Core.{AppendsAll, Core}
+use Rattle.client_base.specs.State.{is_open}
+use Rattle.world_nodes.specs.recoveries.Answered.{begun_log}
+use Rattle.world_nodes.specs.recoveries.Opened.{CanOpen}
+use Rattle.recovery.specs.replicas.Deliveries.{asked_and_answered}
 use Rattle.headline.specs.node_group.Group.{Group, moment_of_nodes}
-use Rattle.headline.specs.snapshots.Moments.{Moment, Moments}
+use Rattle.agreement.specs.cut_logs.Moments.{Moment, Moments}
 use Rattle.headline.specs.byte_world.Carried.{trace_of}
-use Rattle.escaping_client.specs.lists.Lists.{IsPrefixOf}
+use Rattle.lists.specs.Lists.{IsPrefixOf}
 use Rattle.packet.specs.declared.packet.Packet.TheVariants as packets
-use Rattle.node_core.specs.Core.{rules}
+use Rattle.world_base.specs.node_core.Core.{rules}
 use Rattle.world_nodes.specs.Agreed.{AgreeOn}
 use Rattle.world_nodes.specs.Asking.{whole_log_of}
 use Rattle.world_nodes.specs.Nodes.{NodesState}
 use Rattle.world_pipes.specs.StandsFor.{CanGoOut}
-use Rattle.world_events.specs.declared.event.Event.{Event}
-use Rattle.world_events.specs.declared.event.Event.TheVariants as events
-use Rattle.world_clients.specs.declared.connection_slot.ConnectionSlot.{ConnectionSlot}
+use Rattle.world_pipes.specs.declared.events.event.Event.{Event}
+use Rattle.world_pipes.specs.declared.events.event.Event.TheVariants as events
+use Rattle.world_pipes.specs.declared.clients.connection_slot.ConnectionSlot.{ConnectionSlot}
 use Rattle.world.specs.Opening.{next_connection_number}
 use Rattle.world.specs.Escaping.{CanEscape, HasEscaped, LeadsClientOut}
 use Rattle.world.specs.Found.{port_at_node}
 use Rattle.world.specs.Trace.{AreReached, WorldLosesNothing}
-use Rattle.world_clients.specs.NodesGoOn.{NodesGo}
+use Rattle.world_pipes.specs.clients.NodesGoOn.{NodesGo}
 use Rattle.world.specs.Happening.{EventsHappen}
-use Rattle.world_clients.specs.SlotsAreValid.{SlotsAreValid, targets_of_clients}
-use Rattle.world_events.specs.EscapeEvents.{answer_events, client_events, leaving}
+use Rattle.world_pipes.specs.clients.SlotsAreValid.{SlotsAreValid, targets_of_clients}
+use Rattle.world_pipes.specs.events.EscapeEvents.{answer_events, client_events, leaving}
 use Rattle.world.specs.Inside.Escaping.{escaping_events, sent_then}
 use Rattle.world.specs.StandsFor.{IsReached}
 use Rattle.world.specs.World.{WorldState}
@@ -49,7 +49,7 @@ use Rattle.world.proofs.LedWorld.{LedTo, lawful, led_to}
 use Rattle.world.proofs.NamesKept.{core_seen, named_there}
 use Rattle.world.proofs.NewPrimary.{IsNewPrimary, new_primary}
 use Rattle.world.proofs.StaysReached.{are_reached}
-use Rattle.world_clients.proofs.NodesGoOn.{nodes_go_join}
+use Rattle.world_pipes.proofs.of_clients.NodesGoOn.{nodes_go_join}
 use Rattle.world.proofs.OneAgreed.{reached_agree}
 use Rattle.world.proofs.OpensOut.{HasOpened, opens_out}
 use Rattle.world.proofs.PutsFirst.{AnsweredTo}

@@ -2,23 +2,23 @@
 use Rattle.std.proofs.Common.{◌≡◌, ℕ, Bool, true, false, List, ◌++◌, Some, refl, sym, ap, ◌∙◌, subst}
 use Rattle.std.proofs.lemmas.Bool.{both_ways}
 use Rattle.std.proofs.lemmas.Option.{same_Some}
-use Rattle.escaping_client.specs.client.Core.{Core, gone}
-use Rattle.escaping_client.specs.client_base.State.{is_open}
-use Rattle.escaping_client.proofs.of_lists.Places.{get_set}
+use Rattle.client.specs.Core.{Core, gone}
+use Rattle.client_base.specs.State.{is_open}
+use Rattle.lists.proofs.Places.{get_set}
 use Rattle.world_pipes.specs.Piped.{Piped}
-use Rattle.world_events.specs.declared.event.Event.{Event}
-use Rattle.world_events.specs.declared.event.Event.TheVariants as events
-use Rattle.world_clients.specs.declared.world_client.WorldClient.{WorldClient}
+use Rattle.world_pipes.specs.declared.events.event.Event.{Event}
+use Rattle.world_pipes.specs.declared.events.event.Event.TheVariants as events
+use Rattle.world_pipes.specs.declared.clients.world_client.WorldClient.{WorldClient}
 use Rattle.world.specs.Cannot.{HoldsNone}
 use Rattle.world.specs.Doing.{DoesEvent}
 use Rattle.world.specs.Found.{core_named, with_piped}
 use Rattle.world.specs.Trace.{WorldLosesNothing}
 use Rattle.world.specs.Happening.{EventsHappen}
-use Rattle.world_clients.specs.SlotsAreValid.{SlotsAreValid, connection_targets, targets_of_clients}
-use Rattle.world_events.specs.EscapeEvents.{leaving}
+use Rattle.world_pipes.specs.clients.SlotsAreValid.{SlotsAreValid, connection_targets, targets_of_clients}
+use Rattle.world_pipes.specs.events.EscapeEvents.{leaving}
 use Rattle.world.specs.World.{WorldState}
 use Rattle.world.proofs.ExactRuns.{First, first_done}
-use Rattle.world_clients.proofs.LeadsKept.{housed_client}
+use Rattle.world_pipes.proofs.of_clients.LeadsKept.{housed_client}
 use Rattle.world.proofs.NamesKept.{names_set, position_kept}
 use Rattle.world.proofs.StandsThere.{core_found}
 

@@ -2,35 +2,36 @@
 use Rattle.std.proofs.Common.{◌≡◌, inr, ◌<◌, ◌-◌, ◌+◌, ℕ, Bool, true, false, if◌then◌else◌, List, ◌∷◌, ◌++◌, None, Some, length, map, refl, ap, ◌∙◌, subst, arith}
 use Rattle.std.specs.Prelude.{nat_le}
 use Rattle.std.proofs.lemmas.Bool.{leb-false}
-use Rattle.headline.specs.agreement.MasterState.{MasterState, max_ballot}
-use Rattle.headline.specs.agreement.MasterState.AssignRefusal.{bad_members, ballots_spent}
-use Rattle.headline.specs.ballot_base.declared.config.Config.{Config}
-use Rattle.headline.specs.ballot_base.LawfulConfig.{is_lawful}
-use Rattle.headline.specs.ballot_base.declared.message.Message.{Message}
-use Rattle.headline.specs.broker_spec.declared.command.Command.{Command}
-use Rattle.headline.specs.broker_spec.declared.command.Output.{Output}
-use Rattle.headline.specs.broker_spec.Place.{Client}
-use Rattle.headline.specs.broker_base.State.{State}
-use Rattle.escaping_nodes.specs.Coming.{AreCalm, AreFollowed, IsSeen}
-use Rattle.ways_out.specs.CutDeliveries.{Delivered, assigned_moment}
-use Rattle.ways_out.specs.CutLaws.{LeadsOut}
-use Rattle.ways_out.specs.Deliveries.{way_out}
-use Rattle.escaping_nodes.proofs.LedOut.{assigned_seen, low_before, way_of}
-use Rattle.escaping_nodes.proofs.NodesFollow.{deliveries_are_followed}
+use Rattle.agreement.specs.MasterState.{MasterState}
+use Rattle.machine.specs.Ballots.{max_ballot}
+use Rattle.agreement.specs.MasterState.AssignRefusal.{bad_members, ballots_spent}
+use Rattle.ballot_base.specs.declared.config.Config.{Config}
+use Rattle.ballot_base.specs.LawfulConfig.{is_lawful}
+use Rattle.ballot_base.specs.declared.message.Message.{Message}
+use Rattle.broker_spec.specs.declared.command.Command.{Command}
+use Rattle.broker_spec.specs.declared.command.Output.{Output}
+use Rattle.broker_spec.specs.Place.{Client}
+use Rattle.broker_base.specs.State.{State}
+use Rattle.world_nodes.specs.recoveries.Coming.{AreCalm, AreFollowed, IsSeen}
+use Rattle.recovery.specs.replicas.CutDeliveries.{Delivered, assigned_moment}
+use Rattle.recovery.specs.replicas.CutLaws.{LeadsOut}
+use Rattle.recovery.specs.replicas.Deliveries.{way_out}
+use Rattle.world_nodes.proofs.of_recoveries.LedOut.{assigned_seen, low_before, way_of}
+use Rattle.world_nodes.proofs.of_recoveries.NodesFollow.{deliveries_are_followed}
 use Rattle.headline.specs.node_group.Group.{Group, moment_of_nodes}
-use Rattle.headline.specs.snapshots.Moments.{Moment, Moments}
-use Rattle.node_core.specs.Core.{rules}
+use Rattle.agreement.specs.cut_logs.Moments.{Moment, Moments}
+use Rattle.world_base.specs.node_core.Core.{rules}
 use Rattle.world_nodes.specs.Asking.{whole_log_of}
 use Rattle.world_nodes.specs.ExactSteps.{after_giving}
 use Rattle.world_nodes.specs.Nodes.{NodesState, NodesStandFor}
 use Rattle.world_nodes.proofs.MasterActs.{gives_exactly}
-use Rattle.world_events.specs.declared.event.Event.{Event}
-use Rattle.world_events.specs.declared.event.Event.TheVariants as events
+use Rattle.world_pipes.specs.declared.events.event.Event.{Event}
+use Rattle.world_pipes.specs.declared.events.event.Event.TheVariants as events
 use Rattle.world.specs.Escaping.{CanEscape, configuration_of}
 use Rattle.world.specs.Trace.{WorldLosesNothing}
-use Rattle.world_clients.specs.NodesGoOn.{NodesGo}
+use Rattle.world_pipes.specs.clients.NodesGoOn.{NodesGo}
 use Rattle.world.specs.Happening.{EventsHappen}
-use Rattle.world_clients.specs.SlotsAreValid.{SlotsAreValid, targets_of_clients}
+use Rattle.world_pipes.specs.clients.SlotsAreValid.{SlotsAreValid, targets_of_clients}
 use Rattle.world.specs.StandsFor.{FollowsModel}
 use Rattle.world.specs.World.{WorldState}
 use Rattle.world.proofs.CanLead.{can_be_led, seen_as}
@@ -39,7 +40,7 @@ use Rattle.world.proofs.ExactRuns.{first_done, in_two}
 use Rattle.world.proofs.GroupGoes.{goes_apart, with_nodes}
 use Rattle.world.proofs.GroupGoes.GoesApart.{acts as goes_by}
 use Rattle.world.proofs.Joined.{world_goes_join}
-use Rattle.world_clients.proofs.NodesGoOn.{nodes_go_join}
+use Rattle.world_pipes.proofs.of_clients.NodesGoOn.{nodes_go_join}
 use Rattle.world.proofs.PassesOn.{seen_of}
 
 -- the world then, and the events after it

@@ -4,14 +4,14 @@ use Rattle.std.specs.Prelude.{bytes_eq, nat_lt, not}
 use Rattle.std.specs.List.{position, position_or_len, prefix_len}
 use Rattle.std.proofs.lemmas.List.{length-map, map-set}
 use Rattle.std.proofs.lemmas.Option.{none-some, same_Some}
-use Rattle.escaping_client.specs.client.Core.{Core}
+use Rattle.client.specs.Core.{Core}
 use Rattle.headline.proofs.of_node_group.Placed.{get_mapped}
-use Rattle.world_clients.specs.declared.world_client.WorldClient.{WorldClient}
+use Rattle.world_pipes.specs.declared.clients.world_client.WorldClient.{WorldClient}
 use Rattle.world.specs.Found.{core_at, core_named, core_of}
-use Rattle.world_clients.specs.Clients.{is_named}
+use Rattle.world_pipes.specs.clients.Clients.{is_named}
 use Rattle.world.proofs.PassesOn.{seen_of}
 use Rattle.world.proofs.StandsThere.{core_found}
-use Rattle.world_clients.proofs.Turned.{mapped_from, set_itself}
+use Rattle.world_pipes.proofs.of_clients.Turned.{mapped_from, set_itself}
 
 -- ---- the place at which a test passes first
 

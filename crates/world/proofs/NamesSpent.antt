@@ -2,11 +2,11 @@
 use Rattle.std.proofs.Common.{◌≡◌, inl, inr, ◌<◌, ◌≤◌, ◌^◌, ◌-◌, ◌+◌, ◌==◌, ◌&&◌, nat_lt, nat_le, not, if◌then◌else◌, ℕ, Bool, true, false, List, Some, refl, ap, ◌∙◌, subst, arith}
 use Rattle.std.specs.Prelude.{Ok}
 use Rattle.std.proofs.lemmas.Bool.{eq-eqb, lt-ltb, le-leb, ne_eqb}
-use Rattle.headline.specs.broker_spec.Connection.{ConnectionName, is_connection_name}
-use Rattle.node_core.specs.Core.{CountedCore}
-use Rattle.node_core.specs.Step.{accepted}
+use Rattle.broker_spec.specs.Connection.{ConnectionName, is_connection_name}
+use Rattle.world_base.specs.node_core.Core.{CountedCore}
+use Rattle.world_base.specs.node_core.Step.{accepted}
 use Rattle.world_nodes.specs.Running.{numbered_node}
-use Rattle.world_events.specs.declared.event.Event.TheVariants as events
+use Rattle.world_pipes.specs.declared.events.event.Event.TheVariants as events
 use Rattle.world.specs.Opening.{OpensUnless, has_no_name_left}
 use Rattle.world.specs.Happening.{EventHappens}
 use Rattle.world.specs.World.{WorldState}

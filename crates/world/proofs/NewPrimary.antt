@@ -3,37 +3,38 @@ use Rattle.std.proofs.Common.{◌≡◌, ◌<◌, ◌≤◌, ◌+◌, ◌^◌, �
 use Rattle.std.specs.Prelude.{nat_le}
 use Rattle.std.specs.List.{list_any}
 use Rattle.std.proofs.lemmas.Bool.{and_parts}
-use Rattle.headline.specs.agreement.MasterState.{MasterState, max_ballot}
-use Rattle.headline.specs.whole.Replica.{ReplicaState as WholeState}
-use Rattle.headline.specs.ballot_base.declared.config.Config.{Config}
-use Rattle.headline.specs.ballot_base.LawfulConfig.{are_rising, is_lawful}
-use Rattle.headline.specs.ballot_base.Replica.{ReplicaState, others}
-use Rattle.headline.specs.broker_spec.declared.command.Command.{Command}
-use Rattle.headline.specs.broker_spec.Connection.{ConnectionName}
-use Rattle.headline.specs.broker_spec.declared.command.Output.{Output}
-use Rattle.headline.specs.broker_spec.Place.{Client}
-use Rattle.headline.specs.broker_base.State.{State}
-use Rattle.escaping_nodes.specs.Answered.{begun_log}
-use Rattle.escaping_nodes.specs.Opened.{CanOpen}
-use Rattle.ways_out.specs.Deliveries.{NumbersAreApart, NodeIs}
-use Rattle.ways_out.specs.Following.{Follows, LeadsWhole}
-use Rattle.escaping_nodes.proofs.LedOut.{low_before}
-use Rattle.ways_out.proofs.RisingMembers.{rising_apart}
-use Rattle.ways_out.proofs.Rows.{others_first}
+use Rattle.agreement.specs.MasterState.{MasterState}
+use Rattle.machine.specs.Ballots.{max_ballot}
+use Rattle.agreement.specs.whole_logs.Replica.{ReplicaState as WholeState}
+use Rattle.ballot_base.specs.declared.config.Config.{Config}
+use Rattle.ballot_base.specs.LawfulConfig.{are_rising, is_lawful}
+use Rattle.ballot_base.specs.Replica.{ReplicaState, others}
+use Rattle.broker_spec.specs.declared.command.Command.{Command}
+use Rattle.broker_spec.specs.Connection.{ConnectionName}
+use Rattle.broker_spec.specs.declared.command.Output.{Output}
+use Rattle.broker_spec.specs.Place.{Client}
+use Rattle.broker_base.specs.State.{State}
+use Rattle.world_nodes.specs.recoveries.Answered.{begun_log}
+use Rattle.world_nodes.specs.recoveries.Opened.{CanOpen}
+use Rattle.recovery.specs.replicas.Deliveries.{NumbersAreApart, NodeIs}
+use Rattle.recovery.specs.replicas.Following.{Follows, LeadsWhole}
+use Rattle.world_nodes.proofs.of_recoveries.LedOut.{low_before}
+use Rattle.recovery.proofs.of_replicas.RisingMembers.{rising_apart}
+use Rattle.recovery.proofs.of_replicas.Rows.{others_first}
 use Rattle.headline.specs.node_group.Group.{moment_of_nodes, replica_of}
-use Rattle.headline.specs.snapshots.Moments.{Moment, Moments, whole_moment}
-use Rattle.headline.specs.snapshots.Whole.{whole}
+use Rattle.agreement.specs.cut_logs.Moments.{Moment, Moments, whole_moment}
+use Rattle.agreement.specs.cut_logs.Whole.{whole}
 use Rattle.headline.specs.byte_world.World.{ByteWorld}
 use Rattle.headline.specs.byte_world.Steps.{Reached}
 use Rattle.headline.proofs.of_node_group.Placed.{get_mapped}
 use Rattle.headline.proofs.of_byte_world.NodesHoused.{nodes_are_orderly}
-use Rattle.escaping_client.specs.lists.Lists.{In}
-use Rattle.escaping_client.specs.lists.Lists.In.{here}
-use Rattle.node_core.specs.Core.{CoreState, CountedCore, rules}
+use Rattle.lists.specs.Lists.{In}
+use Rattle.lists.specs.Lists.In.{here}
+use Rattle.world_base.specs.node_core.Core.{CoreState, CountedCore, rules}
 use Rattle.world_nodes.specs.Asking.{whole_log_of}
 use Rattle.world_nodes.specs.Nodes.{cores_of}
 use Rattle.world_nodes.specs.Running.{is_running}
-use Rattle.world_events.specs.declared.event.Event.{Event}
+use Rattle.world_pipes.specs.declared.events.event.Event.{Event}
 use Rattle.world.specs.Escaping.{CanEscape}
 use Rattle.world.specs.Found.{port_at_node}
 use Rattle.world.specs.StandsFor.{ModelStepsTo, WorldStandsFor}
@@ -42,7 +43,7 @@ use Rattle.world.proofs.CanLead.{each_passes, runs_here, seen_as}
 use Rattle.world.proofs.Joined.{reached_on}
 use Rattle.world.proofs.LedWorld.{LedTo}
 use Rattle.world.proofs.OpensAgain.{new_name, new_port}
-use Rattle.world_clients.proofs.Turned.{mapped_from}
+use Rattle.world_pipes.proofs.of_clients.Turned.{mapped_from}
 
 -- The primary of a ballot that was led to its start can open a connection in this world, under the next number; these others follow
 -- it, each another node.

@@ -4,32 +4,32 @@ use Rattle.std.proofs.Common.{◌≡◌, ◌⊎◌, inl, inr, ◌<◌, ◌≤◌
 use Rattle.std.proofs.lemmas.Bool.{and_from, both_ways, eq-eqb}
 use Rattle.std.proofs.lemmas.List.{length-set, take_all}
 use Rattle.std.proofs.lemmas.Option.{none-some, same_Some}
-use Rattle.escaping_client.specs.client.Core.{Core}
-use Rattle.escaping_client.specs.client_base.State.{is_open}
-use Rattle.escaping_client.proofs.of_lists.Places.{get_set}
-use Rattle.node_core.specs.Core.{CountedCore}
-use Rattle.node_core.specs.declared.item.Item.{Item}
-use Rattle.node_core.specs.declared.item.Item.TheVariants.{Bytes}
+use Rattle.client.specs.Core.{Core}
+use Rattle.client_base.specs.State.{is_open}
+use Rattle.lists.proofs.Places.{get_set}
+use Rattle.world_base.specs.node_core.Core.{CountedCore}
+use Rattle.world_base.specs.declared.node_core.item.Item.{Item}
+use Rattle.world_base.specs.declared.node_core.item.Item.TheVariants.{Bytes}
 use Rattle.headline.specs.node_moves.Moves.NodeCall.{takes}
 use Rattle.world_nodes.specs.ExactSteps.{TakesExactly, after_node_call}
 use Rattle.world_nodes.specs.Running.{running, unless_stopped}
 use Rattle.world_nodes.specs.Nodes.{NodesState}
 use Rattle.world_pipes.specs.declared.way.Way.{Way}
 use Rattle.world_pipes.specs.Piped.{is_holding}
-use Rattle.world_events.specs.declared.event.Event.TheVariants as events
-use Rattle.world_clients.specs.declared.connection_slot.ConnectionSlot.{ConnectionSlot}
-use Rattle.world_clients.specs.declared.world_client.WorldClient.{WorldClient}
+use Rattle.world_pipes.specs.declared.events.event.Event.TheVariants as events
+use Rattle.world_pipes.specs.declared.clients.connection_slot.ConnectionSlot.{ConnectionSlot}
+use Rattle.world_pipes.specs.declared.clients.world_client.WorldClient.{WorldClient}
 use Rattle.world.specs.Cannot.{IsClosed, down_of, is_held, is_held_by, up_of}
-use Rattle.world_clients.specs.Carrying.{IsNoPart}
+use Rattle.world_pipes.specs.clients.Carrying.{IsNoPart}
 use Rattle.world.specs.Doing.{DoesEvent}
 use Rattle.world.specs.Found.{Connected, slot_numbered, port_at_node, way_at, way_in, way_of, with_piped}
-use Rattle.world_clients.specs.Carrying.{with_less}
+use Rattle.world_pipes.specs.clients.Carrying.{with_less}
 use Rattle.world.specs.Gathering.{Gathers, TakesItem}
-use Rattle.world_clients.specs.SlotsAreValid.{SlotsAreValid, targets_of_clients}
+use Rattle.world_pipes.specs.clients.SlotsAreValid.{SlotsAreValid, targets_of_clients}
 use Rattle.world.specs.World.{WorldState}
 use Rattle.world.proofs.DeliversOn.{runs_there}
 use Rattle.world.proofs.GroupGoes.{with_nodes}
-use Rattle.world_clients.proofs.LeadsKept.{housed_client, leads_set}
+use Rattle.world_pipes.proofs.of_clients.LeadsKept.{housed_client, leads_set}
 use Rattle.world.proofs.NamesKept.{names_of, names_set}
 use Rattle.world.proofs.StandsOn.{IsNewest}
 use Rattle.world.proofs.StandsThere.{numbered_at}

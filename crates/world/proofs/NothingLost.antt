@@ -1,25 +1,25 @@
 -- NothingLost.antt: what was done with losses allowed was done exactly if the nodes counted none.
 use Rattle.std.specs.Prelude.{min}
 use Rattle.std.proofs.Common.{◌≡◌, ◌⊎◌, inl, inr, ◌≤◌, ◌<◌, ◌^◌, ◌-◌, ℕ, zero, suc, Bool, true, false, Option, Some, None, length, ap, arith}
-use Rattle.headline.specs.ballot_base.declared.message.Body.{Body}
-use Rattle.headline.specs.ballot_base.declared.message.Body.TheVariants.{NewBallot, Join, State, Install, Installed, Activate, Activated, Superseded, Append, Held, Commit}
-use Rattle.headline.specs.ballot_base.declared.config.Config.{Config}
-use Rattle.headline.specs.ballot_base.declared.message.Message.{Message}
-use Rattle.headline.specs.broker_spec.declared.command.Command.{Command}
-use Rattle.headline.specs.broker_spec.Place.{Client}
-use Rattle.headline.specs.snapshots.World.{recorded}
+use Rattle.ballot_base.specs.declared.message.Body.{Body}
+use Rattle.ballot_base.specs.declared.message.Body.TheVariants.{NewBallot, Join, State, Install, Installed, Activate, Activated, Superseded, Append, Held, Commit}
+use Rattle.ballot_base.specs.declared.config.Config.{Config}
+use Rattle.ballot_base.specs.declared.message.Message.{Message}
+use Rattle.broker_spec.specs.declared.command.Command.{Command}
+use Rattle.broker_spec.specs.Place.{Client}
+use Rattle.agreement.specs.cut_logs.World.{recorded}
 use Rattle.headline.specs.node_moves.Moves.NodeCall.{takes}
-use Rattle.node_core.specs.Core.{CountedCore}
-use Rattle.node_core.specs.declared.item.Item.{Item}
-use Rattle.node_core.specs.declared.item.Item.TheVariants.{Cut, Expel, Peer}
-use Rattle.node_core.specs.declared.Port.{Port}
+use Rattle.world_base.specs.node_core.Core.{CountedCore}
+use Rattle.world_base.specs.declared.node_core.item.Item.{Item}
+use Rattle.world_base.specs.declared.node_core.item.Item.TheVariants.{Cut, Expel, Peer}
+use Rattle.world_base.specs.declared.node_core.Port.{Port}
 use Rattle.world_nodes.specs.ExactSteps.{after_node_call}
 use Rattle.world_nodes.specs.Nodes.{NodesState}
 use Rattle.world_nodes.specs.Steps.{ActsWithLosses, CutsWithLosses, DeliveryOrLost, MasterAnswerOrLost, NodeCutOrLost, NodeExpelOrLost, NodeItemOrLost, NodesLoseNothing, nodes_with_loss}
 use Rattle.world_nodes.proofs.Exactly.{exactly}
 use Rattle.world.specs.Found.{slot_numbered, port_at_node}
 use Rattle.world.specs.Gathering.{GatheredWhere, Gathers, GathersAmong, MayBeGathered, TakesItem, leads_open_to}
-use Rattle.world_clients.specs.Handing.{HandsOverBytes}
+use Rattle.world_pipes.specs.clients.Handing.{HandsOverBytes}
 use Rattle.world.specs.Doing.{Assigns}
 use Rattle.world.specs.World.{WorldState}
 

@@ -1,16 +1,16 @@
 -- There is one agreed list, so that the nodes of a world agree on it, and its clients are exact by it.
 use Rattle.std.proofs.Common.{◌≡◌, ◌⊎◌, inl, inr, ℕ, List, [], ◌∷◌, ◌++◌, length, map, refl, sym, ap, ◌∙◌, subst, arith}
 use Rattle.std.proofs.lemmas.List.{append-nil, length-append}
-use Rattle.escaping_client.specs.lists.Lists.{IsPrefixOf}
-use Rattle.escaping_client.proofs.of_lists.Prefixes.{prefix_length}
-use Rattle.headline.specs.ballot_base.declared.config.Config.{Config}
+use Rattle.lists.specs.Lists.{IsPrefixOf}
+use Rattle.lists.proofs.Prefixes.{prefix_length}
+use Rattle.ballot_base.specs.declared.config.Config.{Config}
 use Rattle.headline.specs.node_group.Group.{moment_of_nodes}
-use Rattle.headline.specs.snapshots.Moments.{IsAgreed, Moment, whole_moment}
-use Rattle.headline.specs.agreement.Moments.{IsChosen, WasActive}
-use Rattle.headline.specs.broker_spec.declared.command.Command.{Command}
-use Rattle.headline.specs.broker_spec.declared.command.Output.{Output}
-use Rattle.headline.specs.broker_spec.Place.{Client}
-use Rattle.headline.specs.broker_base.State.{State}
+use Rattle.agreement.specs.cut_logs.Moments.{IsAgreed, Moment, whole_moment}
+use Rattle.agreement.specs.Moments.{IsChosen, WasActive}
+use Rattle.broker_spec.specs.declared.command.Command.{Command}
+use Rattle.broker_spec.specs.declared.command.Output.{Output}
+use Rattle.broker_spec.specs.Place.{Client}
+use Rattle.broker_base.specs.State.{State}
 use Rattle.world_nodes.specs.Agreed.{AgreeOn}
 use Rattle.world_nodes.specs.Nodes.{NodesState}
 use Rattle.world.specs.World.{WorldState}

@@ -3,11 +3,11 @@ use Rattle.std.proofs.Common.{◌≡◌, inl, inr, ◌⊎◌, ◌≤◌, ◌<◌
 use Rattle.std.specs.List.{remove}
 use Rattle.std.proofs.lemmas.List.{length-append}
 use Rattle.std.proofs.lemmas.Option.{none-some, same_Some}
-use Rattle.escaping_nodes.proofs.of_master.Counting.{get_there}
+use Rattle.master.proofs.Counting.{get_there}
 use Rattle.headline.proofs.of_packet_world.Lists.{same_or_other, take_next}
-use Rattle.world_clients.specs.declared.connection_slot.ConnectionSlot.{ConnectionSlot}
-use Rattle.world_clients.specs.SlotsAreValid.{open_from}
-use Rattle.world_clients.proofs.Turned.{there}
+use Rattle.world_pipes.specs.declared.clients.connection_slot.ConnectionSlot.{ConnectionSlot}
+use Rattle.world_pipes.specs.clients.SlotsAreValid.{open_from}
+use Rattle.world_pipes.proofs.of_clients.Turned.{there}
 
 open_up : (s : ℕ) (p : ConnectionSlot) (ps : List ConnectionSlot) → p.is_open ≡ true → open_from s (p ∷ ps) ≡ s ∷ open_from (suc s) ps
 open_up s p ps e = ap (λ (b : Bool). if b then s ∷ open_from (suc s) ps else open_from (suc s) ps) e

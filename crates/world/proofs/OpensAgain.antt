@@ -4,26 +4,26 @@ use Rattle.std.specs.Prelude.{slice_get}
 use Rattle.std.specs.List.{find, list_any}
 use Rattle.std.proofs.lemmas.Bool.{eq-eqb, ne_eqb, or_parts}
 use Rattle.std.proofs.lemmas.Option.{none-some, same_Some}
-use Rattle.headline.specs.ballot_base.declared.config.Config.{Config}
-use Rattle.headline.specs.broker_spec.Place.{Client}
-use Rattle.escaping_nodes.specs.Opened.{first_of}
+use Rattle.ballot_base.specs.declared.config.Config.{Config}
+use Rattle.broker_spec.specs.Place.{Client}
+use Rattle.world_nodes.specs.recoveries.Opened.{first_of}
 use Rattle.headline.specs.node_moves.Ends.{IsGiven}
 use Rattle.headline.specs.byte_world.AtNodes.{LeadsToPort}
 use Rattle.headline.specs.byte_world.World.{ClientPipes, ByteWorld, is_used, leads_to}
 use Rattle.headline.specs.byte_world.Steps.{Reached}
 use Rattle.headline.proofs.of_node_group.Placed.{get_mapped}
 use Rattle.headline.proofs.of_byte_world.NodesHoused.{nodes_are_orderly, ports_have_pipes}
-use Rattle.escaping_client.proofs.of_lists.Tests.{eq_is}
-use Rattle.escaping_client.specs.lists.Lists.{Each, In}
-use Rattle.escaping_client.specs.lists.Lists.In.{here, there}
-use Rattle.node_core.specs.declared.Connection.{Connection}
-use Rattle.node_core.specs.declared.Port.{Port}
-use Rattle.headline.specs.node_connections.Connections.{is_at, is_open_named, is_closed}
-use Rattle.node_core.specs.Core.{CoreState, CountedCore}
+use Rattle.lists.proofs.Tests.{eq_is}
+use Rattle.lists.specs.Lists.{Each, In}
+use Rattle.lists.specs.Lists.In.{here, there}
+use Rattle.world_base.specs.declared.node_core.Connection.{Connection}
+use Rattle.world_base.specs.declared.node_core.Port.{Port}
+use Rattle.world_base.specs.node_connections.Connections.{is_at, is_open_named, is_closed}
+use Rattle.world_base.specs.node_core.Core.{CoreState, CountedCore}
 use Rattle.world.specs.Found.{port_at_node}
 use Rattle.world.specs.StandsFor.{WorldStandsFor}
 use Rattle.world.specs.World.{WorldState}
-use Rattle.world_clients.specs.SlotsAreValid.{SlotsAreValid, targets_of_clients}
+use Rattle.world_pipes.specs.clients.SlotsAreValid.{SlotsAreValid, targets_of_clients}
 use Rattle.world.proofs.Connects.{unused}
 
 -- ---- tests that nothing passes

@@ -5,10 +5,10 @@ use Rattle.std.specs.List.{position}
 use Rattle.std.specs.Option.{is_some}
 use Rattle.std.proofs.lemmas.Bool.{both_ways}
 use Rattle.std.proofs.lemmas.Option.{none-some}
-use Rattle.node_core.specs.declared.item.Item.TheVariants.{Opened}
-use Rattle.node_core.specs.declared.Port.{Port}
-use Rattle.node_core.specs.Core.{CoreState, CountedCore}
-use Rattle.node_core.specs.Handing.{listed_at}
+use Rattle.world_base.specs.declared.node_core.item.Item.TheVariants.{Opened}
+use Rattle.world_base.specs.declared.node_core.Port.{Port}
+use Rattle.world_base.specs.node_core.Core.{CoreState, CountedCore}
+use Rattle.world_base.specs.node_core.Handing.{listed_at}
 use Rattle.headline.specs.node_moves.Moves.NodeCall.{takes}
 use Rattle.headline.proofs.of_node_group.Placed.{get_mapped}
 use Rattle.headline.specs.byte_world.World.{ByteWorld}
@@ -19,21 +19,21 @@ use Rattle.world_nodes.specs.Nodes.{NodesState}
 use Rattle.world_nodes.specs.Steps.{NodesLoseNothing}
 use Rattle.world_pipes.specs.Following.{FollowsAll}
 use Rattle.world_pipes.specs.Piped.{Piped, is_holding}
-use Rattle.world_clients.specs.NodesGoOn.{NodesGoOn}
-use Rattle.world_clients.specs.SlotsAreValid.{SlotsAreValid, targets_of_clients}
-use Rattle.world_events.specs.declared.event.Event.TheVariants as events
-use Rattle.world_clients.specs.declared.world_client.WorldClient.{WorldClient}
-use Rattle.world_clients.specs.declared.connection_slot.ConnectionSlot.{ConnectionSlot}
+use Rattle.world_pipes.specs.clients.NodesGoOn.{NodesGoOn}
+use Rattle.world_pipes.specs.clients.SlotsAreValid.{SlotsAreValid, targets_of_clients}
+use Rattle.world_pipes.specs.declared.events.event.Event.TheVariants as events
+use Rattle.world_pipes.specs.declared.clients.world_client.WorldClient.{WorldClient}
+use Rattle.world_pipes.specs.declared.clients.connection_slot.ConnectionSlot.{ConnectionSlot}
 use Rattle.world.specs.Found.{Named, core_named, port_at_node, with_piped}
-use Rattle.world_clients.specs.Clients.{is_named}
+use Rattle.world_pipes.specs.clients.Clients.{is_named}
 use Rattle.world.specs.Doing.{DoesEvent as HappenDoes}
-use Rattle.world_clients.specs.Opening.{NoneOpens}
+use Rattle.world_pipes.specs.clients.Opening.{NoneOpens}
 use Rattle.world.specs.Opening.{OpensNone, OpensOne, OpensUnless, has_no_name_left, next_connection_number, with_connection}
 use Rattle.world.specs.Happening.{HappensLosing}
 use Rattle.world.specs.Cannot.{CannotOpen, is_serving}
 use Rattle.world.specs.Gathering.{Gathers, TakesItem}
 use Rattle.world.specs.Inside.Connecting.{ConnectsAt, MayOpenNone, OpeningOrLost, OpensAt, OpensNoneAt}
-use Rattle.world_clients.specs.Opening.{HasNew, HearsOfOne, IsKnown}
+use Rattle.world_pipes.specs.clients.Opening.{HasNew, HearsOfOne, IsKnown}
 use Rattle.world.specs.Inside.Steps.{IsTrace, EventIsDone}
 use Rattle.world.specs.StandsFor.{ModelStepsTo, FollowsModel}
 use Rattle.world.specs.StandsFor.WorldSteps.{rests, goes_on}
@@ -44,7 +44,7 @@ use Rattle.world.proofs.Connects.{connects_goes, unused}
 use Rattle.world.proofs.GoesDown.{put_down}
 use Rattle.world.proofs.GroupGoes.{with_nodes, world_stands}
 use Rattle.world.proofs.Joined.{world_goes_join}
-use Rattle.world_clients.proofs.NodesGoOn.{nodes_stay}
+use Rattle.world_pipes.proofs.of_clients.NodesGoOn.{nodes_stay}
 use Rattle.world.proofs.NothingLost.{takes_exactly}
 use Rattle.world.proofs.StandsThere.{core_found}
 

@@ -5,53 +5,53 @@ use Rattle.std.specs.List.{position}
 use Rattle.std.proofs.lemmas.Bool.{both_ways}
 use Rattle.std.proofs.lemmas.List.{length-append}
 use Rattle.std.proofs.lemmas.Option.{same_Some}
-use Rattle.headline.specs.ballot_base.Replica.{is_active}
-use Rattle.headline.specs.broker_spec.declared.command.Command.{Command}
-use Rattle.headline.specs.broker_spec.declared.command.Output.{Output}
-use Rattle.headline.specs.broker_base.State.{State}
-use Rattle.escaping_client.specs.client_base.Calls.{opened}
-use Rattle.escaping_client.specs.client.Core.{AppendsAll, Core, nothing_read}
-use Rattle.escaping_client.specs.client_base.declared.stage.Stage.TheVariants as stages
-use Rattle.escaping_client.specs.client_base.State.{ClientState, is_open}
-use Rattle.escaping_nodes.specs.Coming.{Come}
-use Rattle.escaping_nodes.specs.Coming.Come.{all_came as none_comes}
-use Rattle.escaping_nodes.specs.Opened.{CanOpen, IsOpened, first_of}
-use Rattle.escaping_nodes.proofs.OpensFirst.{connections_open_first}
-use Rattle.headline.specs.snapshots.Moments.{Moment}
+use Rattle.ballot_base.specs.Replica.{is_active}
+use Rattle.broker_spec.specs.declared.command.Command.{Command}
+use Rattle.broker_spec.specs.declared.command.Output.{Output}
+use Rattle.broker_base.specs.State.{State}
+use Rattle.client_base.specs.Calls.{opened}
+use Rattle.client.specs.Core.{AppendsAll, Core, nothing_read}
+use Rattle.client_base.specs.declared.stage.Stage.TheVariants as stages
+use Rattle.client_base.specs.State.{ClientState, is_open}
+use Rattle.world_nodes.specs.recoveries.Coming.{Come}
+use Rattle.world_nodes.specs.recoveries.Coming.Come.{all_came as none_comes}
+use Rattle.world_nodes.specs.recoveries.Opened.{CanOpen, IsOpened, first_of}
+use Rattle.world_nodes.proofs.of_recoveries.OpensFirst.{connections_open_first}
+use Rattle.agreement.specs.cut_logs.Moments.{Moment}
 use Rattle.headline.specs.node_moves.Moves.{NodeCall}
 use Rattle.headline.specs.node_moves.Moves.NodeCall.{takes}
-use Rattle.escaping_client.proofs.of_lists.Places.{get_pushed, get_set}
-use Rattle.node_core.specs.Core.{CountedCore}
-use Rattle.node_core.specs.declared.item.Item.{Item}
-use Rattle.node_core.specs.declared.item.Item.TheVariants.{Opened}
+use Rattle.lists.proofs.Places.{get_pushed, get_set}
+use Rattle.world_base.specs.node_core.Core.{CountedCore}
+use Rattle.world_base.specs.declared.node_core.item.Item.{Item}
+use Rattle.world_base.specs.declared.node_core.item.Item.TheVariants.{Opened}
 use Rattle.world_nodes.specs.ExactSteps.{after_node_call}
 use Rattle.world_nodes.specs.Running.{numbered_node}
 use Rattle.world_nodes.specs.Nodes.{NodesState}
 use Rattle.world_nodes.proofs.Acts.{acts}
 use Rattle.world_pipes.specs.declared.way.Way.{Way}
 use Rattle.world_pipes.specs.Piped.{Piped, new_way}
-use Rattle.world_events.specs.declared.event.Event.{Event}
-use Rattle.world_events.specs.declared.event.Event.TheVariants as events
-use Rattle.world_clients.specs.declared.connection_slot.ConnectionSlot.{ConnectionSlot}
-use Rattle.world_clients.specs.declared.world_client.WorldClient.{WorldClient}
+use Rattle.world_pipes.specs.declared.events.event.Event.{Event}
+use Rattle.world_pipes.specs.declared.events.event.Event.TheVariants as events
+use Rattle.world_pipes.specs.declared.clients.connection_slot.ConnectionSlot.{ConnectionSlot}
+use Rattle.world_pipes.specs.declared.clients.world_client.WorldClient.{WorldClient}
 use Rattle.world.specs.Cannot.{CannotOpen, is_serving}
 use Rattle.world.specs.Opening.{OpensOne, OpensUnless, has_no_name_left, next_connection_number, with_connection}
 use Rattle.world.specs.Found.{Named, core_named, port_at_node}
-use Rattle.world_clients.specs.Clients.{is_named}
+use Rattle.world_pipes.specs.clients.Clients.{is_named}
 use Rattle.world.specs.Gathering.{Gathers}
 use Rattle.world.specs.Trace.{WorldLosesNothing}
-use Rattle.world_clients.specs.NodesGoOn.{NodesGo}
+use Rattle.world_pipes.specs.clients.NodesGoOn.{NodesGo}
 use Rattle.world.specs.Happening.{EventsHappen}
-use Rattle.world_clients.specs.SlotsAreValid.{SlotsAreValid, targets_of_clients}
+use Rattle.world_pipes.specs.clients.SlotsAreValid.{SlotsAreValid, targets_of_clients}
 use Rattle.world.specs.World.{WorldState}
 use Rattle.world.proofs.ExactRuns.{first_done}
-use Rattle.world_clients.proofs.NodesGoOn.{acts_go}
+use Rattle.world_pipes.proofs.of_clients.NodesGoOn.{acts_go}
 use Rattle.world.proofs.GroupGoes.{with_nodes}
 use Rattle.world.proofs.HousedOpened.{housed_opened}
 use Rattle.world.proofs.NamesKept.{names_seen, names_set, position_kept}
 use Rattle.world.proofs.NamesSpent.{first_is_left}
 use Rattle.world.proofs.NewestFound.{its_place, takes_at}
-use Rattle.world_clients.proofs.NodesGoOn.{nodes_go_join}
+use Rattle.world_pipes.proofs.of_clients.NodesGoOn.{nodes_go_join}
 use Rattle.world.proofs.PassesOn.{Passes, gathers_passes}
 use Rattle.world.proofs.StandsOn.{IsNewest}
 use Rattle.world.proofs.StandsThere.{core_found}

@@ -1,24 +1,24 @@
 -- OpensReached.antt: a world in code opens as one of the model does.
 use Rattle.std.proofs.Common.{◌≡◌, ℕ, true, List, [], Some, map, slice_get, sym, ap, ◌∙◌}
 use Rattle.std.proofs.lemmas.Option.{none-some}
-use Rattle.headline.specs.ballot_base.declared.config.Config.{Config}
-use Rattle.headline.specs.agreement.World.{can_open}
-use Rattle.headline.specs.broker_spec.Place.{Client}
+use Rattle.ballot_base.specs.declared.config.Config.{Config}
+use Rattle.agreement.specs.World.{can_open}
+use Rattle.broker_spec.specs.Place.{Client}
 use Rattle.headline.specs.packet_world.World.{ClientsAreApart}
 use Rattle.headline.specs.node_group.Group.{opening_group}
-use Rattle.node_core.specs.declared.Port.{Port}
+use Rattle.world_base.specs.declared.node_core.Port.{Port}
 use Rattle.headline.specs.byte_world.World.{ClientPipes, Pipe, new_client, opening}
 use Rattle.headline.specs.byte_world.Steps.Reached.{begins}
 use Rattle.world_nodes.specs.Nodes.{NodesStandFor}
 use Rattle.world_pipes.specs.declared.way.Way.{Way}
-use Rattle.world_clients.specs.declared.world_client.WorldClient.{WorldClient}
-use Rattle.world_clients.specs.SlotsAreValid.{SlotsAreValid, connection_targets, targets_of_clients}
-use Rattle.world_clients.specs.Clients.{ClientsStand}
+use Rattle.world_pipes.specs.declared.clients.world_client.WorldClient.{WorldClient}
+use Rattle.world_pipes.specs.clients.SlotsAreValid.{SlotsAreValid, connection_targets, targets_of_clients}
+use Rattle.world_pipes.specs.clients.Clients.{ClientsStand}
 use Rattle.world.specs.StandsFor.{IsReached, WorldStandsFor, asked_on}
 use Rattle.world.specs.World.{WorldState}
 use Rattle.world.proofs.ClientsStand.{client_at}
 use Rattle.world.proofs.Joined.{is_reached, is_reached_asked}
-use Rattle.world_clients.proofs.Turned.{mapped_from}
+use Rattle.world_pipes.proofs.of_clients.Turned.{mapped_from}
 use Rattle.world.proofs.WaysStand.{pipe_at}
 
 -- ---- its clients

@@ -3,37 +3,38 @@ use Rattle.std.proofs.Common.{◌≡◌, inl, inr, ◌<◌, ◌-◌, ℕ, zero, 
 use Rattle.std.proofs.lemmas.Bool.{ne_eqb}
 use Rattle.std.proofs.lemmas.List.{append-nil, length-set, map-set}
 use Rattle.std.proofs.lemmas.Option.{same_Some}
-use Rattle.escaping_client.specs.client.Core.{Core}
-use Rattle.escaping_nodes.specs.Coming.{Come}
-use Rattle.escaping_nodes.specs.Coming.Come.{all_came as none_comes, hands, to_node as comes_to_node, to_master as comes_to_master}
+use Rattle.client.specs.Core.{Core}
+use Rattle.world_nodes.specs.recoveries.Coming.{Come}
+use Rattle.world_nodes.specs.recoveries.Coming.Come.{all_came as none_comes, hands, to_node as comes_to_node, to_master as comes_to_master}
 use Rattle.headline.specs.node_moves.Moves.NodeCall.{hands_out}
 use Rattle.headline.proofs.of_node_group.Placed.{get_mapped}
-use Rattle.node_core.specs.Core.{CountedCore}
-use Rattle.node_core.specs.Handing.{pending_bytes, listed_at}
-use Rattle.node_core.specs.declared.Port.{Port}
+use Rattle.world_base.specs.node_core.Core.{CountedCore}
+use Rattle.world_base.specs.node_connections.Pending.{pending_bytes}
+use Rattle.world_base.specs.node_core.Handing.{listed_at}
+use Rattle.world_base.specs.declared.node_core.Port.{Port}
 use Rattle.world_nodes.specs.Running.{numbered_node}
 use Rattle.world_nodes.specs.Nodes.{NodesState}
 use Rattle.world_nodes.proofs.Exactly.{at_place, gives_acts}
 use Rattle.world_pipes.specs.declared.way.Way.{Way}
 use Rattle.world_pipes.specs.Piped.{Piped}
-use Rattle.world_clients.specs.declared.connection_slot.ConnectionSlot.{ConnectionSlot}
-use Rattle.world_clients.specs.declared.world_client.WorldClient.{WorldClient}
+use Rattle.world_pipes.specs.declared.clients.connection_slot.ConnectionSlot.{ConnectionSlot}
+use Rattle.world_pipes.specs.declared.clients.world_client.WorldClient.{WorldClient}
 use Rattle.world.specs.Found.{slot_numbered, port_at_node}
-use Rattle.world_clients.specs.Handing.{with_down}
+use Rattle.world_pipes.specs.clients.Handing.{with_down}
 use Rattle.world.specs.Gathering.{GatheredWhere, Gathers, GathersAmong, IsGathered, leads_open_to}
-use Rattle.world_clients.specs.Handing.{HandsOverBytes, is_reported_open, bytes_put_out}
-use Rattle.world_clients.specs.NodesGoOn.{NodesGo}
-use Rattle.world_clients.specs.SlotsAreValid.{SlotsAreValid, targets_of_clients}
-use Rattle.world_clients.specs.Handing.{MayHandDown, MayPutDown}
+use Rattle.world_pipes.specs.clients.Handing.{HandsOverBytes, is_reported_open, bytes_put_out}
+use Rattle.world_pipes.specs.clients.NodesGoOn.{NodesGo}
+use Rattle.world_pipes.specs.clients.SlotsAreValid.{SlotsAreValid, targets_of_clients}
+use Rattle.world_pipes.specs.clients.Handing.{MayHandDown, MayPutDown}
 use Rattle.world.specs.StandsFor.{FollowsModel}
 use Rattle.world.specs.World.{WorldState}
 use Rattle.world.proofs.GoesDown.{put_down, puts_down}
-use Rattle.world_clients.proofs.NodesGoOn.{acts_go}
+use Rattle.world_pipes.proofs.of_clients.NodesGoOn.{acts_go}
 use Rattle.world.proofs.HousedOn.{housed_mark}
 use Rattle.world.proofs.Joined.{world_goes_join, world_rests, world_stays}
-use Rattle.world_clients.proofs.LeadsKept.{housed_client, leads_set, led_there}
-use Rattle.world_clients.proofs.NodesGoOn.{nodes_go_join, nodes_stay, staying_goes}
-use Rattle.world_clients.proofs.Turned.{set_itself}
+use Rattle.world_pipes.proofs.of_clients.LeadsKept.{housed_client, leads_set, led_there}
+use Rattle.world_pipes.proofs.of_clients.NodesGoOn.{nodes_go_join, nodes_stay, staying_goes}
+use Rattle.world_pipes.proofs.of_clients.Turned.{set_itself}
 
 -- ---- what stays while these messages come, and bytes are handed over
 

@@ -1,11 +1,11 @@
 -- PromiseShown.antt: what a client of a world that is reached shows is as promised.
 use Rattle.std.proofs.Common.{◌≡◌, ℕ, List, Option, Some, slice_get, sym, subst}
-use Rattle.headline.specs.ballot_base.declared.config.Config.{Config}
-use Rattle.headline.specs.broker_spec.Place.{Client}
+use Rattle.ballot_base.specs.declared.config.Config.{Config}
+use Rattle.broker_spec.specs.Place.{Client}
 use Rattle.headline.specs.Promise.{Promise}
 use Rattle.headline.specs.byte_world.World.{ClientPipes}
 use Rattle.headline.specs.byte_world.Published.{published_of, published_on_way}
-use Rattle.world_clients.specs.declared.world_client.WorldClient.{WorldClient}
+use Rattle.world_pipes.specs.declared.clients.world_client.WorldClient.{WorldClient}
 use Rattle.world.specs.StandsFor.{IsReached, connections_at, connections_in}
 use Rattle.world.specs.World.{WorldState}
 use Rattle.world.proofs.ClientsStand.{client_at}

@@ -3,42 +3,42 @@
 use Rattle.std.proofs.Common.{◌≡◌, ◌<◌, ◌+◌, ◌*◌, ℕ, zero, suc, Bool, true, List, [], ◌∷◌, ◌++◌, Option, Some, None, slice_get, refl, sym, ap, ◌∙◌, subst, append_assoc, arith}
 use Rattle.std.specs.List.{position}
 use Rattle.std.proofs.lemmas.Option.{none-some, same_Some}
-use Rattle.headline.specs.ballot_base.declared.message.Message.{Message}
-use Rattle.headline.specs.broker_spec.declared.command.Command.{Command}
-use Rattle.escaping_client.specs.client.Core.{Core}
-use Rattle.escaping_nodes.specs.Answered.{PutsOutAtLast, last_answer, session_present}
-use Rattle.escaping_nodes.specs.Coming.{Come}
-use Rattle.escaping_nodes.specs.Coming.Come.{all_came as none_comes, hands}
-use Rattle.ways_out.specs.Deliveries.{asked_and_answered, numbers_from}
-use Rattle.escaping_nodes.specs.escaping.Answering.{PutsOutFirst}
+use Rattle.ballot_base.specs.declared.message.Message.{Message}
+use Rattle.broker_spec.specs.declared.command.Command.{Command}
+use Rattle.client.specs.Core.{Core}
+use Rattle.world_nodes.specs.recoveries.Answered.{PutsOutAtLast, last_answer, session_present}
+use Rattle.world_nodes.specs.recoveries.Coming.{Come}
+use Rattle.world_nodes.specs.recoveries.Coming.Come.{all_came as none_comes, hands}
+use Rattle.recovery.specs.replicas.Deliveries.{asked_and_answered, numbers_from}
+use Rattle.recovery.specs.one_node.Answering.{PutsOutFirst}
 use Rattle.headline.specs.node_moves.Moves.NodeCall.{takes}
-use Rattle.escaping_client.specs.lists.Lists.{IsPrefixOf}
-use Rattle.escaping_client.proofs.of_lists.Places.{get_set}
+use Rattle.lists.specs.Lists.{IsPrefixOf}
+use Rattle.lists.proofs.Places.{get_set}
 use Rattle.packet.specs.Spelling.{spelling}
-use Rattle.node_core.specs.Core.{CountedCore}
-use Rattle.node_core.specs.declared.item.Item.TheVariants.{Peer}
-use Rattle.node_core.specs.Handing.{pending_bytes}
-use Rattle.node_core.specs.Step.{node_step}
+use Rattle.world_base.specs.node_core.Core.{CountedCore}
+use Rattle.world_base.specs.declared.node_core.item.Item.TheVariants.{Peer}
+use Rattle.world_base.specs.node_connections.Pending.{pending_bytes}
+use Rattle.world_base.specs.node_core.Step.{node_step}
 use Rattle.world_nodes.specs.ExactSteps.{ComesToNobody, after_node_call}
 use Rattle.world_nodes.specs.Running.{numbered_node, running}
 use Rattle.world_nodes.specs.Nodes.{NodesState}
-use Rattle.world_events.specs.declared.event.Event.{Event}
-use Rattle.world_events.specs.declared.event.Event.TheVariants as events
-use Rattle.world_clients.specs.Clients.{is_named}
+use Rattle.world_pipes.specs.declared.events.event.Event.{Event}
+use Rattle.world_pipes.specs.declared.events.event.Event.TheVariants as events
+use Rattle.world_pipes.specs.clients.Clients.{is_named}
 use Rattle.world.specs.Found.{port_at_node}
 use Rattle.world.specs.Gathering.{Gathers}
-use Rattle.world_clients.specs.Handing.{is_reported_open, bytes_put_out}
+use Rattle.world_pipes.specs.clients.Handing.{is_reported_open, bytes_put_out}
 use Rattle.world.specs.Trace.{WorldLosesNothing}
-use Rattle.world_clients.specs.NodesGoOn.{NodesGo}
+use Rattle.world_pipes.specs.clients.NodesGoOn.{NodesGo}
 use Rattle.world.specs.Happening.{EventsHappen}
-use Rattle.world_clients.specs.SlotsAreValid.{SlotsAreValid, targets_of_clients}
+use Rattle.world_pipes.specs.clients.SlotsAreValid.{SlotsAreValid, targets_of_clients}
 use Rattle.world.specs.World.{WorldState}
 use Rattle.world.proofs.DeliversOn.{AtNode, at_node}
 use Rattle.world.proofs.ExactRuns.{first_done}
 use Rattle.world.proofs.GroupGoes.{with_nodes}
 use Rattle.world.proofs.NamesKept.{names_seen, position_kept}
 use Rattle.world.proofs.NewestFound.{running_at}
-use Rattle.world_clients.proofs.NodesGoOn.{nodes_go_join}
+use Rattle.world_pipes.proofs.of_clients.NodesGoOn.{nodes_go_join}
 use Rattle.world.proofs.PassesOn.{Passes, gathers_passes}
 use Rattle.world.proofs.StandsOn.{IsNewest, own_gathered}
 use Rattle.world.proofs.WaitsOn.{newest_with}

@@ -2,30 +2,30 @@
 use Rattle.std.proofs.Common.{◌≡◌, inl, inr, ◌<◌, ◌^◌, ◌-◌, ◌↔◌, ℕ, zero, suc, Bool, true, false, if◌then◌else◌, List, Option, Some, None, Result, Ok, Err, IsErr, slice_get, refl, sym, ap, ◌∙◌, subst}
 use Rattle.std.proofs.lemmas.Bool.{both_ways}
 use Rattle.std.proofs.lemmas.Option.{none-some, same_Some}
-use Rattle.headline.specs.ballot_base.declared.message.Body.{Body}
-use Rattle.headline.specs.ballot_base.declared.message.Body.TheVariants.{NewBallot, Join, State, Install, Installed, Activate, Activated, Superseded, Append, Held, Commit}
-use Rattle.headline.specs.ballot_base.declared.message.Message.{Message}
-use Rattle.headline.specs.broker_spec.declared.command.Command.{Command}
-use Rattle.escaping_nodes.specs.master.declared.event.Idle.{Idle}
-use Rattle.node_core.specs.Core.{CountedCore}
-use Rattle.node_core.specs.Losses.{WaitsNothing}
-use Rattle.node_core.specs.Step.{node_step}
-use Rattle.node_core.specs.declared.item.Item.{Item}
-use Rattle.node_core.specs.declared.item.Item.TheVariants.{Peer}
-use Rattle.node_core.proofs.Calmly.{step_waits}
+use Rattle.ballot_base.specs.declared.message.Body.{Body}
+use Rattle.ballot_base.specs.declared.message.Body.TheVariants.{NewBallot, Join, State, Install, Installed, Activate, Activated, Superseded, Append, Held, Commit}
+use Rattle.ballot_base.specs.declared.message.Message.{Message}
+use Rattle.broker_spec.specs.declared.command.Command.{Command}
+use Rattle.master.specs.declared.event.Idle.{Idle}
+use Rattle.world_base.specs.node_core.Core.{CountedCore}
+use Rattle.world_base.specs.node_core.Losses.{WaitsNothing}
+use Rattle.world_base.specs.node_core.Step.{node_step}
+use Rattle.world_base.specs.declared.node_core.item.Item.{Item}
+use Rattle.world_base.specs.declared.node_core.item.Item.TheVariants.{Peer}
+use Rattle.world_base.proofs.of_node_core.Calmly.{step_waits}
 use Rattle.world_nodes.specs.ExactSteps.{MessageArrives, HeardByMaster, TakesExactly}
 use Rattle.world_nodes.specs.Running.{numbered_node, running, unless_stopped}
 use Rattle.world_nodes.specs.Nodes.{NodesState}
 use Rattle.world_nodes.specs.Quiet.{ComesUnheeded, IsUnheeded, RestsAt}
-use Rattle.world_events.specs.declared.event.Event.{Event}
-use Rattle.world_clients.specs.declared.connection_slot.ConnectionSlot.{ConnectionSlot}
+use Rattle.world_pipes.specs.declared.events.event.Event.{Event}
+use Rattle.world_pipes.specs.declared.clients.connection_slot.ConnectionSlot.{ConnectionSlot}
 use Rattle.world.specs.Cannot.{CannotHappen}
 use Rattle.world.specs.Doing.{receiver_of}
 use Rattle.world.specs.Happening.{EventHappens}
-use Rattle.world_clients.specs.Handing.{StaysQuiet, HasNothingToHandOver}
+use Rattle.world_pipes.specs.clients.Handing.{StaysQuiet, HasNothingToHandOver}
 use Rattle.world.specs.Quiet.{ComesQuietly, EndsQuietly, IsQuietAt, EventTakesNoMemory}
 use Rattle.world.specs.World.{WorldState}
-use Rattle.world_clients.proofs.HandsQuietly.{node_set}
+use Rattle.world_pipes.proofs.of_clients.HandsQuietly.{node_set}
 
 -- ---- a node among nodes
 

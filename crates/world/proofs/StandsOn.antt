@@ -4,22 +4,22 @@ use Rattle.std.proofs.Common.{◌≡◌, ◌⊎◌, inl, inr, ◌<◌, ◌-◌, 
 use Rattle.std.proofs.lemmas.Bool.{eq-eqb, ne_eqb}
 use Rattle.std.proofs.lemmas.List.{length-set}
 use Rattle.std.proofs.lemmas.Option.{same_Some}
-use Rattle.escaping_client.proofs.of_lists.Places.{get_set, get_set_other}
-use Rattle.escaping_client.specs.client.Core.{Core}
+use Rattle.lists.proofs.Places.{get_set, get_set_other}
+use Rattle.client.specs.Core.{Core}
 use Rattle.headline.proofs.of_packet_world.Lists.{same_or_other}
-use Rattle.node_core.specs.Core.{CountedCore}
-use Rattle.node_core.specs.declared.Port.{Port}
+use Rattle.world_base.specs.node_core.Core.{CountedCore}
+use Rattle.world_base.specs.declared.node_core.Port.{Port}
 use Rattle.world_nodes.specs.Running.{numbered_node}
 use Rattle.world_pipes.specs.declared.way.Way.{Way}
-use Rattle.world_clients.specs.declared.connection_slot.ConnectionSlot.{ConnectionSlot}
-use Rattle.world_clients.specs.declared.world_client.WorldClient.{WorldClient}
+use Rattle.world_pipes.specs.declared.clients.connection_slot.ConnectionSlot.{ConnectionSlot}
+use Rattle.world_pipes.specs.declared.clients.world_client.WorldClient.{WorldClient}
 use Rattle.world.specs.Found.{slot_numbered, port_at_node}
-use Rattle.world_clients.specs.Handing.{with_down}
+use Rattle.world_pipes.specs.clients.Handing.{with_down}
 use Rattle.world.specs.Gathering.{GatheredWhere, Gathers, GathersAmong, IsGathered, leads_open_to}
-use Rattle.world_clients.specs.Handing.{is_reported_open, bytes_put_out}
-use Rattle.world_clients.specs.SlotsAreValid.{SlotsAreValid, targets_of_clients}
+use Rattle.world_pipes.specs.clients.Handing.{is_reported_open, bytes_put_out}
+use Rattle.world_pipes.specs.clients.SlotsAreValid.{SlotsAreValid, targets_of_clients}
 use Rattle.world.specs.World.{WorldState}
-use Rattle.world_clients.proofs.LeadsKept.{IsLed, led, led_there}
+use Rattle.world_pipes.proofs.of_clients.LeadsKept.{IsLed, led, led_there}
 use Rattle.world.proofs.PassesOn.{at_number, where_passes}
 use Rattle.world.proofs.StandsThere.{numbered_at}
 

@@ -5,14 +5,14 @@ use Rattle.std.specs.List.{position}
 use Rattle.std.proofs.lemmas.Bool.{ne_eqb}
 use Rattle.std.proofs.lemmas.List.{length-map}
 use Rattle.std.proofs.lemmas.Option.{slice_get_within}
-use Rattle.world_clients.specs.declared.connection_slot.ConnectionSlot.{ConnectionSlot}
-use Rattle.world_clients.specs.declared.world_client.WorldClient.{WorldClient}
+use Rattle.world_pipes.specs.declared.clients.connection_slot.ConnectionSlot.{ConnectionSlot}
+use Rattle.world_pipes.specs.declared.clients.world_client.WorldClient.{WorldClient}
 use Rattle.world.specs.Found.{Connected, core_at, core_named, core_of, slot_numbered, way_at, way_in, way_of}
-use Rattle.world_clients.specs.Clients.{is_named}
-use Rattle.world_clients.specs.SlotsAreValid.{SlotsAreValid, connection_targets, targets_of_clients}
+use Rattle.world_pipes.specs.clients.Clients.{is_named}
+use Rattle.world_pipes.specs.clients.SlotsAreValid.{SlotsAreValid, connection_targets, targets_of_clients}
 use Rattle.world.specs.World.{WorldState}
-use Rattle.world_clients.proofs.LeadsKept.{led, led_there}
-use Rattle.world_clients.proofs.Turned.{mapped_from}
+use Rattle.world_pipes.proofs.of_clients.LeadsKept.{led, led_there}
+use Rattle.world_pipes.proofs.of_clients.Turned.{mapped_from}
 
 -- ---- a connection
 

@@ -1,16 +1,16 @@
 -- Steps of nodes, one after another.
 use Rattle.std.proofs.Common.{◌-◌, ℕ}
-use Rattle.headline.specs.ballot_base.declared.config.Config.{Config}
-use Rattle.headline.proofs.of_snapshots.MomentsAgree.{has_agreed, nodes_agree}
-use Rattle.node_core.specs.Core.{rules}
+use Rattle.ballot_base.specs.declared.config.Config.{Config}
+use Rattle.agreement.proofs.of_cut_logs.MomentsAgree.{has_agreed, nodes_agree}
+use Rattle.world_base.specs.node_core.Core.{rules}
 use Rattle.headline.specs.node_group.Group.{Group, moment_of_nodes}
 use Rattle.headline.specs.node_group.Steps.{GroupTrace}
 use Rattle.headline.specs.node_group.Steps.GroupTrace.{then_went}
 use Rattle.headline.proofs.of_node_group.Ordered.{groups_keep_the_order}
 use Rattle.world_nodes.specs.Nodes.{NodesState, NodesStandFor}
 use Rattle.world.specs.Trace.{AreReached, StaysReached}
-use Rattle.world_clients.specs.NodesGoOn.{StepsOfGroup, NodesGo}
-use Rattle.world_clients.specs.NodesGoOn.StepsOfGroup.{rests, goes_on}
+use Rattle.world_pipes.specs.clients.NodesGoOn.{StepsOfGroup, NodesGo}
+use Rattle.world_pipes.specs.clients.NodesGoOn.StepsOfGroup.{rests, goes_on}
 
 -- ---- agreement
 

@@ -1,7 +1,7 @@
 -- UncountedIsExact.antt: an event that was not idle was done exactly, if no loss was counted.
 use Rattle.std.proofs.Common.{inl, inr, ap, arith}
 use Rattle.std.specs.Prelude.{Ok}
-use Rattle.world_events.specs.declared.event.Event.{Event}
+use Rattle.world_pipes.specs.declared.events.event.Event.{Event}
 use Rattle.world.specs.Trace.{WorldLosesNothing}
 use Rattle.world.specs.Happening.{EventHappens, HappensExactly}
 use Rattle.world.specs.World.{WorldState}

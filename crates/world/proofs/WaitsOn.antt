@@ -2,42 +2,42 @@
 use Rattle.std.proofs.Common.{◌≡◌, ◌⊎◌, inl, inr, ◌<◌, ◌+◌, ℕ, suc, Bool, true, false, not, if◌then◌else◌, List, [], ◌∷◌, Option, Some, map, refl, sym, ap, ◌∙◌, subst, arith}
 use Rattle.std.specs.Prelude.{slice_get}
 use Rattle.std.proofs.lemmas.Bool.{and_parts, cases_eq}
-use Rattle.headline.specs.ballot_base.declared.message.Body.TheVariants.{Activate}
-use Rattle.headline.specs.ballot_base.declared.message.Message.{Message}
-use Rattle.headline.specs.ballot_base.Protocol.{received}
-use Rattle.headline.specs.broker_spec.declared.command.Command.{Command}
-use Rattle.headline.specs.broker_spec.Connection.{ConnectionName, same_connection}
-use Rattle.headline.specs.broker_spec.declared.command.Output.{Output}
-use Rattle.headline.specs.broker_base.State.{State}
-use Rattle.escaping_client.specs.client.Core.{Core}
-use Rattle.ways_out.specs.CutDeliveries.{Delivered, after_activate, after_outcome}
-use Rattle.ways_out.specs.CutDeliveries.Delivered.{all_came, to_node, to_master}
-use Rattle.escaping_nodes.specs.escaping.Waiting.{AwaitsAnswer}
-use Rattle.escaping_nodes.specs.Coming.{AreCalm, IsSeen}
-use Rattle.escaping_nodes.specs.Coming.Come.{all_came as none_comes, to_node as comes_to_node}
-use Rattle.escaping_nodes.proofs.ClientAnswered.{StillWaits, waits_on}
-use Rattle.escaping_nodes.proofs.NodesFollow.{deliveries_are_followed}
-use Rattle.headline.specs.snapshots.Moments.{Moment}
+use Rattle.ballot_base.specs.declared.message.Body.TheVariants.{Activate}
+use Rattle.ballot_base.specs.declared.message.Message.{Message}
+use Rattle.ballot_base.specs.Protocol.{received}
+use Rattle.broker_spec.specs.declared.command.Command.{Command}
+use Rattle.broker_spec.specs.Connection.{ConnectionName, same_connection}
+use Rattle.broker_spec.specs.declared.command.Output.{Output}
+use Rattle.broker_base.specs.State.{State}
+use Rattle.client.specs.Core.{Core}
+use Rattle.recovery.specs.replicas.CutDeliveries.{Delivered, after_activate, after_outcome}
+use Rattle.recovery.specs.replicas.CutDeliveries.Delivered.{all_came, to_node, to_master}
+use Rattle.recovery.specs.one_node.Waiting.{AwaitsAnswer}
+use Rattle.world_nodes.specs.recoveries.Coming.{AreCalm, IsSeen}
+use Rattle.world_nodes.specs.recoveries.Coming.Come.{all_came as none_comes, to_node as comes_to_node}
+use Rattle.world_nodes.proofs.of_recoveries.ClientAnswered.{StillWaits, waits_on}
+use Rattle.world_nodes.proofs.of_recoveries.NodesFollow.{deliveries_are_followed}
+use Rattle.agreement.specs.cut_logs.Moments.{Moment}
 use Rattle.headline.specs.node_moves.Moves.NodeCall.{takes}
 use Rattle.headline.proofs.of_node_moves.Views.{found_passes}
-use Rattle.node_core.specs.declared.Connection.{Connection}
-use Rattle.node_core.specs.declared.Handed.{Handed}
-use Rattle.node_core.specs.declared.Handed.TheVariants as answers
-use Rattle.node_core.specs.declared.Port.{Port}
-use Rattle.node_core.specs.declared.item.Item.TheVariants.{Peer}
-use Rattle.headline.specs.node_connections.Connections.{is_open_named, is_closed}
-use Rattle.node_core.specs.Core.{CountedCore, rules}
-use Rattle.node_core.specs.Handing.{handed_after, pending_bytes}
+use Rattle.world_base.specs.declared.node_core.Connection.{Connection}
+use Rattle.world_base.specs.declared.node_core.Handed.{Handed}
+use Rattle.world_base.specs.declared.node_core.Handed.TheVariants as answers
+use Rattle.world_base.specs.declared.node_core.Port.{Port}
+use Rattle.world_base.specs.declared.node_core.item.Item.TheVariants.{Peer}
+use Rattle.world_base.specs.node_connections.Connections.{is_open_named, is_closed}
+use Rattle.world_base.specs.node_core.Core.{CountedCore, rules}
+use Rattle.world_base.specs.node_connections.Pending.{handed_after, pending_bytes}
 use Rattle.world_nodes.specs.ExactSteps.{after_answer, after_node_call}
 use Rattle.world_nodes.specs.Running.{numbered_node}
 use Rattle.world_nodes.specs.Nodes.{NodesState}
-use Rattle.world_events.specs.declared.event.Event.TheVariants as events
+use Rattle.world_pipes.specs.declared.events.event.Event.TheVariants as events
 use Rattle.world.specs.Found.{port_at_node}
 use Rattle.world.specs.Gathering.{Gathers}
-use Rattle.world_clients.specs.Handing.{is_more, is_reported_open, bytes_put_out}
+use Rattle.world_pipes.specs.clients.Handing.{is_more, is_reported_open, bytes_put_out}
 use Rattle.world.specs.Trace.{WorldLosesNothing}
 use Rattle.world.specs.Happening.{EventsHappen}
-use Rattle.world_clients.specs.SlotsAreValid.{SlotsAreValid, targets_of_clients}
+use Rattle.world_pipes.specs.clients.SlotsAreValid.{SlotsAreValid, targets_of_clients}
 use Rattle.world.specs.World.{WorldState}
 use Rattle.world.proofs.DeliversOn.{at_master, at_master_is, at_node, can_ask, can_reach, sent_to}
 use Rattle.world.proofs.ExactRuns.{first_done}

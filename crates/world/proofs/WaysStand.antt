@@ -2,12 +2,12 @@
 use Rattle.std.proofs.Common.{◌≡◌, ℕ, zero, suc, List, [], ◌∷◌, Some, reverse, set, slice_get, refl, sym, ap, ◌∙◌, subst}
 use Rattle.std.proofs.lemmas.List.{length-set}
 use Rattle.std.proofs.lemmas.Option.{same_Some, none-some}
-use Rattle.headline.specs.exactly_once.Sides.{ClientConnection}
+use Rattle.exactly_once.specs.Sides.{ClientConnection}
 use Rattle.headline.specs.byte_world.World.{ClientPipes, Pipe, with_pipe}
 use Rattle.world_pipes.specs.declared.way.Way.{Way}
 use Rattle.world_pipes.specs.Piped.{Piped}
 use Rattle.world_pipes.specs.StandsFor.{AreWays, IsHolding, IsWay, ClientStandsFor}
-use Rattle.world_clients.proofs.Turned.{IsTurned, beside, last_turned, turned_at, turned_last}
+use Rattle.world_pipes.proofs.of_clients.Turned.{IsTurned, beside, last_turned, turned_at, turned_last}
 
 -- ---- all connections of a client
 

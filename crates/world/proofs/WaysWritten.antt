@@ -5,28 +5,29 @@ use Rattle.std.specs.List.{list_all, list_any, position}
 use Rattle.std.proofs.lemmas.Bool.{and_parts, false≢true, leb-true}
 use Rattle.std.proofs.lemmas.List.{append_assoc, get_or_default, length-append, length-map}
 use Rattle.std.proofs.lemmas.Option.{none-some, same_Some}
-use Rattle.headline.specs.agreement.MasterState.{MasterState, max_ballot, refusal}
-use Rattle.headline.specs.agreement.MasterState.AssignRefusal.{bad_members, ballots_spent}
-use Rattle.headline.specs.ballot_base.declared.config.Config.{Config}
-use Rattle.headline.specs.ballot_base.LawfulConfig.{are_rising, is_lawful}
-use Rattle.headline.specs.ballot_base.Serving.{max_places}
-use Rattle.headline.specs.broker_spec.Commands.{past_from, past_of, usual_limits}
-use Rattle.headline.specs.broker_spec.Sessions.{clean_session_of}
-use Rattle.headline.specs.broker_spec.Place.{Client}
-use Rattle.ways_out.specs.Deliveries.{asked_and_answered, way_out}
-use Rattle.escaping_nodes.proofs.WelcomedKept.{welcomed_are_kept}
-use Rattle.ways_out.specs.Lengths.{WaysAreShort}
-use Rattle.node_core.specs.Core.{CountedCore}
+use Rattle.agreement.specs.MasterState.{MasterState, refusal}
+use Rattle.machine.specs.Ballots.{max_ballot}
+use Rattle.agreement.specs.MasterState.AssignRefusal.{bad_members, ballots_spent}
+use Rattle.ballot_base.specs.declared.config.Config.{Config}
+use Rattle.ballot_base.specs.LawfulConfig.{are_rising, is_lawful}
+use Rattle.ballot_base.specs.Serving.{max_places}
+use Rattle.broker_spec.specs.Commands.{past_from, past_of, usual_limits}
+use Rattle.broker_spec.specs.Sessions.{clean_session_of}
+use Rattle.broker_spec.specs.Place.{Client}
+use Rattle.recovery.specs.replicas.Deliveries.{asked_and_answered, way_out}
+use Rattle.world_nodes.proofs.of_recoveries.WelcomedKept.{welcomed_are_kept}
+use Rattle.recovery.specs.replicas.Lengths.{WaysAreShort}
+use Rattle.world_base.specs.node_core.Core.{CountedCore}
 use Rattle.world_nodes.specs.Asking.{whole_log_in, whole_log_of, welcomes_back}
 use Rattle.world_nodes.specs.Running.{is_running, numbered_node}
 use Rattle.world_nodes.specs.Nodes.{NodesState}
-use Rattle.world_events.specs.declared.event.Event.{Event}
-use Rattle.world_events.specs.declared.event.Event.TheVariants as events
-use Rattle.world_clients.specs.declared.world_client.WorldClient.{WorldClient}
-use Rattle.escaping_nodes.proofs.of_master.Counting.{get_there}
+use Rattle.world_pipes.specs.declared.events.event.Event.{Event}
+use Rattle.world_pipes.specs.declared.events.event.Event.TheVariants as events
+use Rattle.world_pipes.specs.declared.clients.world_client.WorldClient.{WorldClient}
+use Rattle.master.proofs.Counting.{get_there}
 use Rattle.world.specs.Escaping.{CanEscape, configuration_of, log_length_of}
-use Rattle.world_clients.specs.Clients.{is_named}
-use Rattle.world_events.specs.EscapeEvents.{answer_events, client_events, leaving}
+use Rattle.world_pipes.specs.clients.Clients.{is_named}
+use Rattle.world_pipes.specs.events.EscapeEvents.{answer_events, client_events, leaving}
 use Rattle.world.specs.Inside.Escaping.{IsFetchedFrom, escaping_events, group_events, sent_then}
 use Rattle.world.specs.World.{WorldState}
 use Rattle.world.proofs.StandsThere.{core_found}

@@ -1,12 +1,12 @@
 -- What clients are asked to publish: the Publish events that were done, in order.
 use Rattle.std.specs.Prelude.{◌≡◌, ◌⊎◌, ℕ, false, List, [], ◌∷◌, ◌++◌, Result, Ok, Err}
-use Rattle.headline.specs.ballot_base.Losses.{one_more}
-use Rattle.escaping_client.specs.client_base.Steps.{Call}
-use Rattle.escaping_nodes.specs.master.declared.event.Idle.{Idle}
+use Rattle.ballot_base.specs.Losses.{one_more}
+use Rattle.client_base.specs.Steps.{Call}
+use Rattle.master.specs.declared.event.Idle.{Idle}
 use Rattle.session_base.specs.declared.publication.Publication.{Publication}
 use Rattle.world_pipes.specs.Piped.{Piped}
-use Rattle.world_events.specs.declared.event.Event.{Event}
-use Rattle.world_events.specs.declared.event.Event.TheVariants as events
+use Rattle.world_pipes.specs.declared.events.event.Event.{Event}
+use Rattle.world_pipes.specs.declared.events.event.Event.TheVariants as events
 use Rattle.world.specs.Found.{Named, with_piped}
 use Rattle.world.specs.ClientCalls.{SendsCall}
 use Rattle.world.specs.Happening.{EventHappens}

@@ -1,23 +1,23 @@
 -- When an event cannot happen: then it is idle.
 use Rattle.std.specs.Prelude.{◌≡◌, ◌⊎◌, ℕ, suc, ◌==◌, ◌&&◌, Bool, true, false, List, [], Option, Some, None, length, slice_get}
 use Rattle.std.specs.List.{position}
-use Rattle.headline.specs.agreement.MasterState.{refusal}
-use Rattle.escaping_client.specs.client.Core.{Core}
-use Rattle.escaping_client.specs.client_base.State.{is_open}
-use Rattle.escaping_client.specs.client_base.Steps.{Call, keeper_step}
-use Rattle.node_core.specs.Core.{CountedCore, serves}
+use Rattle.agreement.specs.MasterState.{refusal}
+use Rattle.client.specs.Core.{Core}
+use Rattle.client_base.specs.State.{is_open}
+use Rattle.client_base.specs.Steps.{Call, keeper_step}
+use Rattle.world_base.specs.node_core.Core.{CountedCore, serves}
 use Rattle.world_nodes.specs.ExactSteps.{ComesToNobody}
 use Rattle.world_nodes.specs.Running.{cutting, numbered_node, proposing, running}
 use Rattle.world_pipes.specs.declared.way.Way.{Way}
 use Rattle.world_pipes.specs.Piped.{is_holding}
-use Rattle.world_events.specs.declared.event.Event.{Event}
-use Rattle.world_events.specs.declared.event.Event.TheVariants as events
-use Rattle.world_clients.specs.declared.connection_slot.ConnectionSlot.{ConnectionSlot}
-use Rattle.world_clients.specs.declared.world_client.WorldClient.{WorldClient}
+use Rattle.world_pipes.specs.declared.events.event.Event.{Event}
+use Rattle.world_pipes.specs.declared.events.event.Event.TheVariants as events
+use Rattle.world_pipes.specs.declared.clients.connection_slot.ConnectionSlot.{ConnectionSlot}
+use Rattle.world_pipes.specs.declared.clients.world_client.WorldClient.{WorldClient}
 use Rattle.world.specs.Found.{core_named, slot_numbered, way_of}
-use Rattle.world_clients.specs.Clients.{is_named}
+use Rattle.world_pipes.specs.clients.Clients.{is_named}
 use Rattle.world.specs.World.{WorldState}
-use Rattle.world_clients.specs.Carrying.{IsNoPart}
+use Rattle.world_pipes.specs.clients.Carrying.{IsNoPart}
 
 -- there is no such client, or it holds no connection
 abbrev pub HoldsNone : Option Core → Type 0

@@ -1,7 +1,7 @@
 -- What a client does in an event: exactly, or, if losses are allowed (`whole` is false), perhaps
 -- with losses.
 use Rattle.std.specs.Prelude.{◌≡◌, ℕ, Bool, true, false, List, Ok}
-use Rattle.escaping_client.specs.client_base.Steps.{Call, keeper_step}
+use Rattle.client_base.specs.Steps.{Call, keeper_step}
 use Rattle.world_pipes.specs.declared.sending.Sending.{Sending}
 use Rattle.world_pipes.specs.declared.sending.Sending.TheVariants as sendings
 use Rattle.world_pipes.specs.Piped.{Calls, Piped, TakesLeave}

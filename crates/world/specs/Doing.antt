@@ -1,24 +1,24 @@
 -- What an event does: exactly, or, if losses are allowed (`whole` is false), perhaps with losses.
 use Rattle.std.specs.Prelude.{◌≡◌, ℕ, Bool, true, false, List, Option, Some, None, Err, slice_get, take}
-use Rattle.headline.specs.ballot_base.declared.config.Config.{Config}
-use Rattle.headline.specs.ballot_base.declared.message.Message.{Message}
-use Rattle.headline.specs.broker_spec.declared.command.Command.{Command}
-use Rattle.escaping_client.specs.client_base.Steps.{Call}
-use Rattle.escaping_client.specs.client_base.declared.error.ClientError.TheVariants as errors
-use Rattle.node_core.specs.declared.item.Item.TheVariants as items
+use Rattle.ballot_base.specs.declared.config.Config.{Config}
+use Rattle.ballot_base.specs.declared.message.Message.{Message}
+use Rattle.broker_spec.specs.declared.command.Command.{Command}
+use Rattle.client_base.specs.Steps.{Call}
+use Rattle.client_base.specs.declared.error.ClientError.TheVariants as errors
+use Rattle.world_base.specs.declared.node_core.item.Item.TheVariants as items
 use Rattle.world_nodes.specs.ExactSteps.{MessageArrives, CutsExactly, TakesExactly, after_giving}
 use Rattle.world_nodes.specs.Nodes.{NodesState}
 use Rattle.world_nodes.specs.Steps.{DeliveryOrLost, NewBallotOrLost, NodeCutOrLost, NodeExpelOrLost}
 use Rattle.world_pipes.specs.Piped.{CarriesDown, Piped}
-use Rattle.world_events.specs.declared.event.Event.{Event}
-use Rattle.world_events.specs.declared.event.Event.TheVariants as events
+use Rattle.world_pipes.specs.declared.events.event.Event.{Event}
+use Rattle.world_pipes.specs.declared.events.event.Event.TheVariants as events
 use Rattle.world.specs.Found.{Connected, port_at_node, with_piped}
-use Rattle.world_clients.specs.Carrying.{with_less}
+use Rattle.world_pipes.specs.clients.Carrying.{with_less}
 use Rattle.world.specs.Gathering.{Gathers, TakesItem}
 use Rattle.world.specs.World.{WorldState}
 use Rattle.world.specs.ClientCalls.{ClientDoes, SendsCall, LosesAsking, SendsDisconnect, LosesLeaving}
-use Rattle.world_clients.specs.Calling.{LosesConnection}
-use Rattle.world_clients.specs.Carrying.{CarriesDownWhere}
+use Rattle.world_pipes.specs.clients.Calling.{LosesConnection}
+use Rattle.world_pipes.specs.clients.Carrying.{CarriesDownWhere}
 use Rattle.world.specs.Opening.{OpensNone, OpensWhere}
 
 -- the master gives a ballot, exactly or perhaps with losses

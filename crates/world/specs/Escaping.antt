@@ -1,22 +1,22 @@
 -- A way out of a world: when there is one, and what it leads to.
 use Rattle.std.specs.Prelude.{◌≡◌, ◌≤◌, ℕ, ◌+◌, true, false, List, [], ◌∷◌, Option, Some, None, slice_get}
 use Rattle.std.specs.List.{list_all, position}
-use Rattle.escaping_client.specs.lists.Lists.{IsPrefixOf}
-use Rattle.headline.specs.agreement.MasterState.{refusal}
-use Rattle.headline.specs.ballot_base.declared.config.Config.{Config}
-use Rattle.headline.specs.ballot_base.Logs.{places}
-use Rattle.headline.specs.ballot_base.Serving.{max_places}
-use Rattle.headline.specs.broker_spec.declared.command.Command.{Command}
-use Rattle.headline.specs.broker_spec.Commands.{past_of, usual_limits}
-use Rattle.headline.specs.broker_spec.Sessions.{clean_session_of}
-use Rattle.headline.specs.broker_spec.Place.{Client}
-use Rattle.escaping_client.specs.client.Core.{Core}
-use Rattle.escaping_client.specs.client_base.State.{is_online}
-use Rattle.node_core.specs.Core.{CountedCore}
+use Rattle.lists.specs.Lists.{IsPrefixOf}
+use Rattle.agreement.specs.MasterState.{refusal}
+use Rattle.ballot_base.specs.declared.config.Config.{Config}
+use Rattle.ballot_base.specs.Logs.{places}
+use Rattle.ballot_base.specs.Serving.{max_places}
+use Rattle.broker_spec.specs.declared.command.Command.{Command}
+use Rattle.broker_spec.specs.Commands.{past_of, usual_limits}
+use Rattle.broker_spec.specs.Sessions.{clean_session_of}
+use Rattle.broker_spec.specs.Place.{Client}
+use Rattle.client.specs.Core.{Core}
+use Rattle.client_base.specs.State.{is_online}
+use Rattle.world_base.specs.node_core.Core.{CountedCore}
 use Rattle.world_nodes.specs.Agreed.{AgreeOn}
 use Rattle.world_nodes.specs.Asking.{whole_log_of}
 use Rattle.world_nodes.specs.Running.{is_running, numbered_node}
-use Rattle.world_events.specs.declared.event.Event.{Event}
+use Rattle.world_pipes.specs.declared.events.event.Event.{Event}
 use Rattle.world.specs.Found.{core_named}
 use Rattle.world.specs.Trace.{WorldLosesNothing}
 use Rattle.world.specs.Happening.{EventsHappen}

@@ -1,14 +1,14 @@
 -- What is found in a world: a client by its identifier, and a connection by its number.
 use Rattle.std.specs.Prelude.{◌≡◌, ℕ, ◌-◌, ◌==◌, if◌then◌else◌, List, Option, Some, None, set, slice_get}
 use Rattle.std.specs.List.{position}
-use Rattle.escaping_client.specs.client.Core.{Core}
-use Rattle.node_core.specs.declared.Port.{Port}
+use Rattle.client.specs.Core.{Core}
+use Rattle.world_base.specs.declared.node_core.Port.{Port}
 use Rattle.world_pipes.specs.declared.way.Way.{Way}
 use Rattle.world_pipes.specs.Piped.{Piped}
-use Rattle.world_clients.specs.declared.connection_slot.ConnectionSlot.{ConnectionSlot}
-use Rattle.world_clients.specs.declared.world_client.WorldClient.{WorldClient}
+use Rattle.world_pipes.specs.declared.clients.connection_slot.ConnectionSlot.{ConnectionSlot}
+use Rattle.world_pipes.specs.declared.clients.world_client.WorldClient.{WorldClient}
 use Rattle.world.specs.World.{WorldState}
-use Rattle.world_clients.specs.Clients.{is_named}
+use Rattle.world_pipes.specs.clients.Clients.{is_named}
 
 -- ---- a client
 

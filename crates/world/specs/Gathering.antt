@@ -2,17 +2,17 @@
 -- losses are allowed (`whole` is false), perhaps with losses.
 use Rattle.std.specs.Prelude.{◌≡◌, ◌⊎◌, ℕ, zero, suc, ◌-◌, ◌==◌, ◌&&◌, Bool, true, false, ◌++◌, Option, Some, None, length, set}
 use Rattle.headline.specs.node_moves.Moves.NodeCall.{hands_out}
-use Rattle.node_core.specs.Core.{CountedCore}
-use Rattle.node_core.specs.declared.item.Item.{Item}
+use Rattle.world_base.specs.node_core.Core.{CountedCore}
+use Rattle.world_base.specs.declared.node_core.item.Item.{Item}
 use Rattle.world_nodes.specs.ExactSteps.{TakesExactly}
 use Rattle.world_nodes.specs.Running.{numbered_node}
 use Rattle.world_nodes.specs.Nodes.{NodesState}
 use Rattle.world_nodes.specs.Steps.{NodeItemOrLost, nodes_with_loss}
-use Rattle.world_clients.specs.declared.connection_slot.ConnectionSlot.{ConnectionSlot}
+use Rattle.world_pipes.specs.declared.clients.connection_slot.ConnectionSlot.{ConnectionSlot}
 use Rattle.world.specs.Found.{Connected, slot_numbered, port_at_node, with_piped}
-use Rattle.world_clients.specs.Handing.{with_down}
+use Rattle.world_pipes.specs.clients.Handing.{with_down}
 use Rattle.world.specs.World.{WorldState}
-use Rattle.world_clients.specs.Handing.{bytes_put_out, is_reported_open, HandsOverBytes}
+use Rattle.world_pipes.specs.clients.Handing.{bytes_put_out, is_reported_open, HandsOverBytes}
 
 -- ---- one connection
 

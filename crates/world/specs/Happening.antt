@@ -1,18 +1,18 @@
 -- What happens in a world: what one event and a list of events do, and how a world begins.
 use Rattle.std.specs.Prelude.{◌≡◌, ◌⊎◌, ◌<◌, ℕ, true, false, List, [], ◌∷◌, Result, Ok, Err, map}
-use Rattle.headline.specs.ballot_base.declared.config.Config.{Config}
-use Rattle.headline.specs.ballot_base.Losses.{greatest_count, one_more}
-use Rattle.headline.specs.broker_spec.Place.{Client}
+use Rattle.ballot_base.specs.declared.config.Config.{Config}
+use Rattle.ballot_base.specs.Losses.{greatest_count, one_more}
+use Rattle.broker_spec.specs.Place.{Client}
 use Rattle.headline.specs.node_group.Group.{opening_group}
-use Rattle.escaping_nodes.specs.master.declared.event.Idle.{Idle}
+use Rattle.master.specs.declared.event.Idle.{Idle}
 use Rattle.world_nodes.specs.Nodes.{NodesStandFor}
 use Rattle.world_nodes.specs.Steps.{NodesLoseNothing}
-use Rattle.world_events.specs.declared.event.Event.{Event}
+use Rattle.world_pipes.specs.declared.events.event.Event.{Event}
 use Rattle.world.specs.World.{WorldState}
 use Rattle.world.specs.Cannot.{CannotHappen}
 use Rattle.world.specs.Doing.{DoesEvent, LosesAtClient}
 use Rattle.world.specs.Quiet.{EventTakesNoMemory}
-use Rattle.world_clients.specs.Clients.{new_world_client}
+use Rattle.world_pipes.specs.clients.Clients.{new_world_client}
 
 -- ---- what events do
 

@@ -1,11 +1,12 @@
 -- Laws about what events do. The calls of `laws.rt` prove them.
 use Rattle.std.specs.Prelude.{◌≡◌, ◌<◌, ◌≤◌, ℕ, false, List, Some, Ok}
-use Rattle.headline.specs.ballot_base.Losses.{greatest_count}
-use Rattle.headline.specs.broker_spec.Connection.{max_ballot, max_count}
-use Rattle.node_core.specs.Core.{CountedCore}
+use Rattle.ballot_base.specs.Losses.{greatest_count}
+use Rattle.machine.specs.Ballots.{max_ballot}
+use Rattle.broker_spec.specs.Connection.{max_count}
+use Rattle.world_base.specs.node_core.Core.{CountedCore}
 use Rattle.world_nodes.specs.Running.{numbered_node}
-use Rattle.world_events.specs.declared.event.Event.{Event}
-use Rattle.world_events.specs.declared.event.Event.TheVariants as events
+use Rattle.world_pipes.specs.declared.events.event.Event.{Event}
+use Rattle.world_pipes.specs.declared.events.event.Event.TheVariants as events
 use Rattle.world.specs.Opening.{has_no_name_left}
 use Rattle.world.specs.Trace.{WorldLosesNothing}
 use Rattle.world.specs.Happening.{EventHappens, HappensExactly}

@@ -1,17 +1,17 @@
 -- What an Open does: a new connection, at its client and at its node, or none.
 use Rattle.std.specs.Prelude.{◌≡◌, ◌⊎◌, ℕ, suc, ◌-◌, Bool, true, false, not, List, [], ◌∷◌, ◌++◌, Option, Some, None, Ok, length}
-use Rattle.headline.specs.broker_spec.Connection.{is_connection_name}
-use Rattle.escaping_client.specs.client_base.Steps.{Call, keeper_step}
-use Rattle.node_core.specs.Core.{CountedCore}
-use Rattle.node_core.specs.Step.{next_name}
-use Rattle.node_core.specs.declared.item.Item.TheVariants as items
+use Rattle.broker_spec.specs.Connection.{is_connection_name}
+use Rattle.client_base.specs.Steps.{Call, keeper_step}
+use Rattle.world_base.specs.node_core.Core.{CountedCore}
+use Rattle.world_base.specs.node_core.Step.{next_name}
+use Rattle.world_base.specs.declared.node_core.item.Item.TheVariants as items
 use Rattle.world_nodes.specs.Running.{numbered_node}
 use Rattle.world_nodes.specs.Nodes.{NodesState}
 use Rattle.world_pipes.specs.Piped.{SendsConnect, Piped}
 use Rattle.world.specs.Found.{Named, port_at_node, with_piped}
 use Rattle.world.specs.Gathering.{TakesItem}
 use Rattle.world.specs.World.{WorldState}
-use Rattle.world_clients.specs.Opening.{NoneOpens}
+use Rattle.world_pipes.specs.clients.Opening.{NoneOpens}
 
 -- the number of the next connection
 abbrev pub next_connection_number : WorldState → ℕ

@@ -1,17 +1,17 @@
 -- Which worlds of the model a world in code corresponds to, and how these move.
 use Rattle.std.specs.Prelude.{◌≡◌, ℕ, List, [], ◌++◌, Option, Some, None, slice_get}
-use Rattle.headline.specs.ballot_base.declared.config.Config.{Config}
-use Rattle.headline.specs.broker_spec.Place.{Client}
+use Rattle.ballot_base.specs.declared.config.Config.{Config}
+use Rattle.broker_spec.specs.Place.{Client}
 use Rattle.headline.specs.packet_world.World.{ClientsAreApart}
 use Rattle.session_base.specs.declared.publication.Publication.{Publication}
-use Rattle.headline.specs.exactly_once.Sides.{ClientConnection}
+use Rattle.exactly_once.specs.Sides.{ClientConnection}
 use Rattle.headline.specs.Exact.{IsExact}
 use Rattle.headline.specs.byte_world.World.{ClientPipes, ByteWorld}
 use Rattle.headline.specs.byte_world.Steps.{Reached, ByteWorldStep}
 use Rattle.headline.specs.byte_world.Published.{published_in_step, published_on_way}
 use Rattle.world_nodes.specs.Nodes.{NodesStandFor}
 use Rattle.world.specs.World.{WorldState}
-use Rattle.world_clients.specs.Clients.{ClientsStand}
+use Rattle.world_pipes.specs.clients.Clients.{ClientsStand}
 
 -- A world in code corresponds to one of the model: its nodes to the group, its clients to the
 -- clients. What was written, handled and agreed before is history: no field keeps it.

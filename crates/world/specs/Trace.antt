@@ -1,18 +1,18 @@
 -- What the nodes of a world do may happen in a group, and so they agree.
 use Rattle.std.specs.Prelude.{◌≡◌, ◌⊎◌, ◌<◌, ◌≤◌, ℕ, List, ◌∷◌}
-use Rattle.escaping_client.specs.lists.Lists.{IsPrefixOf}
-use Rattle.headline.specs.ballot_base.Losses.{greatest_count, one_more}
-use Rattle.headline.specs.ballot_base.declared.config.Config.{Config}
-use Rattle.headline.specs.snapshots.Agreeing.{Agrees, Holds, LeftInOrder}
-use Rattle.headline.specs.snapshots.Moments.{IsAgreed}
-use Rattle.headline.specs.broker_spec.declared.command.Command.{Command}
-use Rattle.node_core.specs.Core.{rules}
+use Rattle.lists.specs.Lists.{IsPrefixOf}
+use Rattle.ballot_base.specs.Losses.{greatest_count, one_more}
+use Rattle.ballot_base.specs.declared.config.Config.{Config}
+use Rattle.agreement.specs.cut_logs.Agreeing.{Agrees, Holds, LeftInOrder}
+use Rattle.agreement.specs.cut_logs.Moments.{IsAgreed}
+use Rattle.broker_spec.specs.declared.command.Command.{Command}
+use Rattle.world_base.specs.node_core.Core.{rules}
 use Rattle.headline.specs.node_group.Group.{Group, moment_of_nodes}
 use Rattle.headline.specs.node_group.Steps.{GroupTrace, all_proposed, groups_on_trace}
 use Rattle.headline.specs.node_group.Order.{KeepsOrder}
 use Rattle.world_nodes.specs.Nodes.{NodesState, NodesStandFor}
 use Rattle.world.specs.World.{WorldState}
-use Rattle.world_clients.specs.NodesGoOn.{NodesGo}
+use Rattle.world_pipes.specs.clients.NodesGoOn.{NodesGo}
 
 -- ---- worlds
 

@@ -1,7 +1,7 @@
 -- The model of a world.
 use Rattle.std.specs.Prelude.{ℕ, List}
-use Rattle.world_clients.specs.declared.connection_slot.ConnectionSlot.{ConnectionSlot}
-use Rattle.world_clients.specs.declared.world_client.WorldClient.{WorldClient}
+use Rattle.world_pipes.specs.declared.clients.connection_slot.ConnectionSlot.{ConnectionSlot}
+use Rattle.world_pipes.specs.declared.clients.world_client.WorldClient.{WorldClient}
 use Rattle.world_nodes.specs.Nodes.{NodesState}
 
 -- The nodes with their master; the clients, each with its identifier and all its connections; the

@@ -12,17 +12,18 @@ ghost use Rattle.world.specs.Inside.Calling.{CountsRefusal};
 ghost use Rattle.world.specs.Inside.Steps.{PublishesAsked, IsTrace, EventResultOrLost};
 
 use crate::world::World;
-use node_core::Port;
-use packet::{ClientId, QoS};
+use client_base::ClientError;
+use master::Idle;
+use packet_base::{ClientId, QoS};
 use session_base::Publication;
 use topics::Filter;
-use world_clients::{
+use world_base::node_connections::Port;
+use world_pipes::Sending;
+use world_pipes::clients::{
     ConnectionSlot, leave, lose_connection, open_pipe, publish_copy, subscribe_copy,
     unsubscribe_copy,
 };
-use world_events::Event;
-use world_nodes::Idle;
-use world_pipes::{ClientError, Sending};
+use world_pipes::events::Event;
 
 impl World {
     /// Opens a connection of a client to a node. `Idle` comes if there is no such client, if it has

@@ -7,10 +7,10 @@ ghost use Rattle.world.specs.Inside.Steps.{EventResultOrLost, IsTrace};
 ghost use Rattle.world.specs.Inside.Calling.{with_one_loss};
 
 use crate::world::World;
-use node_core::Port;
-use world_clients::{ConnectionSlot, carry_down_on, carry_to_node};
-use world_events::Event;
-use world_nodes::Idle;
+use master::Idle;
+use world_base::node_connections::Port;
+use world_pipes::clients::{ConnectionSlot, carry_down_on, carry_to_node};
+use world_pipes::events::Event;
 
 impl World {
     /// Carries `count` bytes from the front of a connection to its node. `Idle` comes if the end at

@@ -2,14 +2,14 @@
 
 ghost use Rattle.std.specs.Prelude.{◌≡◌, ◌<◌, ◌-◌, true, false, Some, length, slice_get};
 ghost use Rattle.world.specs.Gathering.{Gathers, GathersAmong};
-ghost use Rattle.world_clients.specs.SlotsAreValid.{open_from};
+ghost use Rattle.world_pipes.specs.clients.SlotsAreValid.{open_from};
 ghost use Rattle.world.specs.Inside.Handing.{GatheringOrLost, GathersAt, marked};
-ghost use Rattle.world_clients.specs.Handing.{StaysQuiet};
+ghost use Rattle.world_pipes.specs.clients.Handing.{StaysQuiet};
 ghost use Rattle.world.specs.Inside.Steps.{IsTrace};
 
 use crate::world::World;
-use node_core::Port;
-use world_clients::{ConnectionSlot, hand_down};
+use world_base::node_connections::Port;
+use world_pipes::clients::{ConnectionSlot, hand_down};
 
 impl World {
     /// Puts into the pipes what a node queued, on each connection whose end there is open. The

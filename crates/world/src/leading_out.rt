@@ -2,24 +2,24 @@
 
 ghost use Rattle.std.specs.Prelude.{ℕ, ◌≡◌, ◌≤◌, ◌<◌, ◌+◌, ◌*◌, ◌↔◌, true, false, None, Some, length, slice_get, IfOk, IfSome, IsErrOf, OnOk};
 ghost use Rattle.std.specs.List.{list_all, position};
-ghost use Rattle.headline.specs.agreement.MasterState.{refusal};
-ghost use Rattle.headline.specs.broker_spec.Commands.{past_of, usual_limits};
-ghost use Rattle.headline.specs.broker_spec.Sessions.{clean_session_of};
+ghost use Rattle.agreement.specs.MasterState.{refusal};
+ghost use Rattle.broker_spec.specs.Commands.{past_of, usual_limits};
+ghost use Rattle.broker_spec.specs.Sessions.{clean_session_of};
 ghost use Rattle.world_nodes.specs.Asking.{whole_log_of};
-ghost use Rattle.world_events.specs.EscapeEvents.{connect_bytes};
+ghost use Rattle.world_pipes.specs.events.EscapeEvents.{connect_bytes};
 ghost use Rattle.world_pipes.specs.Piped.{is_holding};
-ghost use Rattle.world_clients.specs.declared.world_client.WorldClient.{WorldClient};
+ghost use Rattle.world_pipes.specs.declared.clients.world_client.WorldClient.{WorldClient};
 ghost use Rattle.world_nodes.specs.Running.{is_running, numbered_node};
 ghost use Rattle.world.specs.Escaping.{CanEscape, LeadsClientOut, configuration_of, log_length_of};
 ghost use Rattle.world.specs.Inside.Escaping.{IsFetchedFrom, escaping_events};
 
 use crate::world::World;
-use ballot::{MAX_MEMBERS, MAX_PLACES};
-use node_core::{Config, Members, Memory};
-use packet::ClientId;
+use ballot_base::{Config, MAX_MEMBERS, MAX_PLACES, Members};
+use machine::Memory;
+use packet_base::ClientId;
+use recovery::replicas::ways_are_short;
 use std::alloc::Global;
-use ways_out::ways_are_short;
-use world_events::{EscapeError, Event, push_answers, push_client, push_group};
+use world_pipes::events::{EscapeError, Event, push_answers, push_client, push_group};
 
 /// More messages than any memory holds.
 const MAX_MESSAGES: u64 = 1 << 62;

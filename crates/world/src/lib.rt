@@ -10,12 +10,15 @@ mod node_events;
 mod reading;
 mod world;
 
+pub use ballot_base::errors::OpeningError;
+pub use ballot_base::{Config, Effect, Members, Message, Status};
+pub use broker_spec::{Command, ConnectionName};
+pub use client::ClientCore;
+pub use client_base::Accepted;
 pub use laws::{an_open_past_the_last_changes_nothing, uncounted_is_exact};
-pub use node_core::{
-    Command, Config, ConnectionName, Effect, Item, Members, Memory, Message, NodeCore,
-    OpeningError, Port, Status,
-};
+pub use machine::Memory;
+pub use master::Idle;
 pub use world::World;
-pub use world_events::{EscapeError, Event};
-pub use world_nodes::Idle;
-pub use world_pipes::{Accepted, ClientCore};
+pub use world_base::node_connections::Port;
+pub use world_base::node_core::{Item, NodeCore};
+pub use world_pipes::events::{EscapeError, Event};

@@ -7,11 +7,13 @@ ghost use Rattle.world.specs.Inside.Steps.{EventResultOrLost, IsTrace};
 ghost use Rattle.world.specs.Quiet.{IsQuietAt, EventTakesNoMemory};
 
 use crate::world::World;
-use node_core::{Config, Item, Port};
-use packet::ClientId;
-use world_clients::ConnectionSlot;
-use world_events::Event;
-use world_nodes::Idle;
+use ballot_base::Config;
+use master::Idle;
+use packet_base::ClientId;
+use world_base::node_connections::Port;
+use world_base::node_core::Item;
+use world_pipes::clients::ConnectionSlot;
+use world_pipes::events::Event;
 
 impl World {
     /// Delivers the message of a number. `Idle` comes if no such message was sent, and if its

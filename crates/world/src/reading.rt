@@ -2,21 +2,22 @@
 
 ghost use Rattle.std.specs.Prelude.{ℕ, List, ◌≡◌, ◌<◌, ◌-◌, ◌++◌, length, [], None, Some, IfSome, slice_get};
 ghost use Rattle.std.specs.List.{position};
-ghost use Rattle.headline.specs.ballot_base.declared.config.Config.{Config};
-ghost use Rattle.headline.specs.broker_spec.Place.{Client};
+ghost use Rattle.ballot_base.specs.declared.config.Config.{Config};
+ghost use Rattle.broker_spec.specs.Place.{Client};
 ghost use Rattle.world_nodes.specs.Agreed.{AgreeOn, AgreeOnSoMany};
 ghost use Rattle.world.specs.Found.{core_named, slot_numbered, way_of};
-ghost use Rattle.world_clients.specs.Clients.{is_named};
+ghost use Rattle.world_pipes.specs.clients.Clients.{is_named};
 ghost use Rattle.world.specs.Trace.{AreReached};
 ghost use Rattle.headline.specs.Promise.{Promise};
 ghost use Rattle.headline.specs.byte_world.Published.{published_of, published_on_way};
 ghost use Rattle.world.specs.StandsFor.{IsReached, connections_at};
 
 use crate::world::World;
-use node_core::Command;
-use packet::ClientId;
-use world_clients::ConnectionSlot;
-use world_pipes::{ClientCore, PipedClient};
+use broker_spec::Command;
+use client::ClientCore;
+use packet_base::ClientId;
+use world_pipes::PipedClient;
+use world_pipes::clients::ConnectionSlot;
 
 impl World {
     /// Returns the list on which the nodes agree, the longest that is chosen in a ballot that was

@@ -2,8 +2,8 @@
 
 ghost use Rattle.std.specs.Prelude.{ℕ, List, [], ◌≡◌, ◌≤◌, ◌<◌, ◌↔◌, true, false, length, IfOk, IsErr, IsErrOf, OnErr};
 ghost use Rattle.session_base.specs.declared.publication.Publication.{Publication};
-ghost use Rattle.headline.specs.agreement.World.{can_open};
-ghost use Rattle.headline.specs.ballot_base.Losses.{greatest_count, one_more};
+ghost use Rattle.agreement.specs.World.{can_open};
+ghost use Rattle.ballot_base.specs.Losses.{greatest_count, one_more};
 ghost use Rattle.headline.specs.packet_world.World.{ClientsAreApart};
 ghost use Rattle.world.specs.Trace.{AgreedListGrows, AreReached, CountsOnce, StaysReached, KeepsGroup};
 ghost use Rattle.world.specs.Asking.{EventAsks, RunAsks};
@@ -11,16 +11,18 @@ ghost use Rattle.world.specs.Happening.{EventHappens, EventsHappen, WorldOpens};
 ghost use Rattle.world.specs.Cannot.{CannotHappen};
 ghost use Rattle.world.specs.Inside.Steps.{PublishesAsked, IsCounted, EventResultOrLost};
 ghost use Rattle.world.specs.Quiet.{EventTakesNoMemory};
-ghost use Rattle.world_clients.specs.Clients.{identifiers};
+ghost use Rattle.world_pipes.specs.clients.Clients.{identifiers};
 ghost use Rattle.world.specs.StandsFor.{IsReached, KeepsReached, FollowsModelAsking, asked_on};
 
-use node_core::{Config, OpeningError};
-use packet::ClientId;
+use ballot_base::Config;
+use ballot_base::errors::OpeningError;
+use master::Idle;
+use packet_base::ClientId;
 use std::alloc::Global;
 use std::marker::Model;
-use world_clients::{ConnectionSlot, WorldClient, new_clients};
-use world_events::Event;
-use world_nodes::{Idle, Nodes};
+use world_nodes::Nodes;
+use world_pipes::clients::{ConnectionSlot, WorldClient, new_clients};
+use world_pipes::events::Event;
 
 /// Nodes with their master, and clients that keep their side of the handshakes, with a pipe of
 /// bytes each way on every connection. Whatever is in transit arrives late, again or never, as
@@ -55,7 +57,7 @@ impl Drop for World {
 
 impl Model for World {
     ghost use Rattle.std.specs.Prelude.{◌≡◌};
-    ghost use Rattle.world_clients.specs.SlotsAreValid.{SlotsAreValid, targets_of_clients, open_from};
+    ghost use Rattle.world_pipes.specs.clients.SlotsAreValid.{SlotsAreValid, targets_of_clients, open_from};
     ghost use Rattle.world.specs.World.{WorldState};
 
     ghost Value = { WorldState };

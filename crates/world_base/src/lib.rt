@@ -1,8 +1,15 @@
-//! The types of `node_core`, for programs that import them from `world_base`.
+//! The step of one node, without threads, clocks or sockets. `node_connections` has the open
+//! connections of a node, `node_core` the replica of the broker with these connections: bytes of
+//! clients, messages and times go in, bytes and messages come out.
 #![tactic(auto)]
 
-pub use node_core::{
-    Body, BrokerMachine, Command, Config, Connection, ConnectionName, ConnectionStage, Effect,
-    Handed, Item, MAX_NODE, Members, Memory, Message, NodeCore, OpeningError, Output, Piece, Port,
-    ProposeError, Standing, Status,
-};
+pub use crate::node_connections::{Connection, ConnectionStage, Handed, Piece, Port, Standing};
+pub use crate::node_core::{Item, NodeCore};
+pub use ballot_base::errors::{OpeningError, ProposeError};
+pub use ballot_base::{Body, Config, Effect, MAX_NODE, Members, Message, Status};
+pub use broker::BrokerMachine;
+pub use broker_spec::{Command, ConnectionName, Output};
+pub use machine::Memory;
+
+pub mod node_connections;
+pub mod node_core;

@@ -3,26 +3,26 @@ use Rattle.std.proofs.Common.{◌≡◌, inl, inr, ◌<◌, ◌^◌, ℕ, zero, 
 use Rattle.std.specs.Prelude.{slice_get, slice_set, get_or, OnOk, Result, Ok, Err}
 use Rattle.std.specs.Result.{is_err}
 use Rattle.std.proofs.lemmas.Option.{get_or_from_slice_get}
-use Rattle.master.specs.ballot_base.declared.message.Effect.{Effect}
-use Rattle.master.specs.ballot_base.Losses.{one_more}
-use Rattle.master.specs.ballot_base.declared.message.Message.{Message}
-use Rattle.master.specs.lists.Lists.{In}
-use Rattle.master.specs.snapshots.World.{messages}
-use Rattle.byte_world.specs.broker_spec.declared.command.Command.{Command}
-use Rattle.byte_world.specs.broker_spec.declared.command.Output.{Output}
-use Rattle.node_core.specs.declared.item.Item.{Item}
-use Rattle.node_core.specs.declared.item.Item.TheVariants.{Peer, Tick, Opened, Bytes, Ended, Expel, Cut, Crash}
-use Rattle.node_core.specs.Core.{CoreState, CountedCore}
-use Rattle.node_core.specs.Step.{node_step}
-use Rattle.byte_world.specs.node_moves.Moves.{NodeCall, done}
-use Rattle.byte_world.specs.node_moves.Moves.NodeCall.{takes}
-use Rattle.byte_world.specs.node_group.Group.{Group, group_after_outcome, with_record}
-use Rattle.byte_world.specs.node_group.Putting.{recorded_in}
-use Rattle.byte_world.specs.node_group.Steps.{all_given}
-use Rattle.byte_world.specs.node_group.Steps.GroupStep.{node_acts}
-use Rattle.byte_world.specs.NodeCalls.{NodeCallWasSent, recorded_after}
-use Rattle.byte_world.proofs.NodeCallsCarry.{node_calls_carry_their_bytes}
-use Rattle.byte_world.proofs.of_node_group.Placed.{get_mapped, set_mapped}
+use Rattle.ballot_base.specs.declared.message.Effect.{Effect}
+use Rattle.ballot_base.specs.Losses.{one_more}
+use Rattle.ballot_base.specs.declared.message.Message.{Message}
+use Rattle.lists.specs.Lists.{In}
+use Rattle.agreement.specs.cut_logs.World.{messages}
+use Rattle.broker_spec.specs.declared.command.Command.{Command}
+use Rattle.broker_spec.specs.declared.command.Output.{Output}
+use Rattle.world_base.specs.declared.node_core.item.Item.{Item}
+use Rattle.world_base.specs.declared.node_core.item.Item.TheVariants.{Peer, Tick, Opened, Bytes, Ended, Expel, Cut, Crash}
+use Rattle.world_base.specs.node_core.Core.{CoreState, CountedCore}
+use Rattle.world_base.specs.node_core.Step.{node_step}
+use Rattle.headline.specs.node_moves.Moves.{NodeCall, done}
+use Rattle.headline.specs.node_moves.Moves.NodeCall.{takes}
+use Rattle.headline.specs.node_group.Group.{Group, group_after_outcome, with_record}
+use Rattle.headline.specs.node_group.Putting.{recorded_in}
+use Rattle.headline.specs.node_group.Steps.{all_given}
+use Rattle.headline.specs.node_group.Steps.GroupStep.{node_acts}
+use Rattle.headline.specs.byte_world.NodeCalls.{NodeCallWasSent, recorded_after}
+use Rattle.headline.proofs.of_byte_world.NodeCallsCarry.{node_calls_carry_their_bytes}
+use Rattle.headline.proofs.of_node_group.Placed.{get_mapped, set_mapped}
 use Rattle.world_nodes.specs.Nodes.{NodesState, NodesStandFor}
 use Rattle.world_nodes.specs.ExactSteps.{NodeDoesCall, after_node_call}
 use Rattle.world_nodes.specs.Steps.{NodeItemOrLost}

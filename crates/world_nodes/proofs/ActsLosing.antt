@@ -2,22 +2,22 @@
 -- do.
 use Rattle.std.proofs.Common.{◌≡◌, ◌-◌, ℕ, Bool, false, List, ◌++◌, Some, refl, sym, ap, ◌∙◌, subst}
 use Rattle.std.specs.Prelude.{slice_get, slice_set}
-use Rattle.master.specs.ballot_base.declared.message.Message.{Message}
-use Rattle.master.specs.snapshots.World.{messages}
-use Rattle.byte_world.specs.broker_spec.declared.command.Command.{Command}
-use Rattle.node_core.specs.declared.item.Item.{Item}
-use Rattle.node_core.specs.declared.item.Item.TheVariants.{Peer, Tick, Opened, Bytes, Ended, Expel, Cut, Crash}
-use Rattle.node_core.specs.Core.{CoreState, CountedCore, StepOutcome}
-use Rattle.byte_world.specs.node_moves.ItemRuns.{IsRunOn, heard_with, is_cut}
-use Rattle.byte_world.specs.node_moves.Moves.NodeCall.{takes}
-use Rattle.byte_world.proofs.of_node_moves.LossesAreMoves.{losses_are_moves}
-use Rattle.byte_world.specs.node_group.Group.{Group, group_after_outcome, with_record}
-use Rattle.byte_world.specs.node_group.Steps.{with_messages}
-use Rattle.byte_world.specs.node_group.Steps.GroupStep.{node_loses}
-use Rattle.byte_world.specs.node_group.Losing.{WereSent, all_given, recorded_in}
-use Rattle.byte_world.specs.NodeCalls.{NodeCallWasSent}
-use Rattle.byte_world.proofs.of_node_group.Placed.{get_mapped, set_mapped}
-use Rattle.byte_world.proofs.of_node_group.Recorded.{records_none, records_to}
+use Rattle.ballot_base.specs.declared.message.Message.{Message}
+use Rattle.agreement.specs.cut_logs.World.{messages}
+use Rattle.broker_spec.specs.declared.command.Command.{Command}
+use Rattle.world_base.specs.declared.node_core.item.Item.{Item}
+use Rattle.world_base.specs.declared.node_core.item.Item.TheVariants.{Peer, Tick, Opened, Bytes, Ended, Expel, Cut, Crash}
+use Rattle.world_base.specs.node_core.Core.{CoreState, CountedCore, StepOutcome}
+use Rattle.headline.specs.node_moves.ItemRuns.{IsRunOn, heard_with, is_cut}
+use Rattle.headline.specs.node_moves.Moves.NodeCall.{takes}
+use Rattle.headline.proofs.of_node_moves.LossesAreMoves.{losses_are_moves}
+use Rattle.headline.specs.node_group.Group.{Group, group_after_outcome, with_record}
+use Rattle.headline.specs.node_group.Steps.{with_messages}
+use Rattle.headline.specs.node_group.Steps.GroupStep.{node_loses}
+use Rattle.headline.specs.node_group.Losing.{WereSent, all_given, recorded_in}
+use Rattle.headline.specs.byte_world.NodeCalls.{NodeCallWasSent}
+use Rattle.headline.proofs.of_node_group.Placed.{get_mapped, set_mapped}
+use Rattle.headline.proofs.of_node_group.Recorded.{records_none, records_to}
 use Rattle.world_nodes.specs.Nodes.{NodesState, NodesStandFor}
 use Rattle.world_nodes.specs.ExactSteps.{NodeDoesCall}
 use Rattle.world_nodes.specs.Inside.{RunsAt, TookItem, ItemWasSent}

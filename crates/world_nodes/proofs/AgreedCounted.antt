@@ -2,16 +2,16 @@
 use Rattle.std.proofs.Common.{◌≡◌, ℕ, ◌<◌, ◌≤◌, ◌-◌, ◌^◌, List, [], ◌∷◌, ◌++◌, length, take, map, get_or, zero, suc, Option, None, Some, sym, ap, ◌∙◌, subst, arith}
 use Rattle.std.specs.Prelude.{slice_get}
 use Rattle.std.proofs.lemmas.List.{length-map}
-use Rattle.master.specs.lists.Lists.{In}
-use Rattle.master.specs.ballot_base.declared.message.Message.{Message}
-use Rattle.master.specs.ballot_base.Replica.{ReplicaState, status_of}
-use Rattle.master.specs.ballot_base.declared.status.Status.{Status}
-use Rattle.master.specs.agreement.MasterState.{MasterState}
-use Rattle.byte_world.specs.broker_spec.declared.command.Command.{Command}
-use Rattle.byte_world.specs.broker_base.State.{State}
-use Rattle.node_core.specs.Core.{CoreState, CountedCore, rules}
-use Rattle.byte_world.specs.node_group.Group.{Group, moment_of_nodes, replica_of}
-use Rattle.byte_world.proofs.of_node_group.Placed.{get_mapped}
+use Rattle.lists.specs.Lists.{In}
+use Rattle.ballot_base.specs.declared.message.Message.{Message}
+use Rattle.ballot_base.specs.Replica.{ReplicaState, status_of}
+use Rattle.ballot_base.specs.declared.status.Status.{Status}
+use Rattle.agreement.specs.MasterState.{MasterState}
+use Rattle.broker_spec.specs.declared.command.Command.{Command}
+use Rattle.broker_base.specs.State.{State}
+use Rattle.world_base.specs.node_core.Core.{CoreState, CountedCore, rules}
+use Rattle.headline.specs.node_group.Group.{Group, moment_of_nodes, replica_of}
+use Rattle.headline.proofs.of_node_group.Placed.{get_mapped}
 use Rattle.master.specs.Inside.{HasCounted, HoldsAt, IsShort, ToldIn, held_by, least_but_one}
 use Rattle.master.proofs.Counting.{get_past, get_there}
 use Rattle.master.proofs.Groups.{in_item}

@@ -1,14 +1,14 @@
 -- What nodes count stays what their messages tell, after what nodes do.
 use Rattle.std.proofs.Common.{◌≡◌, ℕ, true, List, ◌++◌, length, take, get_or, sym, ap, ◌∙◌, subst}
-use Rattle.master.specs.ballot_base.declared.config.Config.{Config}
-use Rattle.master.specs.ballot_base.declared.message.Message.{Message}
-use Rattle.master.specs.agreement.MasterState.{MasterState}
-use Rattle.master.specs.agreement.World.{can_open}
-use Rattle.byte_world.specs.broker_spec.declared.command.Command.{Command}
-use Rattle.byte_world.specs.node_moves.Moves.{NodeCall}
-use Rattle.byte_world.specs.node_group.Group.{opening_group}
-use Rattle.byte_world.specs.node_group.Steps.GroupTrace.{opened}
-use Rattle.byte_world.proofs.of_node_group.GroupsHaveMoments.{goes_on, groups_have_moments}
+use Rattle.ballot_base.specs.declared.config.Config.{Config}
+use Rattle.ballot_base.specs.declared.message.Message.{Message}
+use Rattle.agreement.specs.MasterState.{MasterState}
+use Rattle.agreement.specs.World.{can_open}
+use Rattle.broker_spec.specs.declared.command.Command.{Command}
+use Rattle.headline.specs.node_moves.Moves.{NodeCall}
+use Rattle.headline.specs.node_group.Group.{opening_group}
+use Rattle.headline.specs.node_group.Steps.GroupTrace.{opened}
+use Rattle.headline.proofs.of_node_group.GroupsHaveMoments.{goes_on, groups_have_moments}
 use Rattle.master.specs.Inside.{HasCounted, ToldIn}
 use Rattle.master.proofs.Groups.{front_of}
 use Rattle.world_nodes.specs.Nodes.{NodesState, NodesStandFor}

@@ -2,21 +2,21 @@
 use Rattle.std.proofs.Common.{◌≡◌, inl, inr, ◌⊎◌, ◌<◌, ◌≤◌, ◌+◌, ◌-◌, ℕ, zero, suc, Bool, true, false, not, ◌&&◌, nat_lt, if◌then◌else◌, List, [], ◌∷◌, ◌++◌, length, take, drop, Option, Some, None, refl, sym, ap, ◌∙◌, subst, arith}
 use Rattle.std.specs.Prelude.{get_or, slice_get}
 use Rattle.std.proofs.lemmas.Bool.{and_parts, ltb-true, ltb-false}
-use Rattle.master.specs.ballot_base.Cutting.{can_cut}
-use Rattle.master.specs.ballot_base.Losses.{one_more}
-use Rattle.master.specs.ballot_base.declared.message.Message.{Message}
-use Rattle.master.specs.ballot_base.Replica.{status_of}
-use Rattle.master.specs.ballot_base.declared.status.Status.{Status}
-use Rattle.byte_world.specs.broker_spec.declared.command.Command.{Command}
+use Rattle.ballot_base.specs.Cutting.{can_cut}
+use Rattle.ballot_base.specs.Losses.{one_more}
+use Rattle.ballot_base.specs.declared.message.Message.{Message}
+use Rattle.ballot_base.specs.Replica.{status_of}
+use Rattle.ballot_base.specs.declared.status.Status.{Status}
+use Rattle.broker_spec.specs.declared.command.Command.{Command}
 use Rattle.master.specs.Inside.{ToldIn}
-use Rattle.master.specs.snapshots.World.{messages, recorded}
+use Rattle.agreement.specs.cut_logs.World.{messages, recorded}
 use Rattle.master.proofs.Archived.{begins_by, recorded_by, taken_back}
-use Rattle.node_core.specs.declared.item.Item.TheVariants.{Cut}
-use Rattle.node_core.specs.Core.{CountedCore}
-use Rattle.byte_world.specs.node_moves.Moves.NodeCall.{takes}
-use Rattle.byte_world.specs.node_group.Group.{replica_of}
-use Rattle.byte_world.proofs.of_node_group.Placed.{get_mapped}
-use Rattle.byte_world.proofs.of_node_moves.BaseStays.{cut_step_base}
+use Rattle.world_base.specs.declared.node_core.item.Item.TheVariants.{Cut}
+use Rattle.world_base.specs.node_core.Core.{CountedCore}
+use Rattle.headline.specs.node_moves.Moves.NodeCall.{takes}
+use Rattle.headline.specs.node_group.Group.{replica_of}
+use Rattle.headline.proofs.of_node_group.Placed.{get_mapped}
+use Rattle.headline.proofs.of_node_moves.BaseStays.{cut_step_base}
 use Rattle.world_nodes.specs.Nodes.{NodesState, cores_of}
 use Rattle.world_nodes.specs.ExactSteps.{CutsExactly, after_node_call}
 use Rattle.world_nodes.specs.Running.{cutting, unless_stopped, unless_whole}

@@ -1,10 +1,10 @@
 -- A node that runs and has room takes the item Expel, or there was no memory for it.
 use Rattle.std.proofs.Common.{◌≡◌, inl, inr, ◌-◌, ℕ, refl, subst}
 use Rattle.std.specs.Prelude.{OnOk, Result, Ok, Err}
-use Rattle.byte_world.specs.broker_spec.Place.{Client}
+use Rattle.broker_spec.specs.Place.{Client}
 use Rattle.master.specs.declared.event.Idle.{Idle}
-use Rattle.node_core.specs.declared.item.Item.TheVariants.{Expel}
-use Rattle.byte_world.specs.node_moves.Moves.NodeCall.{takes}
+use Rattle.world_base.specs.declared.node_core.item.Item.TheVariants.{Expel}
+use Rattle.headline.specs.node_moves.Moves.NodeCall.{takes}
 use Rattle.world_nodes.specs.Nodes.{NodesState}
 use Rattle.world_nodes.specs.ExactSteps.{NodeDoesCall, TakesExactly}
 use Rattle.world_nodes.specs.Steps.{NodeExpelOrLost, NodeItemOrLost, NodesLoseNothing, nodes_with_loss}

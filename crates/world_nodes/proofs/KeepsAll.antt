@@ -2,15 +2,15 @@
 use Rattle.std.proofs.Common.{◌≡◌, ℕ, Bool, true, false, List, [], ◌∷◌, ◌++◌, refl, sym, ap, ◌∙◌, subst, append_assoc}
 use Rattle.std.proofs.lemmas.List.{append-nil}
 use Rattle.std.specs.Bool.{OnFalse}
-use Rattle.master.specs.ballot_base.declared.message.Effect.{Effect}
-use Rattle.master.specs.ballot_base.declared.message.Effect.TheVariants.{To}
-use Rattle.master.specs.ballot_base.Losses.{Thinned}
-use Rattle.master.specs.ballot_base.Losses.Thinned.{none, keeps, loses}
-use Rattle.master.specs.ballot_base.declared.message.Message.{Message}
-use Rattle.master.specs.snapshots.World.{messages}
-use Rattle.master.proofs.of_snapshots.Effects.{messages-append}
-use Rattle.byte_world.specs.broker_spec.declared.command.Command.{Command}
-use Rattle.byte_world.specs.broker_spec.declared.command.Output.{Output}
+use Rattle.ballot_base.specs.declared.message.Effect.{Effect}
+use Rattle.ballot_base.specs.declared.message.Effect.TheVariants.{To}
+use Rattle.ballot_base.specs.Losses.{Thinned}
+use Rattle.ballot_base.specs.Losses.Thinned.{none, keeps, loses}
+use Rattle.ballot_base.specs.declared.message.Message.{Message}
+use Rattle.agreement.specs.cut_logs.World.{messages}
+use Rattle.agreement.proofs.of_cut_logs.Effects.{messages-append}
+use Rattle.broker_spec.specs.declared.command.Command.{Command}
+use Rattle.broker_spec.specs.declared.command.Output.{Output}
 use Rattle.world_nodes.specs.Inside.{KeepsMessages}
 
 abbrev Given : Type 0

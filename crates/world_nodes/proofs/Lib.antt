@@ -1,3 +1,4 @@
+pub mod of_recoveries
 pub mod Acts
 mod Resting
 mod Stopped
@@ -13,5 +14,3 @@ pub mod MasterActs
 mod MasterCounts
 mod Welcomes
 pub mod Exactly
-pub use Rattle.master.proofs as of_master
-pub use Rattle.byte_world.proofs.of_node_group as of_node_group

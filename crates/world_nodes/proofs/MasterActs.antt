@@ -3,22 +3,22 @@
 use Rattle.std.proofs.Common.{◌≡◌, ◌⊎◌, inl, inr, ◌+◌, ◌-◌, ℕ, zero, suc, Bool, true, false, ◌&&◌, if◌then◌else◌, List, [], ◌∷◌, ◌++◌, Option, Some, None, refl, sym, ap, ◌∙◌, subst, arith}
 use Rattle.std.specs.Prelude.{slice_get, OnOk, Result, Ok, Err}
 use Rattle.std.specs.Bool.{OnTrue, OnFalse}
-use Rattle.master.specs.lists.Lists.{In}
-use Rattle.master.proofs.of_lists.Members.{in_at}
-use Rattle.master.specs.ballot_base.declared.message.Body.{Body}
-use Rattle.master.specs.ballot_base.declared.message.Body.TheVariants.{NewBallot, Join, State, Install, Installed, Activate, Activated, Superseded, Append, Held, Commit}
-use Rattle.master.specs.ballot_base.declared.config.Config.{Config}
-use Rattle.master.specs.ballot_base.Losses.{one_more}
-use Rattle.master.specs.ballot_base.declared.message.Message.{Message}
-use Rattle.master.specs.agreement.MasterState.{AssignRefusal, MasterState, activating, assigning, is_granted, master_after, refusal}
-use Rattle.master.specs.snapshots.Masters.{activated, assigned}
-use Rattle.byte_world.specs.broker_spec.declared.command.Command.{Command}
-use Rattle.node_core.specs.declared.item.Item.TheVariants.{Peer}
-use Rattle.byte_world.specs.node_moves.Moves.NodeCall.{takes}
-use Rattle.byte_world.specs.node_group.Group.{Group, told_by_master, with_master}
-use Rattle.byte_world.specs.node_group.Steps.{GroupStep, after_assign}
-use Rattle.byte_world.specs.node_group.Steps.GroupStep.{master_assigns, master_hears, assigns_unheard, answers_unheard}
-use Rattle.byte_world.specs.Steps.{DoesCall, IsFaithful, node_call_of}
+use Rattle.lists.specs.Lists.{In}
+use Rattle.lists.proofs.Members.{in_at}
+use Rattle.ballot_base.specs.declared.message.Body.{Body}
+use Rattle.ballot_base.specs.declared.message.Body.TheVariants.{NewBallot, Join, State, Install, Installed, Activate, Activated, Superseded, Append, Held, Commit}
+use Rattle.ballot_base.specs.declared.config.Config.{Config}
+use Rattle.ballot_base.specs.Losses.{one_more}
+use Rattle.ballot_base.specs.declared.message.Message.{Message}
+use Rattle.agreement.specs.MasterState.{AssignRefusal, MasterState, activating, assigning, is_granted, master_after, refusal}
+use Rattle.agreement.specs.cut_logs.Masters.{activated, assigned}
+use Rattle.broker_spec.specs.declared.command.Command.{Command}
+use Rattle.world_base.specs.declared.node_core.item.Item.TheVariants.{Peer}
+use Rattle.headline.specs.node_moves.Moves.NodeCall.{takes}
+use Rattle.headline.specs.node_group.Group.{Group, told_by_master, with_master}
+use Rattle.headline.specs.node_group.Steps.{GroupStep, after_assign}
+use Rattle.headline.specs.node_group.Steps.GroupStep.{master_assigns, master_hears, assigns_unheard, answers_unheard}
+use Rattle.headline.specs.byte_world.Steps.{DoesCall, IsFaithful, node_call_of}
 use Rattle.world_nodes.specs.Nodes.{NodesState, NodesStandFor}
 use Rattle.world_nodes.specs.ExactSteps.{NodeDoesCall, MessageArrives, GoesBy, HeardByMaster, after_answer, after_giving}
 use Rattle.world_nodes.specs.Steps.{DeliveryOrLost, MasterAnswerOrLost, NewBallotOrLost, NodeItemOrLost, NodesLoseNothing, nodes_with_loss, unheard}

@@ -3,15 +3,15 @@ use Rattle.std.proofs.Common.{◌≡◌, ◌⊎◌, inl, inr, ℕ, ◌+◌, Bool
 use Rattle.std.specs.Prelude.{◌↔◌, Result, Err}
 use Rattle.std.specs.Bool.{OnTrue, OnFalse}
 use Rattle.std.specs.Result.{IsErrOf}
-use Rattle.master.specs.lists.Lists.{In}
-use Rattle.master.specs.ballot_base.declared.message.Body.{Body}
-use Rattle.master.specs.ballot_base.declared.message.Body.TheVariants.{NewBallot, Activate, Activated, Superseded}
-use Rattle.master.specs.ballot_base.declared.config.Config.{Config}
-use Rattle.master.specs.agreement.MasterState.AssignRefusal.{bad_members, ballots_spent}
-use Rattle.master.specs.agreement.MasterState.{AssignRefusal, MasterState, activating, assigning, is_granted, refusal}
-use Rattle.byte_world.specs.broker_spec.declared.command.Command.{Command}
-use Rattle.node_core.specs.Core.{rules}
-use Rattle.byte_world.specs.node_group.Group.{Group, moment_of_nodes, with_master}
+use Rattle.lists.specs.Lists.{In}
+use Rattle.ballot_base.specs.declared.message.Body.{Body}
+use Rattle.ballot_base.specs.declared.message.Body.TheVariants.{NewBallot, Activate, Activated, Superseded}
+use Rattle.ballot_base.specs.declared.config.Config.{Config}
+use Rattle.agreement.specs.MasterState.AssignRefusal.{bad_members, ballots_spent}
+use Rattle.agreement.specs.MasterState.{AssignRefusal, MasterState, activating, assigning, is_granted, refusal}
+use Rattle.broker_spec.specs.declared.command.Command.{Command}
+use Rattle.world_base.specs.node_core.Core.{rules}
+use Rattle.headline.specs.node_group.Group.{Group, moment_of_nodes, with_master}
 use Rattle.master.specs.declared.error.AssignError.{AssignError}
 use Rattle.master.specs.declared.error.AssignError.TheVariants.{BadMembers, BallotsSpent}
 use Rattle.master.specs.Inside.{ToldIn}

@@ -1,12 +1,12 @@
 -- Nodes open as a group does.
 use Rattle.std.proofs.Common.{◌≡◌, ℕ, suc, ◌+◌, List, [], ◌∷◌, ◌++◌, sym, ap, ◌∙◌, subst, arith}
 use Rattle.std.proofs.lemmas.List.{map-append}
-use Rattle.master.specs.agreement.MasterState.{MasterState, opening_master}
-use Rattle.master.specs.ballot_base.declared.config.Config.{Config}
-use Rattle.master.specs.ballot_base.declared.message.Message.{Message}
-use Rattle.byte_world.specs.broker_spec.declared.command.Command.{Command}
-use Rattle.node_core.specs.Core.{CoreState, CountedCore, opening_core}
-use Rattle.byte_world.specs.node_group.Group.{opening_cores, opening_group}
+use Rattle.agreement.specs.MasterState.{MasterState, opening_master}
+use Rattle.ballot_base.specs.declared.config.Config.{Config}
+use Rattle.ballot_base.specs.declared.message.Message.{Message}
+use Rattle.broker_spec.specs.declared.command.Command.{Command}
+use Rattle.world_base.specs.node_core.Core.{CoreState, CountedCore, opening_core}
+use Rattle.headline.specs.node_group.Group.{opening_cores, opening_group}
 use Rattle.world_nodes.specs.Nodes.{NodesStandFor, cores_of}
 
 pub opened_more : (config : Config) (at : ℕ) (opened later : List CountedCore) (node : CountedCore) → cores_of opened ≡ opening_cores at config

@@ -3,33 +3,33 @@ use Rattle.std.proofs.Common.{◌≡◌, ◌⊎◌, inl, inr, ◌<◌, ◌^◌, 
 use Rattle.std.specs.Prelude.{slice_get, get_or, IfSome, OnOk, Result, Ok, Err}
 use Rattle.std.specs.List.{find}
 use Rattle.std.proofs.lemmas.Option.{same_Some, slice_get_within}
-use Rattle.master.specs.ballot_base.declared.message.Body.{Body}
-use Rattle.master.specs.ballot_base.declared.message.Body.TheVariants.{NewBallot, Join, State, Install, Installed, Activate, Activated, Superseded, Append, Held, Commit}
-use Rattle.master.specs.ballot_base.declared.message.Effect.{Effect}
+use Rattle.ballot_base.specs.declared.message.Body.{Body}
+use Rattle.ballot_base.specs.declared.message.Body.TheVariants.{NewBallot, Join, State, Install, Installed, Activate, Activated, Superseded, Append, Held, Commit}
+use Rattle.ballot_base.specs.declared.message.Effect.{Effect}
 use Rattle.master.specs.Copying.{has_numbers_alone}
 use Rattle.master.specs.Inside.{ToldIn, asks_for}
 use Rattle.master.proofs.EarlierMembers.{NamesSome, names_some, quiet_does_nothing}
-use Rattle.master.specs.ballot_base.Losses.{SendsAndAddsNothing, one_more}
-use Rattle.master.specs.ballot_base.declared.message.Message.{Message}
-use Rattle.master.specs.ballot_base.Protocol.{replica_step}
-use Rattle.master.specs.ballot_base.Protocol.Input.{Receives}
-use Rattle.master.specs.ballot_base.Replica.{ReplicaState}
-use Rattle.master.specs.ballot_base.Sending.{nothing_done}
-use Rattle.master.specs.lists.Lists.{In}
-use Rattle.master.proofs.of_lists.Members.{in_at}
-use Rattle.byte_world.specs.broker_spec.declared.command.Command.{Command}
-use Rattle.byte_world.specs.broker_spec.declared.command.Output.{Output}
-use Rattle.byte_world.specs.broker_base.State.{State as BrokerState}
-use Rattle.byte_world.specs.node_connections.Connections.{has_failed}
-use Rattle.node_core.specs.declared.item.Item.{Item}
-use Rattle.node_core.specs.declared.item.Item.TheVariants.{Peer}
-use Rattle.node_core.specs.Core.{CoreState, CountedCore, rules}
-use Rattle.node_core.specs.Losses.{DoesNothing, IsExactly, IsHeardQuietly, IsIgnored, ItemStepOrLost, ItemTakesNoMemory}
-use Rattle.node_core.specs.LossyStep.{RunsOn}
-use Rattle.node_core.specs.Step.{node_step}
-use Rattle.node_core.proofs.Calmly.{says_nothing}
-use Rattle.byte_world.specs.node_group.Group.{moment_of_nodes}
-use Rattle.byte_world.specs.node_moves.Moves.NodeCall.{takes}
+use Rattle.ballot_base.specs.Losses.{SendsAndAddsNothing, one_more}
+use Rattle.ballot_base.specs.declared.message.Message.{Message}
+use Rattle.ballot_base.specs.Protocol.{replica_step}
+use Rattle.ballot_base.specs.Protocol.Input.{Receives}
+use Rattle.ballot_base.specs.Replica.{ReplicaState}
+use Rattle.ballot_base.specs.Sending.{nothing_done}
+use Rattle.lists.specs.Lists.{In}
+use Rattle.lists.proofs.Members.{in_at}
+use Rattle.broker_spec.specs.declared.command.Command.{Command}
+use Rattle.broker_spec.specs.declared.command.Output.{Output}
+use Rattle.broker_base.specs.State.{State as BrokerState}
+use Rattle.world_base.specs.node_connections.Connections.{has_failed}
+use Rattle.world_base.specs.declared.node_core.item.Item.{Item}
+use Rattle.world_base.specs.declared.node_core.item.Item.TheVariants.{Peer}
+use Rattle.world_base.specs.node_core.Core.{CoreState, CountedCore, rules}
+use Rattle.world_base.specs.node_core.Losses.{DoesNothing, IsExactly, IsHeardQuietly, IsIgnored, ItemStepOrLost, ItemTakesNoMemory}
+use Rattle.world_base.specs.node_core.LossyStep.{RunsOn}
+use Rattle.world_base.specs.node_core.Step.{node_step}
+use Rattle.world_base.proofs.of_node_core.Calmly.{says_nothing}
+use Rattle.headline.specs.node_group.Group.{moment_of_nodes}
+use Rattle.headline.specs.node_moves.Moves.NodeCall.{takes}
 use Rattle.world_nodes.specs.Nodes.{NodesState}
 use Rattle.world_nodes.specs.ExactSteps.{NodeDoesCall, MessageArrives, HeardByMaster, TakesExactly, after_node_call}
 use Rattle.world_nodes.specs.Running.{running}

@@ -3,20 +3,20 @@ use Rattle.std.proofs.Common.{◌≡◌, ◌<◌, ℕ, zero, suc, Bool, false, L
 use Rattle.std.specs.Prelude.{IfOk, Result, Ok, Err, slice_get}
 use Rattle.std.proofs.lemmas.List.{take_more}
 use Rattle.std.proofs.lemmas.Option.{same_Some}
-use Rattle.master.specs.ballot_base.Logs.{Log}
-use Rattle.master.specs.machine.Machine.{replay, replay_from}
-use Rattle.master.specs.ballot_base.Replica.{ReplicaState}
-use Rattle.byte_world.specs.broker_spec.declared.command.Command.{Command}
-use Rattle.byte_world.specs.broker_spec.declared.command.Command.TheVariants as commands
-use Rattle.byte_world.specs.broker_spec.Place.{Client}
-use Rattle.byte_world.specs.broker_base.State.{State}
+use Rattle.ballot_base.specs.Logs.{Log}
+use Rattle.machine.specs.Machine.{replay, replay_from}
+use Rattle.ballot_base.specs.Replica.{ReplicaState}
+use Rattle.broker_spec.specs.declared.command.Command.{Command}
+use Rattle.broker_spec.specs.declared.command.Command.TheVariants as commands
+use Rattle.broker_spec.specs.Place.{Client}
+use Rattle.broker_base.specs.State.{State}
 use Rattle.master.specs.Inside.{ToldIn}
-use Rattle.master.specs.snapshots.Laws.{IsCutRight}
-use Rattle.master.proofs.of_snapshots.MomentsAgree.{logs_are_cut_right}
-use Rattle.node_core.specs.Core.{CoreState, CountedCore, rules}
-use Rattle.byte_world.specs.node_group.Group.{moment_of_nodes, replica_of}
-use Rattle.byte_world.proofs.of_node_group.Placed.{get_mapped}
-use Rattle.byte_world.specs.broker_spec.Connection.{first_connection}
+use Rattle.agreement.specs.cut_logs.Laws.{IsCutRight}
+use Rattle.agreement.proofs.of_cut_logs.MomentsAgree.{logs_are_cut_right}
+use Rattle.world_base.specs.node_core.Core.{CoreState, CountedCore, rules}
+use Rattle.headline.specs.node_group.Group.{moment_of_nodes, replica_of}
+use Rattle.headline.proofs.of_node_group.Placed.{get_mapped}
+use Rattle.broker_spec.specs.Connection.{first_connection}
 use Rattle.world_nodes.specs.Asking.{is_welcome, whole_log_in, whole_log_of, welcomes_back}
 use Rattle.world_nodes.specs.Running.{numbered_node}
 use Rattle.world_nodes.specs.Inside.{HaveCounted}

@@ -1,12 +1,12 @@
 -- The list on which nodes agree.
 use Rattle.std.specs.Prelude.{◌≡◌, ℕ, List, ◌∷◌, length}
-use Rattle.master.specs.ballot_base.declared.config.Config.{Config}
-use Rattle.master.specs.snapshots.Moments.{IsAgreed, Moment, Moments}
-use Rattle.byte_world.specs.broker_spec.declared.command.Command.{Command}
-use Rattle.byte_world.specs.broker_spec.declared.command.Output.{Output}
-use Rattle.byte_world.specs.broker_base.State.{State}
-use Rattle.node_core.specs.Core.{rules}
-use Rattle.byte_world.specs.node_group.Group.{Group, moment_of_nodes}
+use Rattle.ballot_base.specs.declared.config.Config.{Config}
+use Rattle.agreement.specs.cut_logs.Moments.{IsAgreed, Moment, Moments}
+use Rattle.broker_spec.specs.declared.command.Command.{Command}
+use Rattle.broker_spec.specs.declared.command.Output.{Output}
+use Rattle.broker_base.specs.State.{State}
+use Rattle.world_base.specs.node_core.Core.{rules}
+use Rattle.headline.specs.node_group.Group.{Group, moment_of_nodes}
 use Rattle.world_nodes.specs.Nodes.{NodesState, NodesStandFor}
 
 -- whatever the history of a group that corresponds to the nodes, this is its agreed list

@@ -1,17 +1,17 @@
 -- What is asked of nodes before they are led out: the whole log of a node, and whether a client's
 -- session is found after it.
 use Rattle.std.specs.Prelude.{ℕ, Bool, false, List, [], ◌∷◌, ◌++◌, Option, Some, None}
-use Rattle.master.specs.machine.Machine.{replay}
-use Rattle.master.specs.snapshots.Whole.{whole_log}
+use Rattle.machine.specs.Machine.{replay}
+use Rattle.agreement.specs.cut_logs.Whole.{whole_log}
 use Rattle.packet.specs.declared.connack.Connack.TheVariants.{Accepted}
 use Rattle.packet.specs.declared.packet.Packet.TheVariants.{Connack}
-use Rattle.byte_world.specs.broker_spec.declared.command.Command.{Command}
-use Rattle.byte_world.specs.broker_spec.declared.command.Command.TheVariants as commands
-use Rattle.byte_world.specs.broker_spec.Connection.{first_connection}
-use Rattle.byte_world.specs.broker_spec.declared.command.Output.{Output}
-use Rattle.byte_world.specs.broker_spec.declared.command.Output.TheVariants.{Send}
-use Rattle.byte_world.specs.broker_spec.Place.{Client}
-use Rattle.node_core.specs.Core.{CountedCore, rules}
+use Rattle.broker_spec.specs.declared.command.Command.{Command}
+use Rattle.broker_spec.specs.declared.command.Command.TheVariants as commands
+use Rattle.broker_spec.specs.Connection.{first_connection}
+use Rattle.broker_spec.specs.declared.command.Output.{Output}
+use Rattle.broker_spec.specs.declared.command.Output.TheVariants.{Send}
+use Rattle.broker_spec.specs.Place.{Client}
+use Rattle.world_base.specs.node_core.Core.{CountedCore, rules}
 use Rattle.world_nodes.specs.Running.{numbered_node}
 use Rattle.world_nodes.specs.Nodes.{NodesState}
 

@@ -1,23 +1,24 @@
 -- What nodes and their master do, exactly, and how a group that corresponds to them then moves.
 use Rattle.std.specs.Prelude.{◌≡◌, ℕ, zero, suc, ◌-◌, [], ◌∷◌, ◌++◌, List, Option, Some, None, slice_set}
-use Rattle.master.specs.ballot_base.declared.message.Body.{Body}
-use Rattle.master.specs.ballot_base.declared.message.Body.TheVariants.{Activate}
-use Rattle.master.specs.ballot_base.declared.config.Config.{Config}
-use Rattle.master.specs.ballot_base.declared.message.Message.{Message}
-use Rattle.master.specs.ballot_base.Sending.{master}
-use Rattle.master.specs.snapshots.Masters.{MasterOutcome, activated, assigned}
-use Rattle.master.specs.snapshots.World.{messages, recorded}
-use Rattle.byte_world.specs.broker_spec.declared.command.Command.{Command}
-use Rattle.node_core.specs.Core.{CountedCore}
-use Rattle.node_core.specs.declared.Handed.{Handed}
-use Rattle.node_core.specs.declared.item.Item.{Item}
-use Rattle.node_core.specs.declared.item.Item.TheVariants.{Cut, Peer}
-use Rattle.node_core.specs.declared.Port.{Port}
-use Rattle.node_core.specs.Handing.{handed_after, pending_bytes, listed_at}
-use Rattle.byte_world.specs.node_moves.Moves.{NodeCall, done}
-use Rattle.byte_world.specs.node_moves.Moves.NodeCall.{takes, hands_out}
-use Rattle.byte_world.specs.node_group.Group.{Group}
-use Rattle.byte_world.specs.Steps.{DoesCall}
+use Rattle.ballot_base.specs.declared.message.Body.{Body}
+use Rattle.ballot_base.specs.declared.message.Body.TheVariants.{Activate}
+use Rattle.ballot_base.specs.declared.config.Config.{Config}
+use Rattle.ballot_base.specs.declared.message.Message.{Message}
+use Rattle.ballot_base.specs.Sending.{master}
+use Rattle.agreement.specs.cut_logs.Masters.{MasterOutcome, activated, assigned}
+use Rattle.agreement.specs.cut_logs.World.{messages, recorded}
+use Rattle.broker_spec.specs.declared.command.Command.{Command}
+use Rattle.world_base.specs.node_core.Core.{CountedCore}
+use Rattle.world_base.specs.declared.node_core.Handed.{Handed}
+use Rattle.world_base.specs.declared.node_core.item.Item.{Item}
+use Rattle.world_base.specs.declared.node_core.item.Item.TheVariants.{Cut, Peer}
+use Rattle.world_base.specs.declared.node_core.Port.{Port}
+use Rattle.world_base.specs.node_connections.Pending.{handed_after, pending_bytes}
+use Rattle.world_base.specs.node_core.Handing.{listed_at}
+use Rattle.headline.specs.node_moves.Moves.{NodeCall, done}
+use Rattle.headline.specs.node_moves.Moves.NodeCall.{takes, hands_out}
+use Rattle.headline.specs.node_group.Group.{Group}
+use Rattle.headline.specs.byte_world.Steps.{DoesCall}
 use Rattle.world_nodes.specs.Nodes.{NodesState, NodesStandFor}
 use Rattle.world_nodes.specs.Running.{running, numbered_node, cutting}
 

@@ -1,8 +1,8 @@
 -- What a node handed over if memory may have run out.
 use Rattle.std.specs.Prelude.{◌≡◌, ◌⊎◌, ℕ, List}
-use Rattle.node_core.specs.declared.Handed.{Handed}
-use Rattle.node_core.specs.declared.Handed.TheVariants as answers
-use Rattle.node_core.specs.declared.Port.{Port}
+use Rattle.world_base.specs.declared.node_core.Handed.{Handed}
+use Rattle.world_base.specs.declared.node_core.Handed.TheVariants as answers
+use Rattle.world_base.specs.declared.node_core.Port.{Port}
 use Rattle.world_nodes.specs.ExactSteps.{AnswersFor, HandsOutExactly, HandsOver}
 use Rattle.world_nodes.specs.Nodes.{NodesState}
 use Rattle.world_nodes.specs.Steps.{nodes_with_loss}

@@ -1,24 +1,24 @@
 -- What the helpers of nodes say.
 use Rattle.std.specs.Prelude.{◌≡◌, ◌<◌, ℕ, Bool, true, ◌-◌, ◌++◌, List, [], Some, None, length, map, slice_get}
 use Rattle.std.specs.List.{find}
-use Rattle.master.specs.lists.Lists.{In}
-use Rattle.master.specs.ballot_base.Replica.{ReplicaState}
-use Rattle.byte_world.specs.broker_base.State.{State}
-use Rattle.master.specs.snapshots.World.{messages}
-use Rattle.master.specs.ballot_base.declared.message.Effect.{Effect}
-use Rattle.master.specs.ballot_base.Losses.{Thinned, greatest_count}
-use Rattle.master.specs.ballot_base.declared.message.Message.{Message}
-use Rattle.byte_world.specs.broker_spec.declared.command.Command.{Command}
-use Rattle.byte_world.specs.broker_spec.declared.command.Output.{Output}
-use Rattle.node_core.specs.declared.item.Item.{Item}
-use Rattle.node_core.specs.declared.item.Item.TheVariants.{Cut, Peer}
-use Rattle.node_core.specs.Core.{CountedCore, rules}
-use Rattle.byte_world.specs.node_connections.Connections.{has_failed}
-use Rattle.node_core.specs.Losses.{DoesNothing, ItemTakesNoMemory}
-use Rattle.node_core.specs.LossyStep.{RunsOn}
-use Rattle.node_core.specs.Step.{node_step}
+use Rattle.lists.specs.Lists.{In}
+use Rattle.ballot_base.specs.Replica.{ReplicaState}
+use Rattle.broker_base.specs.State.{State}
+use Rattle.agreement.specs.cut_logs.World.{messages}
+use Rattle.ballot_base.specs.declared.message.Effect.{Effect}
+use Rattle.ballot_base.specs.Losses.{Thinned, greatest_count}
+use Rattle.ballot_base.specs.declared.message.Message.{Message}
+use Rattle.broker_spec.specs.declared.command.Command.{Command}
+use Rattle.broker_spec.specs.declared.command.Output.{Output}
+use Rattle.world_base.specs.declared.node_core.item.Item.{Item}
+use Rattle.world_base.specs.declared.node_core.item.Item.TheVariants.{Cut, Peer}
+use Rattle.world_base.specs.node_core.Core.{CountedCore, rules}
+use Rattle.world_base.specs.node_connections.Connections.{has_failed}
+use Rattle.world_base.specs.node_core.Losses.{DoesNothing, ItemTakesNoMemory}
+use Rattle.world_base.specs.node_core.LossyStep.{RunsOn}
+use Rattle.world_base.specs.node_core.Step.{node_step}
 use Rattle.master.specs.Inside.{IsGroup, ToldIn, held_by}
-use Rattle.byte_world.specs.node_group.Group.{Group, moment_of_nodes, replica_of}
+use Rattle.headline.specs.node_group.Group.{Group, moment_of_nodes, replica_of}
 use Rattle.world_nodes.specs.Running.{running}
 use Rattle.world_nodes.specs.Nodes.{NodesState, NodesStandFor, cores_of}
 

@@ -1,3 +1,4 @@
+pub mod recoveries
 pub mod Nodes
 pub mod Running
 pub mod ExactSteps
@@ -8,5 +9,3 @@ pub mod Quiet
 pub mod Agreed
 pub mod Asking
 pub mod Inside
-pub use Rattle.master.specs as master
-pub use Rattle.byte_world.specs.node_group as node_group

@@ -1,10 +1,10 @@
 -- Nodes with their master and all messages that were sent, and which groups of the model they are.
 use Rattle.std.specs.Prelude.{◌≡◌, ℕ, List, map}
-use Rattle.master.specs.ballot_base.declared.message.Message.{Message}
-use Rattle.master.specs.agreement.MasterState.{MasterState}
-use Rattle.byte_world.specs.broker_spec.declared.command.Command.{Command}
-use Rattle.node_core.specs.Core.{CoreState, CountedCore}
-use Rattle.byte_world.specs.node_group.Group.{Group}
+use Rattle.ballot_base.specs.declared.message.Message.{Message}
+use Rattle.agreement.specs.MasterState.{MasterState}
+use Rattle.broker_spec.specs.declared.command.Command.{Command}
+use Rattle.world_base.specs.node_core.Core.{CoreState, CountedCore}
+use Rattle.headline.specs.node_group.Group.{Group}
 
 -- Node n + 1 is at index n; all messages that were ever sent stay, each with its receiver. The
 -- record has the places below the bases of all logs. Losses count the steps in which something

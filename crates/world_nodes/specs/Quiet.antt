@@ -1,18 +1,19 @@
 -- What takes no memory at nodes: no loss is counted for it.
 use Rattle.std.specs.Prelude.{◌≡◌, ◌<◌, ℕ, zero, suc, [], Option, Some, None}
-use Rattle.master.specs.ballot_base.Losses.{greatest_count}
+use Rattle.ballot_base.specs.Losses.{greatest_count}
 use Rattle.std.specs.List.{find}
-use Rattle.master.specs.ballot_base.declared.message.Body.{Body}
-use Rattle.master.specs.ballot_base.declared.message.Body.TheVariants.{Activate}
-use Rattle.master.specs.ballot_base.declared.message.Message.{Message}
-use Rattle.byte_world.specs.broker_spec.declared.command.Command.{Command}
-use Rattle.byte_world.specs.node_connections.Connections.{has_failed}
-use Rattle.node_core.specs.declared.item.Item.{Item}
-use Rattle.node_core.specs.declared.item.Item.TheVariants.{Peer}
-use Rattle.node_core.specs.declared.Port.{Port}
-use Rattle.node_core.specs.Core.{CountedCore}
-use Rattle.node_core.specs.Handing.{pending_bytes, listed_at}
-use Rattle.node_core.specs.Losses.{ItemTakesNoMemory}
+use Rattle.ballot_base.specs.declared.message.Body.{Body}
+use Rattle.ballot_base.specs.declared.message.Body.TheVariants.{Activate}
+use Rattle.ballot_base.specs.declared.message.Message.{Message}
+use Rattle.broker_spec.specs.declared.command.Command.{Command}
+use Rattle.world_base.specs.node_connections.Connections.{has_failed}
+use Rattle.world_base.specs.declared.node_core.item.Item.{Item}
+use Rattle.world_base.specs.declared.node_core.item.Item.TheVariants.{Peer}
+use Rattle.world_base.specs.declared.node_core.Port.{Port}
+use Rattle.world_base.specs.node_core.Core.{CountedCore}
+use Rattle.world_base.specs.node_connections.Pending.{pending_bytes}
+use Rattle.world_base.specs.node_core.Handing.{listed_at}
+use Rattle.world_base.specs.node_core.Losses.{ItemTakesNoMemory}
 use Rattle.world_nodes.specs.Running.{numbered_node, running}
 use Rattle.world_nodes.specs.Nodes.{NodesState}
 

@@ -1,8 +1,8 @@
 -- Which nodes run, which of them have something to cut, and which may propose.
 use Rattle.std.specs.Prelude.{ℕ, zero, suc, Bool, false, not, if◌then◌else◌, List, Option, Some, None, slice_get}
-use Rattle.master.specs.ballot_base.Cutting.{can_cut}
-use Rattle.node_core.specs.Core.{CountedCore}
-use Rattle.node_core.specs.Effects.{has_room}
+use Rattle.ballot_base.specs.Cutting.{can_cut}
+use Rattle.world_base.specs.node_core.Core.{CountedCore}
+use Rattle.world_base.specs.node_core.Effects.{has_room}
 
 -- the node, if it has not stopped
 abbrev pub unless_stopped : Option CountedCore → Option CountedCore

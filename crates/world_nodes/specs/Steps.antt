@@ -1,19 +1,19 @@
 -- Steps of nodes in which memory may have run out, and how these are counted.
 use Rattle.std.specs.Prelude.{◌≡◌, ◌⊎◌, ◌<◌, ◌-◌, ◌++◌, ℕ, zero, suc, nat_lt, if◌then◌else◌, List, Option, Some, None, slice_set}
-use Rattle.master.specs.snapshots.World.{messages, recorded}
-use Rattle.master.specs.ballot_base.declared.message.Effect.{Effect}
-use Rattle.master.specs.ballot_base.declared.message.Body.{Body}
-use Rattle.master.specs.ballot_base.declared.message.Body.TheVariants.{Activate}
-use Rattle.master.specs.ballot_base.declared.config.Config.{Config}
-use Rattle.master.specs.ballot_base.Losses.{Thinned, greatest_count, one_more}
-use Rattle.master.specs.ballot_base.declared.message.Message.{Message}
-use Rattle.byte_world.specs.broker_spec.declared.command.Command.{Command}
-use Rattle.byte_world.specs.broker_spec.declared.command.Output.{Output}
-use Rattle.node_core.specs.declared.item.Item.{Item}
-use Rattle.node_core.specs.declared.item.Item.TheVariants.{Cut, Expel, Peer}
-use Rattle.node_core.specs.Core.{CountedCore}
-use Rattle.node_core.specs.LossyStep.{RunsOn}
-use Rattle.byte_world.specs.node_moves.Moves.NodeCall.{takes}
+use Rattle.agreement.specs.cut_logs.World.{messages, recorded}
+use Rattle.ballot_base.specs.declared.message.Effect.{Effect}
+use Rattle.ballot_base.specs.declared.message.Body.{Body}
+use Rattle.ballot_base.specs.declared.message.Body.TheVariants.{Activate}
+use Rattle.ballot_base.specs.declared.config.Config.{Config}
+use Rattle.ballot_base.specs.Losses.{Thinned, greatest_count, one_more}
+use Rattle.ballot_base.specs.declared.message.Message.{Message}
+use Rattle.broker_spec.specs.declared.command.Command.{Command}
+use Rattle.broker_spec.specs.declared.command.Output.{Output}
+use Rattle.world_base.specs.declared.node_core.item.Item.{Item}
+use Rattle.world_base.specs.declared.node_core.item.Item.TheVariants.{Cut, Expel, Peer}
+use Rattle.world_base.specs.node_core.Core.{CountedCore}
+use Rattle.world_base.specs.node_core.LossyStep.{RunsOn}
+use Rattle.headline.specs.node_moves.Moves.NodeCall.{takes}
 use Rattle.world_nodes.specs.ExactSteps.{after_answer, after_node_call, after_giving}
 use Rattle.world_nodes.specs.Running.{cutting, running}
 use Rattle.world_nodes.specs.Nodes.{NodesState}

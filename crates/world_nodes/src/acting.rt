@@ -1,24 +1,28 @@
 // What nodes and their master do in a step.
 
 ghost use Rattle.std.specs.Prelude.{◌≡◌, ◌+◌, ◌-◌, ◌↔◌, ◌≤◌, true, false, None, Some, length, slice_get, IfSome, OnOk, OnErr, IsErr};
-ghost use Rattle.master.specs.ballot_base.declared.message.Body.TheVariants.{Activate};
-ghost use Rattle.master.specs.ballot_base.Cutting.{can_cut};
-ghost use Rattle.master.specs.ballot_base.Losses.{one_more};
-ghost use Rattle.master.specs.lists.Lists.{In};
-ghost use Rattle.master.specs.agreement.MasterState.{refusal};
-ghost use Rattle.byte_world.specs.node_moves.Moves.NodeCall.{takes};
+ghost use Rattle.ballot_base.specs.declared.message.Body.TheVariants.{Activate};
+ghost use Rattle.ballot_base.specs.Cutting.{can_cut};
+ghost use Rattle.ballot_base.specs.Losses.{one_more};
+ghost use Rattle.lists.specs.Lists.{In};
+ghost use Rattle.agreement.specs.MasterState.{refusal};
+ghost use Rattle.headline.specs.node_moves.Moves.NodeCall.{takes};
 ghost use Rattle.world_nodes.specs.ExactSteps.{NodeDoesCall, MessageArrives, CutsExactly, TakesExactly};
 ghost use Rattle.world_nodes.specs.Running.{running};
 ghost use Rattle.world_nodes.specs.Quiet.{ComesUnheeded, RestsAt};
 ghost use Rattle.world_nodes.specs.Steps.{DeliveryOrLost, MasterAnswerOrLost, NewBallotOrLost, NodeCutOrLost, NodeItemOrLost, NodesLoseNothing, nodes_with_loss};
 ghost use Rattle.world_nodes.specs.GroupSteps.{GroupDeliveryOrLost, MasterGoes, NodeCallOrLost};
-ghost use Rattle.node_core.specs.Core.{CountedCore};
+ghost use Rattle.world_base.specs.node_core.Core.{CountedCore};
 ghost use Rattle.world_nodes.specs.Inside.{IsPassedOver, RunsAt, ItemWasSent};
 
 use crate::nodes::Nodes;
 use crate::stepping::{cut_back, pass_over, step_node};
+use ballot_base::{Body, Config, Members, Message};
+use broker::BrokerMachine;
+use broker_spec::Command;
+use machine::Memory;
 use master::{Idle, activation_answer, config_of, counted, record, send};
-use node_core::{Body, BrokerMachine, Command, Config, Item, Members, Memory, Message};
+use world_base::node_core::Item;
 
 impl Nodes {
     /// Lets a node that runs take an item. `Idle` comes if it is unknown or has stopped.

@@ -1,13 +1,13 @@
 // The list on which nodes agree.
 
 ghost use Rattle.std.specs.Prelude.{ℕ, ◌≡◌, ◌-◌, ◌++◌, None, slice_get, IfSome};
-ghost use Rattle.master.specs.lists.Lists.{In};
+ghost use Rattle.lists.specs.Lists.{In};
 ghost use Rattle.master.specs.Inside.{HoldsAt, IsShort};
 ghost use Rattle.world_nodes.specs.Agreed.{AgreeOn, AgreeOnSoMany};
 ghost use Rattle.world_nodes.specs.Inside.{held_at, replicas_of};
 
 use crate::nodes::Nodes;
-use node_core::Command;
+use broker_spec::Command;
 
 impl Nodes {
     /// Returns the agreed list, the longest that is chosen in a ballot that was active, in two

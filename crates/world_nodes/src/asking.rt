@@ -1,17 +1,20 @@
 // What is asked of nodes before they are led out of their state.
 
 ghost use Rattle.std.specs.Prelude.{◌≡◌, ◌<◌, ◌++◌, ◌↔◌, [], ◌∷◌, None, Some, true, false, IfOk, OnOk};
-ghost use Rattle.master.specs.agreement.MasterState.{refusal};
-ghost use Rattle.master.specs.machine.Machine.{replay_from};
-ghost use Rattle.node_core.specs.Core.{CountedCore, rules};
-ghost use Rattle.byte_world.specs.broker_spec.Connection.{first_connection};
+ghost use Rattle.agreement.specs.MasterState.{refusal};
+ghost use Rattle.machine.specs.Machine.{replay_from};
+ghost use Rattle.world_base.specs.node_core.Core.{CountedCore, rules};
+ghost use Rattle.broker_spec.specs.Connection.{first_connection};
 ghost use Rattle.world_nodes.specs.Asking.{is_present, is_welcome, whole_log_of, welcomes_back};
 ghost use Rattle.world_nodes.specs.Running.{numbered_node};
 
 use crate::nodes::Nodes;
-use ballot::Machine;
-use node_core::{BrokerMachine, Command, Config, ConnectionName, Memory, Output};
-use packet::{ClientId, Connack, Packet};
+use ballot_base::Config;
+use broker::BrokerMachine;
+use broker_spec::{Command, ConnectionName, Output};
+use machine::{Machine, Memory};
+use packet::{Connack, Packet};
+use packet_base::ClientId;
 use std::alloc::Global;
 
 impl Nodes {

@@ -1,12 +1,14 @@
 // How many places nodes acknowledged in the ballots that matter.
 
 ghost use Rattle.std.specs.Prelude.{ℕ, ◌≡◌, ◌≤◌, ◌<◌, ◌^◌, IfOk, get_or, length, take};
-ghost use Rattle.master.specs.ballot_base.Losses.{greatest_count};
-ghost use Rattle.master.specs.lists.Lists.{In};
+ghost use Rattle.ballot_base.specs.Losses.{greatest_count};
+ghost use Rattle.lists.specs.Lists.{In};
 ghost use Rattle.master.specs.Inside.{HasCounted, least_but_one};
 
+use ballot_base::Message;
+use broker_spec::Command;
+use machine::Memory;
 use master::{Told, follow_ballot};
-use node_core::{Command, Memory, Message};
 use std::alloc::Global;
 
 /// What was acknowledged in the active ballot, and in the one that waits. Its calls take no memory,

@@ -2,11 +2,12 @@
 
 ghost use Rattle.std.specs.Prelude.{◌≡◌, ◌++◌, ◌∷◌, []};
 ghost use Rattle.std.specs.Bool.{OnTrue, OnFalse};
-ghost use Rattle.master.specs.snapshots.World.{messages};
-ghost use Rattle.master.specs.ballot_base.Losses.{Thinned};
+ghost use Rattle.agreement.specs.cut_logs.World.{messages};
+ghost use Rattle.ballot_base.specs.Losses.{Thinned};
 ghost use Rattle.world_nodes.specs.Inside.{KeepsMessages};
 
-use node_core::{Command, Effect, Message, Output};
+use ballot_base::{Effect, Message};
+use broker_spec::{Command, Output};
 
 /// Puts the messages among effects after those that were sent. A message for which there is no
 /// memory is lost. Returns whether none was lost.

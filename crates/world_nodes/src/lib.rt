@@ -7,6 +7,7 @@ mod asking;
 mod counters;
 mod keeping;
 mod nodes;
+pub mod recoveries;
 mod stepping;
 
 pub use master::Idle;

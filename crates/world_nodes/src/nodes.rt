@@ -1,11 +1,11 @@
 // Nodes and their master.
 
 ghost use Rattle.std.specs.Prelude.{◌≡◌, ◌≤◌, ◌-◌, ◌↔◌, ◌++◌, true, false, None, Some, length, slice_get, IfOk, IfSome, OnOk, OnErr, IsErr, IsErrOf};
-ghost use Rattle.master.specs.ballot_base.Losses.{one_more};
-ghost use Rattle.master.specs.agreement.MasterState.{refusal};
-ghost use Rattle.master.specs.agreement.World.{can_open};
-ghost use Rattle.byte_world.specs.node_group.Group.{Group, opening_group};
-ghost use Rattle.byte_world.specs.node_moves.Moves.NodeCall.{takes};
+ghost use Rattle.ballot_base.specs.Losses.{one_more};
+ghost use Rattle.agreement.specs.MasterState.{refusal};
+ghost use Rattle.agreement.specs.World.{can_open};
+ghost use Rattle.headline.specs.node_group.Group.{Group, opening_group};
+ghost use Rattle.headline.specs.node_moves.Moves.NodeCall.{takes};
 ghost use Rattle.world_nodes.specs.Nodes.{NodesState, NodesStandFor};
 ghost use Rattle.world_nodes.specs.ExactSteps.{NodeDoesCall, AnswersFor, MessageArrives, ComesToNobody, CutsExactly, HandsOutExactly, HandsOver, TakesExactly, after_giving};
 ghost use Rattle.world_nodes.specs.Running.{cutting, is_running, numbered_node, proposing, running};
@@ -15,13 +15,16 @@ ghost use Rattle.world_nodes.specs.HandingOver.{HandoverOrLost};
 ghost use Rattle.world_nodes.specs.GroupSteps.{GroupDeliveryOrLost, MasterStepOrLost, NodeCallOrLost};
 
 use crate::counters::Counters;
+use ballot_base::errors::OpeningError;
+use ballot_base::{Config, Message};
+use broker::BrokerMachine;
+use broker_spec::Command;
 use master::{Idle, Master, asks_for, can_open, copy_of};
-use node_core::{
-    BrokerMachine, Command, Config, Handed, Item, Message, NodeCore, OpeningError, Piece, Port,
-};
-use packet::ClientId;
+use packet_base::ClientId;
 use std::alloc::Global;
 use std::marker::Model;
+use world_base::node_connections::{Handed, Piece, Port};
+use world_base::node_core::{Item, NodeCore};
 
 /// Nodes with the connections of their clients, their master, and all messages that they ever sent:
 /// any may come late, again or never. Nodes are numbered from 1, messages from 0 in the order of

@@ -1,13 +1,15 @@
 // The step of one node.
 
 ghost use Rattle.std.specs.Prelude.{◌≡◌, ◌<◌, true, take, length, slice_get, if◌then◌else◌, IfSome};
-ghost use Rattle.master.specs.ballot_base.Losses.{greatest_count};
-ghost use Rattle.node_core.specs.Losses.{DoesNothing};
+ghost use Rattle.ballot_base.specs.Losses.{greatest_count};
+ghost use Rattle.world_base.specs.node_core.Losses.{DoesNothing};
 ghost use Rattle.world_nodes.specs.Inside.{TookItem};
 
 use crate::keeping::keep_all;
-use node_core::{Command, Item, Message, NodeCore};
+use ballot_base::Message;
+use broker_spec::Command;
 use std::alloc::Global;
+use world_base::node_core::{Item, NodeCore};
 
 /// Lets a node take an item; its messages are put after those that were sent. Returns whether
 /// nothing was lost.

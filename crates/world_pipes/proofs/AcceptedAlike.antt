@@ -10,23 +10,23 @@ use Rattle.packet.specs.declared.delivery.Delivery.TheVariants as deliveries
 use Rattle.packet.specs.declared.packet.Packet.{Packet}
 use Rattle.packet.specs.declared.packet.Packet.TheVariants as packets
 use Rattle.packet.specs.declared.publish.Publish.{Publish}
-use Rattle.client.specs.packet.packet_base.declared.qos.QoS.{QoS}
-use Rattle.client.specs.session_base.declared.publication.Publication.{Publication}
-use Rattle.client.specs.session_base.Publication.{is_answered, publication_of}
-use Rattle.client.specs.lists.Lists.{has_id}
-use Rattle.client.specs.client_base.declared.accepted.Accepted.{Accepted}
-use Rattle.client.specs.client_base.declared.error.ClientError.{ClientError}
-use Rattle.client.specs.client_base.declared.stage.Stage.{Stage}
-use Rattle.client.specs.client_base.declared.stage.Stage.TheVariants as stages
-use Rattle.client.specs.client_base.State.{ClientState, is_online, is_open}
-use Rattle.client.specs.client_base.Answered.{ClientOutcome, accepted_of, accepting, awaits_pubrec, on_publish, on_pubrec}
-use Rattle.client.specs.client_base.Calls.{on_connack, discarded, loses_session, numbered, on_first, on_later, client_receives}
-use Rattle.client.specs.client_base.Publishing.{publish_refusal, published}
-use Rattle.client.specs.client_base.Handled.{packet_handled, handled_first, handled_online}
-use Rattle.client.specs.client_base.Handshakes.{is_sent_with, pubrec_answered, takes_in}
-use Rattle.client.specs.client_base.Steps.{Call, disconnected, keeper_step, request_refusal, subscribed, unless_refused, unsubscribed}
-use Rattle.byte_world.specs.exactly_once.Sides.{Side}
-use Rattle.byte_world.specs.Accepted.{accepted_at_qos2, is_accepted_at_qos2, publication_accepted}
+use Rattle.packet_base.specs.declared.qos.QoS.{QoS}
+use Rattle.session_base.specs.declared.publication.Publication.{Publication}
+use Rattle.session_base.specs.Publication.{is_answered, publication_of}
+use Rattle.lists.specs.Lists.{has_id}
+use Rattle.client_base.specs.declared.accepted.Accepted.{Accepted}
+use Rattle.client_base.specs.declared.error.ClientError.{ClientError}
+use Rattle.client_base.specs.declared.stage.Stage.{Stage}
+use Rattle.client_base.specs.declared.stage.Stage.TheVariants as stages
+use Rattle.client_base.specs.State.{ClientState, is_online, is_open}
+use Rattle.client_base.specs.Answered.{ClientOutcome, accepted_of, accepting, awaits_pubrec, on_publish, on_pubrec}
+use Rattle.client_base.specs.Calls.{on_connack, discarded, loses_session, numbered, on_first, on_later, client_receives}
+use Rattle.client_base.specs.Publishing.{publish_refusal, published}
+use Rattle.client_base.specs.Handled.{packet_handled, handled_first, handled_online}
+use Rattle.client_base.specs.Handshakes.{is_sent_with, pubrec_answered, takes_in}
+use Rattle.client_base.specs.Steps.{Call, disconnected, keeper_step, request_refusal, subscribed, unless_refused, unsubscribed}
+use Rattle.exactly_once.specs.Sides.{Side}
+use Rattle.headline.specs.byte_world.Accepted.{accepted_at_qos2, is_accepted_at_qos2, publication_accepted}
 
 -- one more
 more_accepted : (accepted : List Accepted) (one : Accepted) → accepted_at_qos2 (accepted ++ one ∷ []) ≡ accepted_at_qos2 accepted ++ accepted_at_qos2 (one ∷ [])

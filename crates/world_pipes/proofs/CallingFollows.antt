@@ -3,13 +3,13 @@
 use Rattle.std.proofs.Common.{◌≡◌, ℕ, false, List, [], ◌∷◌, IsTrue, Result, Ok, Err, refl, ap, ap₂, sym, subst, ◌∙◌}
 use Rattle.std.proofs.lemmas.Bool.{both_ways}
 use Rattle.topics.specs.Text.{is_filter, is_topic}
-use Rattle.client.specs.packet.packet_base.declared.qos.QoS.{QoS}
-use Rattle.client.specs.session_base.declared.publication.Publication.{Publication}
-use Rattle.client.specs.client_base.declared.error.ClientError.{ClientError}
-use Rattle.client.specs.client_base.declared.error.ClientError.TheVariants as errors
-use Rattle.client.specs.client_base.State.{ClientState, is_open}
-use Rattle.client.specs.client_base.Answered.{ClientOutcome}
-use Rattle.client.specs.client_base.Steps.{Call, keeper_step}
+use Rattle.packet_base.specs.declared.qos.QoS.{QoS}
+use Rattle.session_base.specs.declared.publication.Publication.{Publication}
+use Rattle.client_base.specs.declared.error.ClientError.{ClientError}
+use Rattle.client_base.specs.declared.error.ClientError.TheVariants as errors
+use Rattle.client_base.specs.State.{ClientState, is_open}
+use Rattle.client_base.specs.Answered.{ClientOutcome}
+use Rattle.client_base.specs.Steps.{Call, keeper_step}
 use Rattle.client.specs.Core.{Core, AnswersCall, LeavesServer}
 use Rattle.world_pipes.specs.declared.sending.Sending.{Sending}
 use Rattle.world_pipes.specs.declared.sending.Sending.TheVariants as sendings
@@ -17,7 +17,7 @@ use Rattle.world_pipes.specs.Following.{CallingFollows, FollowsBy}
 use Rattle.world_pipes.specs.Steps.{ClientTrace, ClientStep}
 use Rattle.world_pipes.specs.Piped.{Calls, Piped, TakesLeave, is_holding, piped}
 use Rattle.world_pipes.specs.StandsFor.{ClientStandsFor}
-use Rattle.byte_world.specs.World.{after_writing}
+use Rattle.headline.specs.byte_world.World.{after_writing}
 use Rattle.world_pipes.proofs.CallsFollow.{up_follows}
 use Rattle.world_pipes.proofs.CallsOffline.{call_follows, publishing_offline, subscribing_offline, unsubscribing_offline}
 use Rattle.world_pipes.proofs.AcceptedAlike.{leaving_accepts_none, publishing_accepts_none, subscribing_accepts_none, unsubscribing_accepts_none}

@@ -4,19 +4,19 @@ use Rattle.std.proofs.Common.{◌≡◌, suc, true, false, List, [], ◌∷◌, 
 use Rattle.std.proofs.lemmas.Bool.{both_ways}
 use Rattle.std.proofs.lemmas.List.{append-nil}
 use Rattle.packet.specs.Spelling.{IsPacket}
-use Rattle.client.specs.lists.Lists.{Each}
-use Rattle.client.specs.client_base.State.{ClientState, is_open}
-use Rattle.client.specs.client_base.Answered.{ClientOutcome}
-use Rattle.client.specs.client_base.History as history
-use Rattle.client.specs.client_base.Written.{writes, writes_first}
+use Rattle.lists.specs.Lists.{Each}
+use Rattle.client_base.specs.State.{ClientState, is_open}
+use Rattle.client_base.specs.Answered.{ClientOutcome}
+use Rattle.client_base.specs.History as history
+use Rattle.client_base.specs.Written.{writes, writes_first}
 use Rattle.client.specs.Core.{AppendsAll, Core, gone}
-use Rattle.byte_world.specs.node_moves.Puts.{spelled}
-use Rattle.client.specs.session_base.declared.publication.Publication.{Publication}
-use Rattle.byte_world.specs.exactly_once.Sides.{ClientConnection}
-use Rattle.byte_world.specs.World.{ClientPipes, Pipe, after_writing, newly_written, sent_up}
-use Rattle.byte_world.specs.ClientSteps.{WritesCanBeSpelled}
-use Rattle.byte_world.specs.Published.{published_by_call}
-use Rattle.byte_world.proofs.OnTheWay.{newly_is}
+use Rattle.headline.specs.node_moves.Puts.{spelled}
+use Rattle.session_base.specs.declared.publication.Publication.{Publication}
+use Rattle.exactly_once.specs.Sides.{ClientConnection}
+use Rattle.headline.specs.byte_world.World.{ClientPipes, Pipe, after_writing, newly_written, sent_up}
+use Rattle.headline.specs.byte_world.ClientSteps.{WritesCanBeSpelled}
+use Rattle.headline.specs.byte_world.Published.{published_by_call}
+use Rattle.headline.proofs.of_byte_world.OnTheWay.{newly_is}
 use Rattle.world_pipes.specs.declared.sending.Sending.{Sending}
 use Rattle.world_pipes.specs.declared.sending.Sending.TheVariants as sendings
 use Rattle.world_pipes.specs.declared.way.Way.{Way}
@@ -24,9 +24,9 @@ use Rattle.world_pipes.specs.Following.{CallingFollows, after_losing}
 use Rattle.world_pipes.specs.Steps.{ClientTrace, ClientStep}
 use Rattle.world_pipes.specs.Piped.{Calls, GoesUp, GoesUpWhere, Piped, TakesLeave, broken, is_holding, piped}
 use Rattle.world_pipes.specs.Piped as pipings
-use Rattle.byte_world.specs.exactly_once.Acceptance.{accepted_on}
+use Rattle.exactly_once.specs.Acceptance.{accepted_on}
 use Rattle.world_pipes.specs.StandsFor.{AreWays, CanGoOut, ClientStandsFor}
-use Rattle.byte_world.specs.Accepted.{accepted_at_qos2}
+use Rattle.headline.specs.byte_world.Accepted.{accepted_at_qos2}
 use Rattle.world_pipes.proofs.CarryingFollows.{IsLeft, finished, left_lost, way_up}
 use Rattle.world_pipes.proofs.ModelsCalls.{IsCalled}
 use Rattle.world_pipes.proofs.PacketsHandled.{appended}

@@ -3,33 +3,33 @@
 use Rattle.std.proofs.Common.{◌≡◌, ℕ, Bool, true, false, not, if◌then◌else◌, List, [], ◌∷◌, length, reverse, Option, Some, None, Ok, refl, ap, sym, subst, ◌∙◌}
 use Rattle.std.proofs.lemmas.Bool.{both_ways}
 use Rattle.packet.specs.Spelling.{IsPacket}
-use Rattle.client.specs.packet.packet_base.declared.qos.QoS.{QoS}
-use Rattle.client.specs.session_base.declared.publication.Publication.{Publication}
-use Rattle.client.specs.session_base.Publication.{is_answered}
-use Rattle.client.specs.lists.Lists.{Each}
-use Rattle.client.specs.client_base.declared.error.ClientError.{ClientError}
-use Rattle.client.specs.client_base.declared.error.ClientError.TheVariants as errors
-use Rattle.client.specs.client_base.declared.stage.Stage.{Stage}
-use Rattle.client.specs.client_base.declared.stage.Stage.TheVariants as stages
-use Rattle.client.specs.client_base.State.{ClientState, is_online, is_open}
-use Rattle.client.specs.client_base.Answered.{ClientOutcome}
-use Rattle.client.specs.client_base.Publishing.{has_free_id, next_id, publish_refusal, published}
-use Rattle.client.specs.client_base.History as history
-use Rattle.client.specs.client_base.Keeper.{Written}
-use Rattle.client.specs.client_base.Steps.{Call, keeper_step, subscribed, unless_refused, unsubscribed}
-use Rattle.client.specs.client_base.Written.{writes, writes_first}
-use Rattle.client.proofs.of_client_base.FollowsCalls.{publish_outcome}
+use Rattle.packet_base.specs.declared.qos.QoS.{QoS}
+use Rattle.session_base.specs.declared.publication.Publication.{Publication}
+use Rattle.session_base.specs.Publication.{is_answered}
+use Rattle.lists.specs.Lists.{Each}
+use Rattle.client_base.specs.declared.error.ClientError.{ClientError}
+use Rattle.client_base.specs.declared.error.ClientError.TheVariants as errors
+use Rattle.client_base.specs.declared.stage.Stage.{Stage}
+use Rattle.client_base.specs.declared.stage.Stage.TheVariants as stages
+use Rattle.client_base.specs.State.{ClientState, is_online, is_open}
+use Rattle.client_base.specs.Answered.{ClientOutcome}
+use Rattle.client_base.specs.Publishing.{has_free_id, next_id, publish_refusal, published}
+use Rattle.client_base.specs.History as history
+use Rattle.client_base.specs.Keeper.{Written}
+use Rattle.client_base.specs.Steps.{Call, keeper_step, subscribed, unless_refused, unsubscribed}
+use Rattle.client_base.specs.Written.{writes, writes_first}
+use Rattle.client_base.proofs.FollowsCalls.{publish_outcome}
 use Rattle.client.specs.Core.{Core}
-use Rattle.byte_world.specs.exactly_once.Sides.{ClientConnection}
-use Rattle.byte_world.specs.World.{after_writing, newly_written, packets_of, sent_up}
-use Rattle.byte_world.proofs.OnTheWay.{newly_is}
+use Rattle.exactly_once.specs.Sides.{ClientConnection}
+use Rattle.headline.specs.byte_world.World.{after_writing, newly_written, packets_of, sent_up}
+use Rattle.headline.proofs.of_byte_world.OnTheWay.{newly_is}
 use Rattle.world_pipes.specs.declared.sending.Sending.{Sending}
 use Rattle.world_pipes.specs.declared.sending.Sending.TheVariants as sendings
 use Rattle.world_pipes.specs.Following.{CallingFollows}
 use Rattle.world_pipes.specs.Piped.{GoesUpWhere, Piped, is_holding, piped}
-use Rattle.byte_world.specs.exactly_once.Acceptance.{accepted_on}
+use Rattle.exactly_once.specs.Acceptance.{accepted_on}
 use Rattle.world_pipes.specs.StandsFor.{AreWays, CanGoOut, ClientStandsFor}
-use Rattle.byte_world.specs.Accepted.{accepted_at_qos2}
+use Rattle.headline.specs.byte_world.Accepted.{accepted_at_qos2}
 use Rattle.world_pipes.proofs.CallsFollow.{HasCall, up_follows}
 use Rattle.world_pipes.proofs.Ways.{none_sent}
 

@@ -4,29 +4,29 @@ use Rattle.std.proofs.lemmas.Bool.{ltb-false, ltb-true}
 use Rattle.std.proofs.lemmas.List.{length-append}
 use Rattle.std.specs.List.{All}
 use Rattle.topics.specs.Text.{is_filter, is_topic}
-use Rattle.client.specs.packet_base.Spelling.{IsId}
-use Rattle.client.proofs.of_packet_base.FieldsAgain.{filter_parts}
+use Rattle.packet_base.specs.Spelling.{IsId}
+use Rattle.packet_base.proofs.FieldsAgain.{filter_parts}
 use Rattle.packet.specs.Delivery.{FitsDelivery}
-use Rattle.client.specs.packet.packet_base.QoS.{qos_number}
+use Rattle.packet_base.specs.QoS.{qos_number}
 use Rattle.packet.specs.Spelling.{IsPacket, body, max_body}
 use Rattle.packet.specs.Subscribe.{FitsSubscription}
 use Rattle.packet.specs.declared.packet.Packet.{Packet}
 use Rattle.packet.specs.declared.packet.Packet.TheVariants as packets
-use Rattle.client.specs.packet.packet_base.declared.qos.QoS.{QoS}
-use Rattle.client.specs.packet.packet_base.declared.qos.QoS.TheVariants as qualities
-use Rattle.client.specs.session_base.declared.publication.Publication.{Publication}
-use Rattle.client.specs.session_base.Publication.{delivery_with, is_answered}
-use Rattle.client.proofs.of_session_base.IdentifiersOfFills.{least_free_is}
-use Rattle.client.proofs.of_lists.OfEach.{each_append}
-use Rattle.client.specs.client_base.declared.error.ClientError.{ClientError}
-use Rattle.client.specs.client_base.declared.request.Request.{Request}
-use Rattle.client.specs.client_base.declared.request.Request.TheVariants as requests
-use Rattle.client.specs.client_base.declared.stage.Stage.{Stage}
-use Rattle.client.specs.client_base.declared.stage.Stage.TheVariants as stages
-use Rattle.client.specs.client_base.State.{ClientState, is_online, used_ids}
-use Rattle.client.specs.client_base.Publishing.{has_free_id, next_id, publish_packet, publish_refusal, published}
-use Rattle.client.specs.client_base.Steps.{Call, asked, disconnected, keeper_step, request_refusal, unless_refused}
-use Rattle.client.proofs.of_client_base.FollowsCalls.{kept_of, publish_outcome}
+use Rattle.packet_base.specs.declared.qos.QoS.{QoS}
+use Rattle.packet_base.specs.declared.qos.QoS.TheVariants as qualities
+use Rattle.session_base.specs.declared.publication.Publication.{Publication}
+use Rattle.session_base.specs.Publication.{delivery_with, is_answered}
+use Rattle.session_base.proofs.IdentifiersOfFills.{least_free_is}
+use Rattle.lists.proofs.OfEach.{each_append}
+use Rattle.client_base.specs.declared.error.ClientError.{ClientError}
+use Rattle.client_base.specs.declared.request.Request.{Request}
+use Rattle.client_base.specs.declared.request.Request.TheVariants as requests
+use Rattle.client_base.specs.declared.stage.Stage.{Stage}
+use Rattle.client_base.specs.declared.stage.Stage.TheVariants as stages
+use Rattle.client_base.specs.State.{ClientState, is_online, used_ids}
+use Rattle.client_base.specs.Publishing.{has_free_id, next_id, publish_packet, publish_refusal, published}
+use Rattle.client_base.specs.Steps.{Call, asked, disconnected, keeper_step, request_refusal, unless_refused}
+use Rattle.client_base.proofs.FollowsCalls.{kept_of, publish_outcome}
 use Rattle.world_pipes.specs.StandsFor.{CanGoOut}
 use Rattle.world_pipes.proofs.NotRefused.{asked_so, is_published}
 use Rattle.world_pipes.proofs.Spellable.{AllSpelled, lost_fits}

@@ -2,25 +2,25 @@
 use Rattle.std.proofs.Common.{◌≡◌, ℕ, suc, true, false, ◌⊎◌, inl, inr, List, [], ◌∷◌, ◌++◌, length, take, drop, reverse, set, slice_get, Result, Ok, Err, refl, ap, ap₂, sym, subst, ◌∙◌, arith, append_assoc}
 use Rattle.std.proofs.lemmas.Bool.{both_ways}
 use Rattle.std.proofs.lemmas.List.{append-nil, take-append-drop}
-use Rattle.client.specs.cutter.Stream.{Stream}
-use Rattle.client.specs.client_base.declared.error.ClientError.{ClientError}
-use Rattle.client.specs.client_base.declared.error.ClientError.TheVariants as errors
-use Rattle.client.specs.client_base.declared.stage.Stage.{Stage}
-use Rattle.client.specs.client_base.declared.stage.Stage.TheVariants as stages
-use Rattle.client.specs.client_base.State.{ClientState, is_open}
-use Rattle.client.specs.client_base.History as history
-use Rattle.client.proofs.of_client_base.FollowsHandled.{lost_stands}
+use Rattle.cutter.specs.Stream.{Stream}
+use Rattle.client_base.specs.declared.error.ClientError.{ClientError}
+use Rattle.client_base.specs.declared.error.ClientError.TheVariants as errors
+use Rattle.client_base.specs.declared.stage.Stage.{Stage}
+use Rattle.client_base.specs.declared.stage.Stage.TheVariants as stages
+use Rattle.client_base.specs.State.{ClientState, is_open}
+use Rattle.client_base.specs.History as history
+use Rattle.client_base.proofs.FollowsHandled.{lost_stands}
 use Rattle.client.specs.Core.{Core, gone}
 use Rattle.client.specs.Reading.{EndsWith, Handles, OnBytes, fed}
-use Rattle.byte_world.specs.exactly_once.Sides.{ClientConnection}
-use Rattle.byte_world.specs.World.{ClientPipes, Pipe, with_pipe}
+use Rattle.exactly_once.specs.Sides.{ClientConnection}
+use Rattle.headline.specs.byte_world.World.{ClientPipes, Pipe, with_pipe}
 use Rattle.world_pipes.specs.declared.way.Way.{Way}
 use Rattle.world_pipes.specs.Following.{ModelFollows, CarryingFollows, after_losing}
 use Rattle.world_pipes.specs.Steps.{ClientTrace, ClientStep, published_in_steps, published_with}
 use Rattle.world_pipes.specs.Piped.{CarriesDown, Piped, broken, come_down, piped, piped_up}
-use Rattle.byte_world.specs.exactly_once.Acceptance.{accepted_on}
+use Rattle.exactly_once.specs.Acceptance.{accepted_on}
 use Rattle.world_pipes.specs.StandsFor.{AreWays, CanGoOut, IsWay, ClientStandsFor}
-use Rattle.byte_world.specs.Accepted.{accepted_at_qos2}
+use Rattle.headline.specs.byte_world.Accepted.{accepted_at_qos2}
 use Rattle.world_pipes.proofs.PacketsHandled.{GoFar, IsInMidst, all_go, one_goes}
 use Rattle.world_pipes.proofs.StaysOpen.{handled_stays}
 use Rattle.world_pipes.proofs.Ways.{last_same, losing, losing_silent, lost_fits, newest_way, same_pipes, with_newest}

@@ -2,30 +2,30 @@
 use Rattle.std.proofs.Common.{◌≡◌, ℕ, suc, true, false, inl, inr, List, [], ◌∷◌, length, reverse, Result, Ok, Err, IsTrue, refl, ap, ap₂, sym, subst, ◌∙◌, arith}
 use Rattle.std.proofs.lemmas.Bool.{both_ways}
 use Rattle.std.proofs.lemmas.List.{append-nil}
-use Rattle.client.specs.packet_base.ClientId.{is_client}
-use Rattle.client.proofs.of_packet_base.Clients.{client_short}
+use Rattle.packet_base.specs.ClientId.{is_client}
+use Rattle.packet_base.proofs.Clients.{client_short}
 use Rattle.packet.specs.Spelling.{IsPacket}
 use Rattle.packet.specs.declared.packet.Packet.TheVariants as packets
-use Rattle.byte_world.specs.broker_spec.Connection.{ConnectionName}
-use Rattle.client.specs.client_base.declared.error.ClientError.{ClientError}
-use Rattle.client.specs.client_base.State.{ClientState, is_open}
-use Rattle.client.specs.client_base.Connected as opens_history
-use Rattle.client.specs.client_base.Handled as handling
-use Rattle.client.specs.client_base.History as history
-use Rattle.client.specs.client_base.Keeper.{Keeper}
-use Rattle.client.specs.client_base.Steps.{Call, keeper_step}
+use Rattle.broker_spec.specs.Connection.{ConnectionName}
+use Rattle.client_base.specs.declared.error.ClientError.{ClientError}
+use Rattle.client_base.specs.State.{ClientState, is_open}
+use Rattle.client_base.specs.Connected as opens_history
+use Rattle.client_base.specs.Handled as handling
+use Rattle.client_base.specs.History as history
+use Rattle.client_base.specs.Keeper.{Keeper}
+use Rattle.client_base.specs.Steps.{Call, keeper_step}
 use Rattle.client.specs.Core.{AppendsAll, Core, OpensConnection}
-use Rattle.byte_world.specs.node_moves.Puts.{spelled}
-use Rattle.node_core.specs.declared.Port.{Port}
-use Rattle.byte_world.specs.World.{ClientPipes, new_client}
-use Rattle.byte_world.specs.ClientSteps.{after_connecting}
+use Rattle.headline.specs.node_moves.Puts.{spelled}
+use Rattle.world_base.specs.declared.node_core.Port.{Port}
+use Rattle.headline.specs.byte_world.World.{ClientPipes, new_client}
+use Rattle.headline.specs.byte_world.ClientSteps.{after_connecting}
 use Rattle.world_pipes.specs.declared.way.Way.{Way}
 use Rattle.world_pipes.specs.Following.{ConnectingFollows, FollowsAll}
 use Rattle.world_pipes.specs.Steps.{ClientTrace}
 use Rattle.world_pipes.specs.Piped.{SendsConnect, Piped, is_holding, new_piped, new_way, piped, piped_up}
-use Rattle.byte_world.specs.exactly_once.Acceptance.{accepted_on}
+use Rattle.exactly_once.specs.Acceptance.{accepted_on}
 use Rattle.world_pipes.specs.StandsFor.{AreWays, CanGoOut, ClientStandsFor}
-use Rattle.byte_world.specs.Accepted.{accepted_at_qos2}
+use Rattle.headline.specs.byte_world.Accepted.{accepted_at_qos2}
 use Rattle.world_pipes.proofs.PacketsHandled.{appended}
 use Rattle.world_pipes.proofs.TakenBack.{opened_and_lost}
 use Rattle.world_pipes.proofs.Ways.{with_newest}

@@ -1,3 +1,5 @@
+pub mod of_clients
+pub mod of_events
 pub mod Newest
 pub mod StaysOpen
 pub mod Sent

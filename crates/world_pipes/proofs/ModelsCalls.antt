@@ -3,32 +3,32 @@ use Rattle.std.proofs.Common.{◌≡◌, ℕ, Bool, true, false, if◌then◌els
 use Rattle.std.proofs.lemmas.List.{append-nil}
 use Rattle.std.proofs.lemmas.Option.{none-some}
 use Rattle.packet.specs.declared.packet.Packet.TheVariants as packets
-use Rattle.client.specs.packet.packet_base.declared.qos.QoS.{QoS}
-use Rattle.client.specs.session_base.declared.publication.Publication.{Publication}
-use Rattle.client.specs.session_base.Identifiers.{least_free}
-use Rattle.client.proofs.of_session_base.IdentifiersOfFills.{least_free_is}
-use Rattle.byte_world.specs.broker_spec.Commands.{usual_limits}
-use Rattle.client.specs.client_base.declared.request.Request.TheVariants as requests
-use Rattle.client.specs.client_base.declared.stage.Stage.{Stage}
-use Rattle.client.specs.client_base.declared.stage.Stage.TheVariants as stages
-use Rattle.client.specs.client_base.State.{ClientState, is_online, is_open}
-use Rattle.client.specs.client_base.Answered.{ClientOutcome}
-use Rattle.client.specs.client_base.Called as called
-use Rattle.client.specs.client_base.Connected as connected
-use Rattle.client.specs.client_base.Publishing.{has_free_id, publish_refusal, published}
-use Rattle.client.specs.client_base.Handled as handling
-use Rattle.client.specs.client_base.History as history
-use Rattle.client.specs.client_base.Keeper as keepers
-use Rattle.client.specs.client_base.Keeper.{Keeper, Written, ids_in_use}
-use Rattle.client.specs.client_base.Steps.{Call, disconnected, keeper_step, request_refusal, subscribed, unsubscribed}
-use Rattle.client.specs.client_base.Written.{plain, writes_first}
-use Rattle.client.proofs.of_client_base.Follows.{calls_follow}
-use Rattle.byte_world.specs.packet_world.Steps.{is_call}
-use Rattle.byte_world.specs.exactly_once.Sides.{ClientConnection}
-use Rattle.byte_world.specs.exactly_once.Story.{StoryStep}
-use Rattle.byte_world.specs.World.{ClientPipes, packets_of}
-use Rattle.byte_world.specs.ClientSteps.{story_alone}
-use Rattle.byte_world.specs.Published.{published_by_call}
+use Rattle.packet_base.specs.declared.qos.QoS.{QoS}
+use Rattle.session_base.specs.declared.publication.Publication.{Publication}
+use Rattle.session_base.specs.Identifiers.{least_free}
+use Rattle.session_base.proofs.IdentifiersOfFills.{least_free_is}
+use Rattle.broker_spec.specs.Commands.{usual_limits}
+use Rattle.client_base.specs.declared.request.Request.TheVariants as requests
+use Rattle.client_base.specs.declared.stage.Stage.{Stage}
+use Rattle.client_base.specs.declared.stage.Stage.TheVariants as stages
+use Rattle.client_base.specs.State.{ClientState, is_online, is_open}
+use Rattle.client_base.specs.Answered.{ClientOutcome}
+use Rattle.client_base.specs.Called as called
+use Rattle.client_base.specs.Connected as connected
+use Rattle.client_base.specs.Publishing.{has_free_id, publish_refusal, published}
+use Rattle.client_base.specs.Handled as handling
+use Rattle.client_base.specs.History as history
+use Rattle.client_base.specs.Keeper as keepers
+use Rattle.client_base.specs.Keeper.{Keeper, Written, ids_in_use}
+use Rattle.client_base.specs.Steps.{Call, disconnected, keeper_step, request_refusal, subscribed, unsubscribed}
+use Rattle.client_base.specs.Written.{plain, writes_first}
+use Rattle.client_base.proofs.Follows.{calls_follow}
+use Rattle.headline.specs.packet_world.Steps.{is_call}
+use Rattle.exactly_once.specs.Sides.{ClientConnection}
+use Rattle.exactly_once.specs.Story.{StoryStep}
+use Rattle.headline.specs.byte_world.World.{ClientPipes, packets_of}
+use Rattle.headline.specs.byte_world.ClientSteps.{story_alone}
+use Rattle.headline.specs.byte_world.Published.{published_by_call}
 use Rattle.world_pipes.proofs.NotRefused.{asked_so, is_published, not_refused}
 
 -- a call of the model's client, and what it writes on its newest connection

@@ -1,14 +1,14 @@
 -- NotRefused.antt: what holds if a call is not refused.
 use Rattle.std.proofs.Common.{◌≡◌, Bool, true, false, not, ◌&&◌, if◌then◌else◌, Option, Some, None, is_some, refl, ap}
 use Rattle.std.proofs.lemmas.Bool.{both_ways}
-use Rattle.client.specs.session_base.declared.publication.Publication.{Publication}
-use Rattle.client.specs.session_base.Publication.{is_answered}
-use Rattle.client.specs.client_base.declared.error.ClientError.{ClientError}
-use Rattle.client.specs.client_base.declared.error.ClientError.TheVariants as errors
-use Rattle.client.specs.client_base.State.{ClientState, is_online}
-use Rattle.client.specs.client_base.Answered.{ClientOutcome}
-use Rattle.client.specs.client_base.Publishing.{has_free_id, is_over_limit, publish_packet, publish_refusal}
-use Rattle.client.specs.client_base.Steps.{unless_refused}
+use Rattle.session_base.specs.declared.publication.Publication.{Publication}
+use Rattle.session_base.specs.Publication.{is_answered}
+use Rattle.client_base.specs.declared.error.ClientError.{ClientError}
+use Rattle.client_base.specs.declared.error.ClientError.TheVariants as errors
+use Rattle.client_base.specs.State.{ClientState, is_online}
+use Rattle.client_base.specs.Answered.{ClientOutcome}
+use Rattle.client_base.specs.Publishing.{has_free_id, is_over_limit, publish_packet, publish_refusal}
+use Rattle.client_base.specs.Steps.{unless_refused}
 
 -- a call that is not refused
 pub not_refused : (refusal : Option ClientError) (outcome : ClientOutcome) (state : ClientState) → (unless_refused refusal outcome state).refusal ≡ None → refusal ≡ None

@@ -4,26 +4,26 @@ use Rattle.std.proofs.lemmas.List.{append-nil}
 use Rattle.packet.specs.Spelling.{IsPacket, spelling}
 use Rattle.packet.specs.declared.packet.Packet.{Packet}
 use Rattle.packet.proofs.OneSpelling.{spelling_is}
-use Rattle.client.specs.cutter.Stream.{Stream, Takes}
-use Rattle.client.specs.lists.Lists.{Each}
-use Rattle.client.specs.client_base.State.{ClientState, is_open}
-use Rattle.client.specs.client_base.Answered.{ClientOutcome}
-use Rattle.client.specs.client_base.Handled.{packet_handled}
-use Rattle.client.specs.client_base.History as history
-use Rattle.client.specs.client_base.Keeper as keepers
-use Rattle.client.proofs.of_client_base.FollowsHandled.{handled_follows}
-use Rattle.client.proofs.of_client_base.FollowsPackets.{Same}
+use Rattle.cutter.specs.Stream.{Stream, Takes}
+use Rattle.lists.specs.Lists.{Each}
+use Rattle.client_base.specs.State.{ClientState, is_open}
+use Rattle.client_base.specs.Answered.{ClientOutcome}
+use Rattle.client_base.specs.Handled.{packet_handled}
+use Rattle.client_base.specs.History as history
+use Rattle.client_base.specs.Keeper as keepers
+use Rattle.client_base.proofs.FollowsHandled.{handled_follows}
+use Rattle.client_base.proofs.FollowsPackets.{Same}
 use Rattle.client.specs.Core.{AppendsAll, Core, IsDone}
 use Rattle.client.specs.Reading.{Handles, ReadsPacket, outcome_of_packet}
-use Rattle.byte_world.specs.node_moves.Puts.{spelled}
-use Rattle.byte_world.specs.exactly_once.Sides.{ClientConnection, Side}
-use Rattle.byte_world.specs.World.{ClientPipes, Pipe, newly_written}
-use Rattle.byte_world.specs.ClientSteps.{after_packet}
-use Rattle.byte_world.proofs.OnTheWay.{newly_is}
+use Rattle.headline.specs.node_moves.Puts.{spelled}
+use Rattle.exactly_once.specs.Sides.{ClientConnection, Side}
+use Rattle.headline.specs.byte_world.World.{ClientPipes, Pipe, newly_written}
+use Rattle.headline.specs.byte_world.ClientSteps.{after_packet}
+use Rattle.headline.proofs.of_byte_world.OnTheWay.{newly_is}
 use Rattle.world_pipes.specs.Steps.{ClientTrace, ClientStep, published_in_steps, published_with}
-use Rattle.byte_world.specs.exactly_once.Acceptance.{accepted_on}
+use Rattle.exactly_once.specs.Acceptance.{accepted_on}
 use Rattle.world_pipes.specs.StandsFor.{CanGoOut}
-use Rattle.byte_world.specs.Accepted.{accepted_at_qos2}
+use Rattle.headline.specs.byte_world.Accepted.{accepted_at_qos2}
 use Rattle.world_pipes.proofs.AcceptedAlike.{accepts_alike}
 use Rattle.world_pipes.proofs.Renamed.{handled_renamed, renamed}
 use Rattle.world_pipes.proofs.StaysOpen.{handled_stays}

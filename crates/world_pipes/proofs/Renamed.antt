@@ -5,13 +5,13 @@ use Rattle.packet.specs.declared.delivery.Delivery.{Delivery}
 use Rattle.packet.specs.declared.delivery.Delivery.TheVariants as deliveries
 use Rattle.packet.specs.declared.packet.Packet.{Packet}
 use Rattle.packet.specs.declared.packet.Packet.TheVariants as packets
-use Rattle.client.specs.session_base.declared.publication.Publication.{Publication}
-use Rattle.client.specs.session_base.Publication.{publication_of}
-use Rattle.client.specs.lists.Lists.{has_id}
-use Rattle.client.specs.client_base.Keeper as keepers
-use Rattle.client.specs.client_base.Handled.{packet_handled, handled_first, handled_online}
-use Rattle.client.specs.client_base.Handshakes.{is_sent_with, pubrec_answered, takes_in}
-use Rattle.byte_world.specs.exactly_once.Sides.{ClientConnection, Side}
+use Rattle.session_base.specs.declared.publication.Publication.{Publication}
+use Rattle.session_base.specs.Publication.{publication_of}
+use Rattle.lists.specs.Lists.{has_id}
+use Rattle.client_base.specs.Keeper as keepers
+use Rattle.client_base.specs.Handled.{packet_handled, handled_first, handled_online}
+use Rattle.client_base.specs.Handshakes.{is_sent_with, pubrec_answered, takes_in}
+use Rattle.exactly_once.specs.Sides.{ClientConnection, Side}
 
 -- a side whose connection has a number for a name
 abbrev pub renamed_connection : ClientConnection → keepers.ClientConnection ℕ

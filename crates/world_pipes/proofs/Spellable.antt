@@ -1,24 +1,24 @@
 -- Spellable.antt: all that a client writes can be spelled, and so can what it keeps then.
 use Rattle.std.proofs.Common.{ℕ, Bool, true, false, not, if◌then◌else◌, List, [], ◌∷◌, ◌++◌, map, filter, None, arith}
 use Rattle.std.specs.List.{list_any}
-use Rattle.client.specs.packet_base.Spelling.{IsId}
+use Rattle.packet_base.specs.Spelling.{IsId}
 use Rattle.packet.specs.declared.connack.Connack.TheVariants as connacks
 use Rattle.packet.specs.declared.delivery.Delivery.{Delivery}
 use Rattle.packet.specs.declared.delivery.Delivery.TheVariants as deliveries
 use Rattle.packet.specs.declared.publish.Publish.{Publish}
-use Rattle.client.specs.packet.packet_base.declared.qos.QoS.{QoS}
-use Rattle.client.specs.packet.packet_base.declared.qos.QoS.TheVariants as qualities
+use Rattle.packet_base.specs.declared.qos.QoS.{QoS}
+use Rattle.packet_base.specs.declared.qos.QoS.TheVariants as qualities
 use Rattle.packet.specs.declared.packet.Packet.{Packet}
 use Rattle.packet.specs.declared.packet.Packet.TheVariants as packets
 use Rattle.packet.specs.Spelling.{Fits, IsPacket}
-use Rattle.client.specs.lists.Lists.{Each, has_id}
-use Rattle.client.proofs.of_lists.OfEach.{each_append, each_then}
-use Rattle.client.specs.client_base.declared.unacknowledged_publication.UnacknowledgedPublication.{UnacknowledgedPublication}
-use Rattle.client.specs.client_base.declared.stage.Stage.{Stage}
-use Rattle.client.specs.client_base.declared.stage.Stage.TheVariants as stages
-use Rattle.client.specs.client_base.State.{ClientState, lost, publish_kept, resent}
-use Rattle.client.specs.client_base.Answered.{ClientOutcome, awaits_pubrec, on_publish, on_pubrec}
-use Rattle.client.specs.client_base.Calls.{on_connack, discarded, numbered, loses_session, on_first, on_later, client_receives}
+use Rattle.lists.specs.Lists.{Each, has_id}
+use Rattle.lists.proofs.OfEach.{each_append, each_then}
+use Rattle.client_base.specs.declared.unacknowledged_publication.UnacknowledgedPublication.{UnacknowledgedPublication}
+use Rattle.client_base.specs.declared.stage.Stage.{Stage}
+use Rattle.client_base.specs.declared.stage.Stage.TheVariants as stages
+use Rattle.client_base.specs.State.{ClientState, lost, publish_kept, resent}
+use Rattle.client_base.specs.Answered.{ClientOutcome, awaits_pubrec, on_publish, on_pubrec}
+use Rattle.client_base.specs.Calls.{on_connack, discarded, numbered, loses_session, on_first, on_later, client_receives}
 use Rattle.world_pipes.specs.StandsFor.{CanGoOut}
 
 -- what a step writes, and what it leaves

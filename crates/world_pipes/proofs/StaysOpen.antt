@@ -8,21 +8,21 @@ use Rattle.packet.specs.declared.connack.Connack.TheVariants as connacks
 use Rattle.packet.specs.declared.delivery.Delivery.{Delivery}
 use Rattle.packet.specs.declared.delivery.Delivery.TheVariants as deliveries
 use Rattle.packet.specs.declared.publish.Publish.{Publish}
-use Rattle.client.specs.packet.packet_base.declared.qos.QoS.{QoS}
-use Rattle.client.specs.session_base.declared.publication.Publication.{Publication}
-use Rattle.client.specs.session_base.Publication.{is_answered}
-use Rattle.client.specs.client_base.declared.error.ClientError.{ClientError}
-use Rattle.client.specs.client_base.declared.error.ClientError.TheVariants as errors
-use Rattle.client.specs.client_base.declared.stage.Stage.{Stage}
-use Rattle.client.specs.client_base.declared.stage.Stage.TheVariants as stages
-use Rattle.client.specs.client_base.State.{ClientState, is_open, is_online}
-use Rattle.client.specs.client_base.Answered.{ClientOutcome, on_publish, on_pubrec, awaits_pubrec}
-use Rattle.client.specs.client_base.Calls.{on_first, on_later, client_receives}
-use Rattle.client.specs.client_base.Publishing.{publish_refusal, published}
-use Rattle.client.specs.client_base.Steps.{Call, keeper_step, request_refusal, subscribed, unsubscribed, unless_refused}
+use Rattle.packet_base.specs.declared.qos.QoS.{QoS}
+use Rattle.session_base.specs.declared.publication.Publication.{Publication}
+use Rattle.session_base.specs.Publication.{is_answered}
+use Rattle.client_base.specs.declared.error.ClientError.{ClientError}
+use Rattle.client_base.specs.declared.error.ClientError.TheVariants as errors
+use Rattle.client_base.specs.declared.stage.Stage.{Stage}
+use Rattle.client_base.specs.declared.stage.Stage.TheVariants as stages
+use Rattle.client_base.specs.State.{ClientState, is_open, is_online}
+use Rattle.client_base.specs.Answered.{ClientOutcome, on_publish, on_pubrec, awaits_pubrec}
+use Rattle.client_base.specs.Calls.{on_first, on_later, client_receives}
+use Rattle.client_base.specs.Publishing.{publish_refusal, published}
+use Rattle.client_base.specs.Steps.{Call, keeper_step, request_refusal, subscribed, unsubscribed, unless_refused}
 use Rattle.client.specs.Core.{Core}
 use Rattle.client.specs.Reading.{Handles, OnBytes, EndsWith}
-use Rattle.client.specs.lists.Lists.{has_id}
+use Rattle.lists.specs.Lists.{has_id}
 use Rattle.world_pipes.specs.Inside.{stays_open}
 
 -- ---- calls

@@ -1,6 +1,6 @@
 -- StepsInWorlds.antt: a client's step is one of its world.
 use Rattle.std.proofs.Common.{refl}
-use Rattle.byte_world.specs.Steps.{ByteWorldStep}
+use Rattle.headline.specs.byte_world.Steps.{ByteWorldStep}
 use Rattle.world_pipes.specs.Steps.{ClientStep, ClientsStepInWorlds}
 
 pub steps_in_worlds : ClientsStepInWorlds

@@ -2,19 +2,19 @@
 use Rattle.std.proofs.Common.{◌≡◌, ◌-◌, List, [], ◌∷◌, ◌++◌, ℕ, false, Ok, length, take, reverse, refl, ap, sym, subst, ◌∙◌, arith}
 use Rattle.std.proofs.lemmas.Bool.{both_ways}
 use Rattle.std.proofs.lemmas.List.{length-append, take_at}
-use Rattle.client.specs.client_base.Handled.{lost}
-use Rattle.client.specs.client_base.History as history
-use Rattle.client.specs.client_base.State as closing
-use Rattle.client.specs.client_base.State.{ClientState}
-use Rattle.client.specs.client_base.Steps.{Call, keeper_step}
-use Rattle.client.proofs.of_client_base.FollowsHandled.{lost_stands}
+use Rattle.client_base.specs.Handled.{lost}
+use Rattle.client_base.specs.History as history
+use Rattle.client_base.specs.State as closing
+use Rattle.client_base.specs.State.{ClientState}
+use Rattle.client_base.specs.Steps.{Call, keeper_step}
+use Rattle.client_base.proofs.FollowsHandled.{lost_stands}
 use Rattle.client.specs.Core.{Core, gone}
-use Rattle.node_core.specs.declared.Port.{Port}
+use Rattle.world_base.specs.declared.node_core.Port.{Port}
 use Rattle.world_pipes.specs.declared.way.Way.{Way}
 use Rattle.world_pipes.specs.Following.{FollowsAll, after_losing}
 use Rattle.world_pipes.specs.Piped.{SendsConnect, Piped, new_way, piped, taken_back}
 use Rattle.world_pipes.specs.StandsFor.{AreWays, CanGoOut}
-use Rattle.byte_world.specs.Accepted.{accepted_at_qos2}
+use Rattle.headline.specs.byte_world.Accepted.{accepted_at_qos2}
 use Rattle.world_pipes.proofs.Ways.{losing_goes, losing_publishes, same_pipes}
 
 -- the model's client lost its connection, and opened none

@@ -3,7 +3,7 @@
 use Rattle.std.proofs.Common.{◌≡◌, ℕ, suc, ◌+◌, ◌-◌, List, [], ◌∷◌, ◌++◌, length, take, drop, reverse, set, slice_index_or, Option, Some, None, refl, ap, ap₂, sym, subst, ◌∙◌, append_assoc, arith}
 use Rattle.std.proofs.lemmas.List.{append-nil, append_cancel_left, length-append, length-reverse, length-set, set_at, take-append-drop}
 use Rattle.std.specs.Prelude.{IfSome, slice_get}
-use Rattle.byte_world.specs.World.{ClientPipes, Pipe, with_pipe}
+use Rattle.headline.specs.byte_world.World.{ClientPipes, Pipe, with_pipe}
 use Rattle.world_pipes.specs.declared.way.Way.{Way}
 use Rattle.world_pipes.specs.FollowingBytes.{FollowsDown, FollowsUp, HasWay, SwappingFollows, TakingUpFollows, index_in_model}
 use Rattle.world_pipes.specs.Piped.{Piped}

@@ -2,15 +2,15 @@
 use Rattle.std.proofs.Common.{◌≡◌, List, [], ◌∷◌, ◌++◌, length, false, reverse, refl, ap, sym, subst, ◌∙◌, slice_index_or, ◌-◌}
 use Rattle.std.proofs.lemmas.List.{append-nil, reverse-append}
 use Rattle.std.proofs.lemmas.Bool.{both_ways}
-use Rattle.client.specs.lists.Lists.{Each}
+use Rattle.lists.specs.Lists.{Each}
 use Rattle.packet.specs.Spelling.{IsPacket}
-use Rattle.client.specs.client_base.Handled.{lost}
-use Rattle.client.proofs.of_client_base.FollowsHandled.{lost_stands}
+use Rattle.client_base.specs.Handled.{lost}
+use Rattle.client_base.proofs.FollowsHandled.{lost_stands}
 use Rattle.client.specs.Core.{Core, gone}
-use Rattle.byte_world.specs.exactly_once.Sides.{ClientConnection}
-use Rattle.byte_world.specs.exactly_once.Story.{StoryStep}
-use Rattle.byte_world.specs.World.{ClientPipes, Pipe, newly_written, sent_up}
-use Rattle.byte_world.proofs.OnTheWay.{newly_is}
+use Rattle.exactly_once.specs.Sides.{ClientConnection}
+use Rattle.exactly_once.specs.Story.{StoryStep}
+use Rattle.headline.specs.byte_world.World.{ClientPipes, Pipe, newly_written, sent_up}
+use Rattle.headline.proofs.of_byte_world.OnTheWay.{newly_is}
 use Rattle.world_pipes.specs.declared.way.Way.{Way}
 use Rattle.world_pipes.specs.Following.{FollowsLosing, after_losing}
 use Rattle.world_pipes.specs.Steps.{ClientTrace, ClientStep, published_in_steps, published_with}

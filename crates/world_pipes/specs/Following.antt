@@ -2,17 +2,17 @@
 use Rattle.std.specs.Prelude.{◌≡◌, ℕ, true, false, List, [], Result, Ok, Err}
 use Rattle.packet.specs.Spelling.{IsPacket}
 use Rattle.packet.specs.declared.packet.Packet.TheVariants as packets
-use Rattle.byte_world.specs.broker_spec.Commands.{usual_limits}
-use Rattle.byte_world.specs.broker_spec.Connection.{ConnectionName}
-use Rattle.client.specs.client_base.declared.error.ClientError.{ClientError}
-use Rattle.client.specs.client_base.Handled.{lost}
-use Rattle.byte_world.specs.packet_world.Steps.{is_call}
-use Rattle.client.specs.session_base.declared.publication.Publication.{Publication}
-use Rattle.byte_world.specs.exactly_once.Story.{StoryStep, Story}
-use Rattle.node_core.specs.declared.Port.{Port}
-use Rattle.byte_world.specs.World.{ClientPipes, after_writing}
-use Rattle.byte_world.specs.ClientSteps.{WritesCanBeSpelled, after_connecting, story_alone}
-use Rattle.byte_world.specs.Published.{published_by_call}
+use Rattle.broker_spec.specs.Commands.{usual_limits}
+use Rattle.broker_spec.specs.Connection.{ConnectionName}
+use Rattle.client_base.specs.declared.error.ClientError.{ClientError}
+use Rattle.client_base.specs.Handled.{lost}
+use Rattle.headline.specs.packet_world.Steps.{is_call}
+use Rattle.session_base.specs.declared.publication.Publication.{Publication}
+use Rattle.exactly_once.specs.Story.{StoryStep, Story}
+use Rattle.world_base.specs.declared.node_core.Port.{Port}
+use Rattle.headline.specs.byte_world.World.{ClientPipes, after_writing}
+use Rattle.headline.specs.byte_world.ClientSteps.{WritesCanBeSpelled, after_connecting, story_alone}
+use Rattle.headline.specs.byte_world.Published.{published_by_call}
 use Rattle.world_pipes.specs.declared.sending.Sending.{Sending}
 use Rattle.world_pipes.specs.declared.sending.Sending.TheVariants as sendings
 use Rattle.world_pipes.specs.Steps.{ClientTrace, published_in_steps}

@@ -1,7 +1,7 @@
 -- How the client of a model follows bytes that reach a node, and bytes that go down from it.
 use Rattle.std.specs.Prelude.{◌≡◌, ◌-◌, ℕ, List, ◌++◌, length, take, slice_get, IfSome, Some}
-use Rattle.byte_world.specs.exactly_once.Sides.{ClientConnection}
-use Rattle.byte_world.specs.World.{ClientPipes, Pipe, with_pipe}
+use Rattle.exactly_once.specs.Sides.{ClientConnection}
+use Rattle.headline.specs.byte_world.World.{ClientPipes, Pipe, with_pipe}
 use Rattle.world_pipes.specs.declared.way.Way.{Way}
 use Rattle.world_pipes.specs.Piped.{Piped}
 use Rattle.world_pipes.specs.StandsFor.{IsWay, ClientStandsFor}

@@ -1,6 +1,6 @@
 -- What holds for every `PipedClient`, by its fields.
 use Rattle.std.specs.Prelude.{◌≡◌, ◌<◌, Bool, true, List, [], length}
-use Rattle.client.specs.client_base.State.{is_open}
+use Rattle.client_base.specs.State.{is_open}
 use Rattle.client.specs.Core.{Core}
 use Rattle.world_pipes.specs.declared.way.Way.{Way}
 

@@ -1,7 +1,7 @@
 -- What the calls of a `PipedClient` do, part by part.
 use Rattle.std.specs.Prelude.{◌≡◌, ℕ, Bool, true, false, List, [], ◌∷◌, ◌++◌, take, Result, Ok, Err}
-use Rattle.client.specs.client_base.declared.error.ClientError.{ClientError}
-use Rattle.client.specs.client_base.declared.error.ClientError.TheVariants as errors
+use Rattle.client_base.specs.declared.error.ClientError.{ClientError}
+use Rattle.client_base.specs.declared.error.ClientError.TheVariants as errors
 use Rattle.client.specs.Core.{Core, gone}
 use Rattle.client.specs.Reading.{OnBytes}
 use Rattle.world_pipes.specs.declared.way.Way.{Way}

@@ -1,3 +1,5 @@
+pub mod clients
+pub mod events
 pub mod Piped
 pub mod Held
 pub mod Inside

@@ -1,11 +1,11 @@
 -- What a `PipedClient` shows: the client, and its connections with the bytes in transit, the oldest
 -- first; and what its calls do.
 use Rattle.std.specs.Prelude.{◌≡◌, ℕ, ◌-◌, Bool, true, false, ◌⊎◌, List, [], ◌∷◌, ◌++◌, length, take, drop, Result, Ok, Err}
-use Rattle.node_core.specs.declared.Port.{Port}
-use Rattle.client.specs.client_base.declared.error.ClientError.{ClientError}
-use Rattle.client.specs.client_base.declared.error.ClientError.TheVariants as errors
-use Rattle.client.specs.client_base.State.{is_open}
-use Rattle.client.specs.client_base.Answered.{ClientOutcome}
+use Rattle.world_base.specs.declared.node_core.Port.{Port}
+use Rattle.client_base.specs.declared.error.ClientError.{ClientError}
+use Rattle.client_base.specs.declared.error.ClientError.TheVariants as errors
+use Rattle.client_base.specs.State.{is_open}
+use Rattle.client_base.specs.Answered.{ClientOutcome}
 use Rattle.client.specs.Core.{Core, AnswersCall, LeavesServer, OpensConnection, gone, new_core}
 use Rattle.client.specs.Reading.{OnBytes}
 use Rattle.world_pipes.specs.declared.way.Way.{Way}

@@ -1,16 +1,16 @@
 -- Which client of the model of worlds a `PipedClient` corresponds to. History is only in the model.
 use Rattle.std.specs.Prelude.{◌≡◌, true, false, IsTrue, List, [], ◌∷◌, ◌++◌, length, reverse}
-use Rattle.client.specs.packet_base.Spelling.{IsId}
-use Rattle.client.specs.packet_base.ClientId.{is_client}
+use Rattle.packet_base.specs.Spelling.{IsId}
+use Rattle.packet_base.specs.ClientId.{is_client}
 use Rattle.packet.specs.Spelling.{IsPacket}
-use Rattle.client.specs.lists.Lists.{Each, IsPrefixOf}
-use Rattle.client.specs.client_base.declared.unacknowledged_publication.UnacknowledgedPublication.{UnacknowledgedPublication}
-use Rattle.client.specs.client_base.State.{ClientState, publish_kept}
-use Rattle.client.specs.client_base.History as history
-use Rattle.byte_world.specs.exactly_once.Acceptance.{accepted_on}
-use Rattle.byte_world.specs.exactly_once.Sides.{ClientConnection}
-use Rattle.byte_world.specs.Accepted.{accepted_at_qos2}
-use Rattle.byte_world.specs.World.{ClientPipes, Pipe}
+use Rattle.lists.specs.Lists.{Each, IsPrefixOf}
+use Rattle.client_base.specs.declared.unacknowledged_publication.UnacknowledgedPublication.{UnacknowledgedPublication}
+use Rattle.client_base.specs.State.{ClientState, publish_kept}
+use Rattle.client_base.specs.History as history
+use Rattle.exactly_once.specs.Acceptance.{accepted_on}
+use Rattle.exactly_once.specs.Sides.{ClientConnection}
+use Rattle.headline.specs.byte_world.Accepted.{accepted_at_qos2}
+use Rattle.headline.specs.byte_world.World.{ClientPipes, Pipe}
 use Rattle.world_pipes.specs.declared.way.Way.{Way}
 use Rattle.world_pipes.specs.Piped.{Piped, is_holding}
 

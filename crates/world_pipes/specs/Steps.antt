@@ -1,17 +1,17 @@
 -- What one client of a world does without the nodes.
 use Rattle.std.specs.Prelude.{◌≡◌, ℕ, true, List, [], ◌∷◌, ◌++◌, Some, Ok, slice_get}
 use Rattle.packet.specs.declared.packet.Packet.{Packet}
-use Rattle.client.specs.cutter.Stream.{Stream, Takes}
-use Rattle.byte_world.specs.broker_spec.Commands.{usual_limits}
-use Rattle.client.specs.session_base.declared.publication.Publication.{Publication}
-use Rattle.client.specs.client_base.Handled.{packet_handled}
-use Rattle.byte_world.specs.exactly_once.Sides.{ClientConnection}
-use Rattle.byte_world.specs.exactly_once.Story.{Story, StoryStep}
-use Rattle.byte_world.specs.packet_world.Steps.{is_call}
-use Rattle.byte_world.specs.World.{ClientPipes, Pipe, ByteWorld, after_writing, with_client, with_pipe}
-use Rattle.byte_world.specs.Steps.{ByteWorldStep}
-use Rattle.byte_world.specs.ClientSteps.{WritesCanBeSpelled, after_packet, story_alone}
-use Rattle.byte_world.specs.Published.{from_client, published_by_call, published_in_step}
+use Rattle.cutter.specs.Stream.{Stream, Takes}
+use Rattle.broker_spec.specs.Commands.{usual_limits}
+use Rattle.session_base.specs.declared.publication.Publication.{Publication}
+use Rattle.client_base.specs.Handled.{packet_handled}
+use Rattle.exactly_once.specs.Sides.{ClientConnection}
+use Rattle.exactly_once.specs.Story.{Story, StoryStep}
+use Rattle.headline.specs.packet_world.Steps.{is_call}
+use Rattle.headline.specs.byte_world.World.{ClientPipes, Pipe, ByteWorld, after_writing, with_client, with_pipe}
+use Rattle.headline.specs.byte_world.Steps.{ByteWorldStep}
+use Rattle.headline.specs.byte_world.ClientSteps.{WritesCanBeSpelled, after_packet, story_alone}
+use Rattle.headline.specs.byte_world.Published.{from_client, published_by_call, published_in_step}
 
 -- a step of a world, as the client that takes it sees it
 pub data ClientStep (client : ClientPipes) : ClientPipes → Type 0 where

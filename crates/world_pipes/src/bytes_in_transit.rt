@@ -2,7 +2,8 @@
 
 ghost use Rattle.std.specs.Prelude.{◌≡◌, ◌++◌, ◌≤◌, [], drop, length, OnOk, OnErr, IsErrOf};
 
-use client::{ClientCore, ClientError};
+use client::ClientCore;
+use client_base::ClientError;
 use std::alloc::Global;
 use std::marker::Model;
 use std::mem;

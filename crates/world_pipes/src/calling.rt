@@ -2,14 +2,14 @@
 
 ghost use Rattle.std.specs.Prelude.{◌≡◌, [], ◌∷◌};
 ghost use Rattle.client.specs.Core.{publication_with};
-ghost use Rattle.client.specs.client_base.Steps.{Call, keeper_step};
+ghost use Rattle.client_base.specs.Steps.{Call, keeper_step};
 ghost use Rattle.world_pipes.specs.Following.{CallingFollows};
 ghost use Rattle.world_pipes.specs.Piped.{Calls};
 
 use crate::piped_client::PipedClient;
 use crate::sending::{Sending, send_up};
-use client::ClientError;
-use packet::{Payload, QoS};
+use client_base::ClientError;
+use packet_base::{Payload, QoS};
 use topics::{Filter, TopicName};
 
 impl PipedClient {

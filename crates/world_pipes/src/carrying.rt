@@ -8,7 +8,8 @@ ghost use Rattle.world_pipes.specs.Inside.{CarriesToClient, stays_open};
 use crate::piped_client::PipedClient;
 use crate::sending::move_up;
 use crate::way::Way;
-use client::{ClientCore, ClientError};
+use client::ClientCore;
+use client_base::ClientError;
 
 impl PipedClient {
     /// Carries the first `count` bytes that are in transit on the newest connection, which the

@@ -1,15 +1,15 @@
 // The beginning and the end of a client's connections.
 
 ghost use Rattle.std.specs.Prelude.{◌≡◌, false, []};
-ghost use Rattle.client.specs.client_base.Steps.{Call, keeper_step};
+ghost use Rattle.client_base.specs.Steps.{Call, keeper_step};
 ghost use Rattle.world_pipes.specs.Following.{CallingFollows, ConnectingFollows};
 ghost use Rattle.world_pipes.specs.Piped.{SendsConnect, TakesLeave, is_holding, taken_back};
 
 use crate::piped_client::PipedClient;
 use crate::sending::{Sending, send_up};
 use crate::way::Way;
-use client::ClientError;
-use node_core::Port;
+use client_base::ClientError;
+use world_base::node_connections::Port;
 
 impl PipedClient {
     /// Opens a connection to the node at this index, which is to know it by this port: CONNECT is

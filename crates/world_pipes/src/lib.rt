@@ -5,14 +5,17 @@
 mod bytes_in_transit;
 mod calling;
 mod carrying;
+pub mod clients;
 mod connecting;
+pub mod events;
 mod laws;
 mod piped_client;
 mod sending;
 mod way;
 
-pub use client::{Accepted, ClientCore, ClientError};
+pub use client::ClientCore;
+pub use client_base::{Accepted, ClientError};
 pub use laws::clients_step_in_worlds;
-pub use node_core::Port;
 pub use piped_client::PipedClient;
 pub use sending::Sending;
+pub use world_base::node_connections::Port;

@@ -2,7 +2,7 @@
 
 ghost use Rattle.std.specs.Prelude.{◌≡◌, ◌<◌, ◌≤◌, drop, length, set, slice_get, IfSome};
 ghost use Rattle.client.specs.Core.{gone};
-ghost use Rattle.byte_world.specs.World.{new_client};
+ghost use Rattle.headline.specs.byte_world.World.{new_client};
 ghost use Rattle.world_pipes.specs.Following.{FollowsLosing};
 ghost use Rattle.world_pipes.specs.FollowingBytes.{SwappingFollows, TakingUpFollows};
 ghost use Rattle.world_pipes.specs.Piped.{is_holding, new_piped};
@@ -10,10 +10,10 @@ ghost use Rattle.world_pipes.specs.StandsFor.{ClientStandsFor};
 
 use crate::way::Way;
 use client::ClientCore;
-use node_core::Port;
-use packet::ClientId;
+use packet_base::ClientId;
 use std::alloc::Global;
 use std::marker::Model;
+use world_base::node_connections::Port;
 
 /// A client with all its connections, the oldest first, and the bytes in transit on each. It holds
 /// at most the newest one; what is in transit to nodes on the others still comes up, and the client

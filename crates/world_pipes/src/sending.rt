@@ -4,7 +4,8 @@ ghost use Rattle.std.specs.Prelude.{◌≡◌, ◌<◌, true, length, OnOk, OnEr
 ghost use Rattle.world_pipes.specs.Inside.{MovesUp, SendsUp};
 
 use crate::way::Way;
-use client::{ClientCore, ClientError};
+use client::ClientCore;
+use client_base::ClientError;
 
 /// What happened to what a call wrote.
 #[derive(Clone, Copy, Debug, PartialEq, Eq)]

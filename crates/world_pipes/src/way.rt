@@ -4,8 +4,8 @@ ghost use Rattle.std.specs.Prelude.{◌≡◌};
 ghost use Rattle.world_pipes.specs.Piped.{new_way};
 
 use crate::bytes_in_transit::BytesInTransit;
-use node_core::Port;
 use std::alloc::Global;
+use world_base::node_connections::Port;
 
 /// Where a connection leads, and the bytes in transit on it.
 #[derive(Drop)]

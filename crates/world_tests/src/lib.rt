@@ -1,5 +1,7 @@
-//! Long runs of worlds, and one client with its pipes. It has only tests.
+//! Tests of whole worlds: long runs, tables of rows, ways to recover.
 #![tactic(auto)]
 
+pub mod rows;
+pub mod tables;
 #[cfg(test)]
 mod tests;

@@ -5,8 +5,8 @@ use Rattle.std.proofs.lemmas.Bool.{cases_lt}
 use Rattle.std.proofs.lemmas.List.{length-take-le}
 use Rattle.machine.specs.Machine.{Rules}
 use Rattle.agreement.specs.World.{GroupWorld}
-use Rattle.whole.specs.lists.Lists.{In, IsPrefixOf}
-use Rattle.whole.specs.lists.Lists.In.{here, there}
+use Rattle.lists.specs.Lists.{In, IsPrefixOf}
+use Rattle.lists.specs.Lists.In.{here, there}
 use Rattle.agreement.specs.Inside.Chosen.{IsAgreedIn}
 use Rattle.agreement.specs.Inside.Ballots.{Given, Line, History, Told, IsChosenIn}
 use Rattle.agreement.specs.Inside.BallotsStand.{IsChain}
@@ -14,7 +14,7 @@ use Rattle.agreement.specs.MasterState.{MasterState}
 use Rattle.agreement.specs.Inside.Masters.{IsMaster}
 use Rattle.agreement.specs.Inside.Sound.{IsSoundWorld}
 use Rattle.agreement.specs.Inside.ToldLengths.{told_length, least_of, chosen_length}
-use Rattle.whole.proofs.of_lists.Prefixes.{prefix_then, prefix_take, take_prefix}
+use Rattle.lists.proofs.Prefixes.{prefix_then, prefix_take, take_prefix}
 use Rattle.agreement.proofs.Frame.Apart.{chosen_within}
 use Rattle.agreement.proofs.Masters.Assigned.{at_most_newest}
 use Rattle.agreement.proofs.Frame.Framing.{within_of}

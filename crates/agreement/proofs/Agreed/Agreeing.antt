@@ -4,9 +4,9 @@ use Rattle.std.specs.Prelude.{slice_get}
 use Rattle.std.proofs.lemmas.Bool.{cases_lt}
 use Rattle.std.proofs.lemmas.List.{length-take-le}
 use Rattle.machine.specs.Machine.{Rules}
-use Rattle.whole.specs.Replica.{ReplicaState}
+use Rattle.agreement.specs.whole_logs.Replica.{ReplicaState}
 use Rattle.agreement.specs.World.{GroupWorld}
-use Rattle.whole.specs.lists.Lists.{In, IsPrefixOf}
+use Rattle.lists.specs.Lists.{In, IsPrefixOf}
 use Rattle.agreement.specs.Inside.Chosen.{ChosenList, IsAgreedIn}
 use Rattle.agreement.specs.Agreement.{Agrees}
 use Rattle.agreement.specs.Leaving.{LeftInOrder, Segment}
@@ -16,7 +16,7 @@ use Rattle.agreement.specs.Inside.Keeps.{HistoryGoesOn}
 use Rattle.agreement.specs.MasterState.{MasterState}
 use Rattle.agreement.specs.Inside.Masters.{IsMaster}
 use Rattle.agreement.specs.Inside.Sound.{IsSoundWorld}
-use Rattle.whole.proofs.of_lists.Prefixes.{prefix_then, prefix_either, prefix_length}
+use Rattle.lists.proofs.Prefixes.{prefix_then, prefix_either, prefix_length}
 use Rattle.agreement.proofs.Frame.Apart.{chosen_within}
 use Rattle.agreement.proofs.Frame.Framing.{within_of}
 use Rattle.agreement.proofs.Frame.Later.{chosen_kept, takes}

@@ -1,8 +1,8 @@
 -- MomentsAgree.antt: the nodes agree on the list that is agreed by the moments.
 use Rattle.std.proofs.Common.{◌≡◌, ℕ, ◌⊎◌, inl, inr, List, [], ◌∷◌, refl, sym, subst}
 use Rattle.machine.specs.Machine.{Rules}
-use Rattle.whole.specs.lists.Lists.{IsPrefixOf}
-use Rattle.whole.specs.ballot_base.declared.config.Config.{Config}
+use Rattle.lists.specs.Lists.{IsPrefixOf}
+use Rattle.ballot_base.specs.declared.config.Config.{Config}
 use Rattle.agreement.specs.Inside.Chosen.{ChosenList, IsAgreedIn}
 use Rattle.agreement.specs.Laws.{HasAgreed, NodesAgree, MachinesReplay}
 use Rattle.agreement.specs.Moments.{Moment, WasActive, IsChosen, IsAgreed}

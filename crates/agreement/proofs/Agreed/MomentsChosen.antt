@@ -1,9 +1,9 @@
 -- MomentsChosen.antt: what is chosen by the moments is so by the history, and the other way round.
 use Rattle.std.proofs.Common.{◌≡◌, ℕ, zero, suc, ◌+◌, ◌<◌, ◌≤◌, ◌⊎◌, inl, inr, List, [], ◌∷◌, length, take, Some, refl, ap, sym, ◌∙◌, subst, arith}
 use Rattle.machine.specs.Machine.{Rules}
-use Rattle.whole.specs.lists.Lists.{In, IsPrefixOf}
-use Rattle.whole.proofs.of_lists.Prefixes.{prefix_then, prefix_take, prefix_length, take_prefix}
-use Rattle.whole.specs.ballot_base.declared.config.Config.{Config}
+use Rattle.lists.specs.Lists.{In, IsPrefixOf}
+use Rattle.lists.proofs.Prefixes.{prefix_then, prefix_take, prefix_length, take_prefix}
+use Rattle.ballot_base.specs.declared.config.Config.{Config}
 use Rattle.agreement.specs.Inside.Chosen.{ChosenList}
 use Rattle.agreement.specs.Inside.Ballots.{Given, Line, Told}
 use Rattle.agreement.specs.Moments.{Moment, HasConfig, WasActive, HasTold, IsChosen}

@@ -1,9 +1,9 @@
 -- MomentsGrow.antt: what was acknowledged, chosen and active stays so after a further moment, so the
 -- agreed list only grows.
 use Rattle.std.proofs.Common.{◌≡◌, ℕ, ◌⊎◌, inl, inr, List, [], ◌∷◌, refl, sym, subst}
-use Rattle.whole.specs.lists.Lists.{IsPrefixOf}
-use Rattle.whole.specs.lists.Lists.In.{there}
-use Rattle.whole.specs.ballot_base.declared.config.Config.{Config}
+use Rattle.lists.specs.Lists.{IsPrefixOf}
+use Rattle.lists.specs.Lists.In.{there}
+use Rattle.ballot_base.specs.declared.config.Config.{Config}
 use Rattle.machine.specs.Machine.{Rules}
 use Rattle.agreement.specs.Laws.{AgreedGrows}
 use Rattle.agreement.specs.Moments.{Moment, HasConfig, WasActive, HasTold, IsChosen, IsAgreed}

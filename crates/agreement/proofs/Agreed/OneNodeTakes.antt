@@ -4,15 +4,15 @@ use Rattle.std.specs.Prelude.{slice_get, nat_lt, ◌==◌}
 use Rattle.std.proofs.lemmas.Bool.{cases_eq, eq-eqb, ne_eqb}
 use Rattle.std.proofs.lemmas.List.Elements.{filter-append}
 use Rattle.machine.specs.Machine.{Rules}
-use Rattle.whole.specs.lists.Lists.{In}
-use Rattle.whole.specs.lists.Lists.In.{here, there}
-use Rattle.whole.specs.ballot_base.declared.config.Config.{Config}
-use Rattle.whole.specs.Messages.{Effect}
-use Rattle.whole.specs.Losses.{Loses}
-use Rattle.whole.specs.Protocol.{Input, replica_step}
-use Rattle.whole.specs.Protocol.Input.{Receives, Proposes, Ticks}
-use Rattle.whole.specs.Replica.{ReplicaState}
-use Rattle.whole.proofs.StepRows.{added-log}
+use Rattle.lists.specs.Lists.{In}
+use Rattle.lists.specs.Lists.In.{here, there}
+use Rattle.ballot_base.specs.declared.config.Config.{Config}
+use Rattle.agreement.specs.whole_logs.Messages.{Effect}
+use Rattle.agreement.specs.whole_logs.Losses.{Loses}
+use Rattle.agreement.specs.whole_logs.Protocol.{Input, replica_step}
+use Rattle.agreement.specs.whole_logs.Protocol.Input.{Receives, Proposes, Ticks}
+use Rattle.agreement.specs.whole_logs.Replica.{ReplicaState}
+use Rattle.agreement.proofs.of_whole_logs.StepRows.{added-log}
 use Rattle.agreement.specs.Laws.{OneNodeTakesABallot}
 use Rattle.agreement.specs.MasterState.{MasterState}
 use Rattle.agreement.specs.Moments.{Moment, Moments}

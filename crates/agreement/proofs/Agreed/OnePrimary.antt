@@ -1,8 +1,8 @@
 -- OnePrimary.antt: a ballot has one active primary at most, over all moments of a group.
 use Rattle.std.proofs.Common.{◌≡◌, ℕ, ◌+◌, List, ◌∷◌, Some, Option, ap, sym, ◌∙◌, arith}
 use Rattle.machine.specs.Machine.{Rules}
-use Rattle.whole.specs.lists.Lists.{In}
-use Rattle.whole.specs.ballot_base.declared.config.Config.{Config}
+use Rattle.lists.specs.Lists.{In}
+use Rattle.ballot_base.specs.declared.config.Config.{Config}
 use Rattle.agreement.specs.Inside.Ballots.{Given}
 use Rattle.agreement.specs.Laws.{OnePrimaryABallot}
 use Rattle.agreement.specs.Moments.{Moment}

@@ -3,18 +3,19 @@ use Rattle.std.proofs.Common.{◌≡◌, ℕ, ◌+◌, ◌≤◌, ◌⊎◌, inl
 use Rattle.std.specs.Prelude.{slice_get, nat_lt, nat_le, ◌&&◌, ◌==◌}
 use Rattle.std.proofs.lemmas.Bool.{cases_Bool, and_parts, leb-true, eqb-true}
 use Rattle.machine.specs.Machine.{Rules, replay}
-use Rattle.whole.proofs.AppliesInOrder.{replay_goes_on}
-use Rattle.whole.specs.Applying.{applied_to}
-use Rattle.whole.specs.Messages.Body.{Activated}
-use Rattle.whole.specs.ballot_base.declared.status.Progress.{Progress}
-use Rattle.whole.specs.ballot_base.declared.status.Role.TheVariants.{Active}
-use Rattle.whole.specs.Replica.{ReplicaState, is_installing, others, progress_at}
-use Rattle.whole.specs.Sending.{Outcome}
-use Rattle.whole.specs.Serving.{max_places}
-use Rattle.whole.specs.Activating.{on_activated}
+use Rattle.ballot_base.proofs.AppliesInOrder.{replay_goes_on}
+use Rattle.agreement.specs.whole_logs.Applying.{applied_to}
+use Rattle.agreement.specs.whole_logs.Messages.Body.{Activated}
+use Rattle.ballot_base.specs.declared.status.Progress.{Progress}
+use Rattle.ballot_base.specs.declared.status.Role.TheVariants.{Active}
+use Rattle.agreement.specs.whole_logs.Replica.{ReplicaState}
+use Rattle.ballot_base.specs.Replica.{is_installing, others, progress_at}
+use Rattle.agreement.specs.whole_logs.Sending.{Outcome}
+use Rattle.ballot_base.specs.Serving.{max_places}
+use Rattle.agreement.specs.whole_logs.Activating.{on_activated}
 use Rattle.agreement.specs.World.{GroupWorld}
-use Rattle.whole.specs.lists.Lists.{In, IsPrefixOf}
-use Rattle.whole.specs.lists.Lists.In.{here, there}
+use Rattle.lists.specs.Lists.{In, IsPrefixOf}
+use Rattle.lists.specs.Lists.In.{here, there}
 use Rattle.agreement.specs.Inside.Ballots.{Given, History, Told}
 use Rattle.agreement.specs.Inside.BallotsStand.Applied.{in_ballot}
 use Rattle.agreement.specs.Inside.Keeps.{KeepsAdding}
@@ -31,7 +32,7 @@ use Rattle.agreement.proofs.Frame.Later.{takes}
 use Rattle.agreement.proofs.Frame.Quiet.{keeps_nothing}
 use Rattle.agreement.proofs.Frame.Bases.{chosen_told}
 use Rattle.agreement.proofs.Frame.Roles.{role_installing}
-use Rattle.whole.proofs.ChangeRows.{on_activated-stays, on_activated-adds}
+use Rattle.agreement.proofs.of_whole_logs.ChangeRows.{on_activated-stays, on_activated-adds}
 
 -- the progress that are made for some members
 pub reached_of : (held : ℕ) (ms : List ℕ) (reached : Progress) → In reached (progress_at held ms) → In reached.member ms × (reached.held ≡ held)

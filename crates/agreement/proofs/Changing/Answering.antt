@@ -3,19 +3,19 @@ use Rattle.std.proofs.Common.{◌≡◌, ℕ, ◌+◌, ◌<◌, ◌≤◌, ◌�
 use Rattle.std.specs.Prelude.{slice_get, nat_lt, nat_le, ◌&&◌, ◌||◌, ◌==◌}
 use Rattle.std.proofs.lemmas.Bool.{cases_Bool, and_parts, or_cases, ltb-true, leb-true, eqb-true}
 use Rattle.machine.specs.Machine.{Rules}
-use Rattle.whole.specs.Messages.Body.{Install, Installed}
-use Rattle.whole.specs.Replica.{ReplicaState}
-use Rattle.whole.specs.Sending.{Outcome, message_to}
-use Rattle.whole.specs.Changing.{on_install}
+use Rattle.agreement.specs.whole_logs.Messages.Body.{Install, Installed}
+use Rattle.agreement.specs.whole_logs.Replica.{ReplicaState}
+use Rattle.agreement.specs.whole_logs.Sending.{Outcome, message_to}
+use Rattle.agreement.specs.whole_logs.Changing.{on_install}
 use Rattle.agreement.specs.World.{GroupWorld, moved}
-use Rattle.whole.specs.lists.Lists.{In, IsPrefixOf}
+use Rattle.lists.specs.Lists.{In, IsPrefixOf}
 use Rattle.agreement.specs.Inside.Ballots.{Given, Line, History}
 use Rattle.agreement.specs.Inside.Keeps.LineAdds.{as_it_was}
 use Rattle.agreement.specs.Inside.Keeps.{KeepsSoundness}
 use Rattle.agreement.specs.Inside.MovesAt.{MovesAt, with_lines}
 use Rattle.agreement.specs.Inside.Sound.{IsSoundWorld}
 use Rattle.agreement.specs.Inside.SoundNodes.{IsSoundNode}
-use Rattle.whole.proofs.of_lists.Prefixes.{prefix_length}
+use Rattle.lists.proofs.Prefixes.{prefix_length}
 use Rattle.agreement.proofs.Effects.{thinned_messages}
 use Rattle.agreement.proofs.Frame.MoveLines.{tells_here}
 use Rattle.agreement.proofs.Frame.Framing.{within_of, move_extends}
@@ -24,7 +24,7 @@ use Rattle.agreement.proofs.Changing.Installs.{install_taken}
 use Rattle.agreement.proofs.Frame.Leaving.{left_same}
 use Rattle.agreement.proofs.Frame.Moved.{move_sound}
 use Rattle.agreement.proofs.Frame.Quiet.{keeps_nothing}
-use Rattle.whole.proofs.ChangeRows.{on_install-takes, on_install-answers, on_install-stays}
+use Rattle.agreement.proofs.of_whole_logs.ChangeRows.{on_install-takes, on_install-answers, on_install-stays}
 use Rattle.agreement.proofs.Changing.SameNode.{same_node}
 
 -- an Install that is answered

@@ -2,13 +2,14 @@
 use Rattle.std.proofs.Common.{◌≡◌, ℕ, ◌+◌, ◌⊎◌, inl, inr, true, List, [], ◌∷◌, length, Some, refl, ap, sym, ◌∙◌, subst, arith}
 use Rattle.std.specs.Prelude.{slice_get}
 use Rattle.machine.specs.Machine.{Rules}
-use Rattle.whole.specs.Messages.{Message, Effect}
-use Rattle.whole.specs.Messages.Body.{Installed}
-use Rattle.whole.specs.Replica.{ReplicaState, is_installing, others}
-use Rattle.whole.specs.Activating.{activates}
+use Rattle.agreement.specs.whole_logs.Messages.{Message, Effect}
+use Rattle.agreement.specs.whole_logs.Messages.Body.{Installed}
+use Rattle.agreement.specs.whole_logs.Replica.{ReplicaState}
+use Rattle.ballot_base.specs.Replica.{is_installing, others}
+use Rattle.agreement.specs.whole_logs.Activating.{activates}
 use Rattle.agreement.specs.World.{GroupWorld, messages, outputs, moved}
-use Rattle.whole.specs.lists.Lists.{In}
-use Rattle.whole.specs.lists.Lists.In.{here, there}
+use Rattle.lists.specs.Lists.{In}
+use Rattle.lists.specs.Lists.In.{here, there}
 use Rattle.agreement.specs.Inside.Ballots.{Given, Line, History, Told}
 use Rattle.agreement.specs.Inside.BallotsStand.{Applied}
 use Rattle.agreement.specs.Inside.Extending.{Extends}

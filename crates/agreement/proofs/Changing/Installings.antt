@@ -4,17 +4,18 @@ use Rattle.std.specs.Prelude.{slice_get, ◌&&◌, ◌==◌}
 use Rattle.std.specs.List.{list_any}
 use Rattle.std.proofs.lemmas.Bool.{cases_Bool, and_parts, eqb-true}
 use Rattle.machine.specs.Machine.{Rules}
-use Rattle.whole.specs.Messages.Body.{Installed}
-use Rattle.whole.specs.Replica.{ReplicaState, is_installing}
-use Rattle.whole.specs.Sending.{Outcome}
-use Rattle.whole.specs.Activating.{on_installed}
+use Rattle.agreement.specs.whole_logs.Messages.Body.{Installed}
+use Rattle.agreement.specs.whole_logs.Replica.{ReplicaState}
+use Rattle.ballot_base.specs.Replica.{is_installing}
+use Rattle.agreement.specs.whole_logs.Sending.{Outcome}
+use Rattle.agreement.specs.whole_logs.Activating.{on_installed}
 use Rattle.agreement.specs.World.{GroupWorld}
-use Rattle.whole.specs.lists.Lists.{In}
+use Rattle.lists.specs.Lists.{In}
 use Rattle.agreement.specs.Inside.Ballots.{History}
 use Rattle.agreement.specs.Inside.Keeps.{KeepsSoundness}
 use Rattle.agreement.specs.Inside.Sound.{IsSoundWorld}
 use Rattle.agreement.proofs.Frame.Quiet.{keeps_nothing}
-use Rattle.whole.proofs.ChangeRows.{on_installed-stays, on_installed-counts}
+use Rattle.agreement.proofs.of_whole_logs.ChangeRows.{on_installed-stays, on_installed-counts}
 use Rattle.agreement.proofs.Changing.InstalledCounts.{installed_noted}
 
 -- an Installed that comes

@@ -3,15 +3,15 @@ use Rattle.std.proofs.Common.{◌≡◌, ℕ, ◌+◌, ◌<◌, ◌≤◌, ◌�
 use Rattle.std.specs.Prelude.{slice_get, nat_lt, nat_le, ◌&&◌}
 use Rattle.std.proofs.lemmas.Bool.{cases_Bool, and_parts, ltb-true, leb-true, ltb-false}
 use Rattle.machine.specs.Machine.{Rules}
-use Rattle.whole.specs.Messages.{Message, Effect}
-use Rattle.whole.specs.Messages.Body.{Join, State}
-use Rattle.whole.specs.ballot_base.declared.status.Role.TheVariants.{Backup}
-use Rattle.whole.specs.Replica.{ReplicaState}
-use Rattle.whole.specs.Sending.{Outcome, message_to}
-use Rattle.whole.specs.Changing.{on_join}
+use Rattle.agreement.specs.whole_logs.Messages.{Message, Effect}
+use Rattle.agreement.specs.whole_logs.Messages.Body.{Join, State}
+use Rattle.ballot_base.specs.declared.status.Role.TheVariants.{Backup}
+use Rattle.agreement.specs.whole_logs.Replica.{ReplicaState}
+use Rattle.agreement.specs.whole_logs.Sending.{Outcome, message_to}
+use Rattle.agreement.specs.whole_logs.Changing.{on_join}
 use Rattle.agreement.specs.World.{GroupWorld, messages, moved}
-use Rattle.whole.specs.lists.Lists.{In}
-use Rattle.whole.specs.lists.Lists.In.{here, there}
+use Rattle.lists.specs.Lists.{In}
+use Rattle.lists.specs.Lists.In.{here, there}
 use Rattle.agreement.specs.Inside.Ballots.{Given, History, Sealed}
 use Rattle.agreement.specs.Inside.BallotsStand.{Applied, BallotListsStand}
 use Rattle.agreement.specs.Inside.BallotsStand.Applied.{nothing, in_ballot}
@@ -19,13 +19,13 @@ use Rattle.agreement.specs.Inside.Keeps.{KeepsSoundness}
 use Rattle.agreement.specs.Inside.Sound.{IsSoundWorld}
 use Rattle.agreement.specs.Inside.SoundNodes.{IsSoundNode}
 use Rattle.agreement.specs.Inside.Saying.{SpeaksTruth, IsOffered}
-use Rattle.whole.proofs.of_lists.Places.{get_set}
+use Rattle.lists.proofs.Places.{get_set}
 use Rattle.agreement.proofs.Frame.Framing.{within_of}
 use Rattle.agreement.proofs.Frame.SaysLater.{joined_kept}
 use Rattle.agreement.proofs.Frame.Joining.{AreSilent, MovesQuietly, quiet_extends}
 use Rattle.agreement.proofs.Frame.QuietWorlds.{quiet_lines}
 use Rattle.agreement.proofs.Frame.Quiet.{before_quiet, quiet_keeps, keeps_nothing}
-use Rattle.whole.proofs.ChangeRows.{on_join-stays, on_join-answers}
+use Rattle.agreement.proofs.of_whole_logs.ChangeRows.{on_join-stays, on_join-answers}
 use Rattle.agreement.proofs.Frame.Sealing.{joined_seals, joined_offers}
 
 -- what a node is that answers a Join: as it was, or a backup of the ballot

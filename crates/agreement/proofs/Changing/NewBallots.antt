@@ -3,15 +3,15 @@ use Rattle.std.proofs.Common.{◌≡◌, ℕ, ◌+◌, ◌<◌, ◌≤◌, ◌�
 use Rattle.std.specs.Prelude.{slice_get}
 use Rattle.std.proofs.lemmas.Bool.{cases_lt}
 use Rattle.machine.specs.Machine.{Rules}
-use Rattle.whole.specs.Messages.{Message, Body, Effect}
-use Rattle.whole.specs.Messages.Body.{NewBallot, Join}
-use Rattle.whole.specs.ballot_base.declared.status.Role.TheVariants.{Fetching}
-use Rattle.whole.specs.Replica.{ReplicaState}
-use Rattle.whole.specs.Sending.{Outcome, message_to_each}
-use Rattle.whole.specs.Changing.{on_new_ballot}
+use Rattle.agreement.specs.whole_logs.Messages.{Message, Body, Effect}
+use Rattle.agreement.specs.whole_logs.Messages.Body.{NewBallot, Join}
+use Rattle.ballot_base.specs.declared.status.Role.TheVariants.{Fetching}
+use Rattle.agreement.specs.whole_logs.Replica.{ReplicaState}
+use Rattle.agreement.specs.whole_logs.Sending.{Outcome, message_to_each}
+use Rattle.agreement.specs.whole_logs.Changing.{on_new_ballot}
 use Rattle.agreement.specs.World.{GroupWorld, messages, outputs, moved}
-use Rattle.whole.specs.lists.Lists.{In}
-use Rattle.whole.specs.lists.Lists.In.{here, there}
+use Rattle.lists.specs.Lists.{In}
+use Rattle.lists.specs.Lists.In.{here, there}
 use Rattle.agreement.specs.Inside.Ballots.{Given, Line, History}
 use Rattle.agreement.specs.Inside.BallotsStand.{Applied}
 use Rattle.agreement.specs.Inside.Ballots.Told.{told_as_primary}
@@ -20,10 +20,10 @@ use Rattle.agreement.specs.Inside.Keeps.{KeepsSoundness}
 use Rattle.agreement.specs.Inside.Sound.{IsSoundWorld}
 use Rattle.agreement.specs.Inside.SoundNodes.{IsSoundNode}
 use Rattle.agreement.specs.Inside.Saying.{SpeaksTruth}
-use Rattle.whole.proofs.of_lists.Places.{get_set}
+use Rattle.lists.proofs.Places.{get_set}
 use Rattle.agreement.proofs.Frame.Joining.{IsSilent, MovesQuietly}
 use Rattle.agreement.proofs.Frame.Quiet.{before_quiet, quiet_keeps, keeps_nothing}
-use Rattle.whole.proofs.ChangeRows.{on_new_ballot-joins, on_new_ballot-stays}
+use Rattle.agreement.proofs.of_whole_logs.ChangeRows.{on_new_ballot-joins, on_new_ballot-stays}
 
 -- a message to each of some nodes
 pub said_to_each : {C : Type 0} (O : Type 0) (P : ℕ → Message C → Type 0) (id : ℕ) (body : Body C) (tos : List ℕ) →

@@ -1,9 +1,9 @@
 -- StateHears.antt: what a fetching primary knows when a State of its ballot comes.
 use Rattle.std.proofs.Common.{◌≡◌, ℕ, ◌+◌, ◌<◌, inl, inr, List, Some, None, ap, sym, ◌∙◌}
-use Rattle.whole.specs.Messages.Body.{State}
-use Rattle.whole.specs.Replica.{ReplicaState}
+use Rattle.agreement.specs.whole_logs.Messages.Body.{State}
+use Rattle.agreement.specs.whole_logs.Replica.{ReplicaState}
 use Rattle.agreement.specs.World.{GroupWorld}
-use Rattle.whole.specs.lists.Lists.{IsPrefixOf}
+use Rattle.lists.specs.Lists.{IsPrefixOf}
 use Rattle.agreement.specs.Inside.Ballots.{Given, Line, History, Sealed}
 use Rattle.agreement.specs.Inside.SoundNodes.{IsFetching}
 use Rattle.agreement.specs.Inside.Saying.{SpeaksTruth, IsOf, IsOffered}

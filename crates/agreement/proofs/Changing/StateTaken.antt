@@ -2,11 +2,12 @@
 use Rattle.std.proofs.Common.{◌≡◌, ℕ, ◌+◌, ◌≤◌, ◌⊎◌, inl, inr, List, length, take, Some, Option, refl, ap, sym, ◌∙◌, subst, arith}
 use Rattle.std.specs.Prelude.{slice_get}
 use Rattle.machine.specs.Machine.{Rules}
-use Rattle.whole.specs.ballot_base.declared.status.Role.TheVariants.{Installing}
-use Rattle.whole.specs.Replica.{ReplicaState, others}
-use Rattle.whole.specs.Changing.{install_effects}
+use Rattle.ballot_base.specs.declared.status.Role.TheVariants.{Installing}
+use Rattle.agreement.specs.whole_logs.Replica.{ReplicaState}
+use Rattle.ballot_base.specs.Replica.{others}
+use Rattle.agreement.specs.whole_logs.Changing.{install_effects}
 use Rattle.agreement.specs.World.{GroupWorld, moved}
-use Rattle.whole.specs.lists.Lists.{In, IsPrefixOf}
+use Rattle.lists.specs.Lists.{In, IsPrefixOf}
 use Rattle.agreement.specs.Inside.Ballots.{Given, Line, History, Told}
 use Rattle.agreement.specs.Inside.BallotsStand.{Applied}
 use Rattle.agreement.specs.Inside.Extending.{Extends}
@@ -18,7 +19,7 @@ use Rattle.agreement.specs.Inside.MovesAt.{MovesAt, with_lines, lined_at}
 use Rattle.agreement.specs.Inside.MovesAt.LineGoesOn.{begins}
 use Rattle.agreement.specs.Inside.Sound.{IsSoundWorld}
 use Rattle.agreement.specs.Inside.SoundNodes.{IsInstalling, IsSoundNode}
-use Rattle.whole.proofs.of_lists.Prefixes.{prefix_same}
+use Rattle.lists.proofs.Prefixes.{prefix_same}
 use Rattle.agreement.proofs.Effects.{thinned_messages, thinned_outputs}
 use Rattle.agreement.proofs.Frame.MoveLines.{tells_here}
 use Rattle.agreement.proofs.Frame.Framing.{within_of, move_extends}

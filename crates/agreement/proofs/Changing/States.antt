@@ -3,19 +3,20 @@ use Rattle.std.proofs.Common.{◌≡◌, ℕ, ◌+◌, ◌⊎◌, inl, inr, true
 use Rattle.std.specs.Prelude.{slice_get, nat_le, ◌&&◌, ◌==◌}
 use Rattle.std.proofs.lemmas.Bool.{cases_Bool, and_parts, leb-true, eqb-true}
 use Rattle.machine.specs.Machine.{Rules}
-use Rattle.whole.specs.Messages.Body.{State}
-use Rattle.whole.specs.ballot_base.declared.status.Role.TheVariants.{Installing}
-use Rattle.whole.specs.Replica.{ReplicaState, is_fetching, others}
-use Rattle.whole.specs.Sending.{Outcome}
-use Rattle.whole.specs.Changing.{install_effects, on_state}
+use Rattle.agreement.specs.whole_logs.Messages.Body.{State}
+use Rattle.ballot_base.specs.declared.status.Role.TheVariants.{Installing}
+use Rattle.agreement.specs.whole_logs.Replica.{ReplicaState}
+use Rattle.ballot_base.specs.Replica.{is_fetching, others}
+use Rattle.agreement.specs.whole_logs.Sending.{Outcome}
+use Rattle.agreement.specs.whole_logs.Changing.{install_effects, on_state}
 use Rattle.agreement.specs.World.{GroupWorld}
-use Rattle.whole.specs.lists.Lists.{In}
+use Rattle.lists.specs.Lists.{In}
 use Rattle.agreement.specs.Inside.Ballots.{History}
 use Rattle.agreement.specs.Inside.Keeps.{KeepsSoundness}
 use Rattle.agreement.specs.Inside.Sound.{IsSoundWorld}
 use Rattle.agreement.proofs.Frame.Quiet.{keeps_nothing}
 use Rattle.agreement.proofs.Frame.Roles.{role_fetching}
-use Rattle.whole.proofs.ChangeRows.{on_state-stays, on_state-takes}
+use Rattle.agreement.proofs.of_whole_logs.ChangeRows.{on_state-stays, on_state-takes}
 use Rattle.agreement.proofs.Changing.StateHears.{state_heard}
 use Rattle.agreement.proofs.Changing.StateTaken.{state_taken}
 

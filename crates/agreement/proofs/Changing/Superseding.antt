@@ -3,11 +3,12 @@ use Rattle.std.proofs.Common.{◌≡◌, ℕ, ◌⊎◌, inl, inr, true, false, 
 use Rattle.std.specs.Prelude.{slice_get, ◌&&◌, ◌==◌}
 use Rattle.std.proofs.lemmas.Bool.{cases_Bool}
 use Rattle.machine.specs.Machine.{Rules}
-use Rattle.whole.specs.Messages.{Effect}
-use Rattle.whole.specs.ballot_base.declared.status.Role.TheVariants.{Backup}
-use Rattle.whole.specs.Replica.{ReplicaState, is_installing}
-use Rattle.whole.specs.Sending.{Outcome}
-use Rattle.whole.specs.Activating.{on_superseded}
+use Rattle.agreement.specs.whole_logs.Messages.{Effect}
+use Rattle.ballot_base.specs.declared.status.Role.TheVariants.{Backup}
+use Rattle.agreement.specs.whole_logs.Replica.{ReplicaState}
+use Rattle.ballot_base.specs.Replica.{is_installing}
+use Rattle.agreement.specs.whole_logs.Sending.{Outcome}
+use Rattle.agreement.specs.whole_logs.Activating.{on_superseded}
 use Rattle.agreement.specs.World.{GroupWorld, moved}
 use Rattle.agreement.specs.Inside.Ballots.{History}
 use Rattle.agreement.specs.Inside.BallotsStand.{Applied}
@@ -17,7 +18,7 @@ use Rattle.agreement.specs.Inside.Sound.{IsSoundWorld}
 use Rattle.agreement.specs.Inside.SoundNodes.{IsSoundNode}
 use Rattle.agreement.proofs.Frame.Joining.{MovesQuietly}
 use Rattle.agreement.proofs.Frame.Quiet.{before_quiet, quiet_keeps, keeps_nothing}
-use Rattle.whole.proofs.ChangeRows.{on_superseded-stays, on_superseded-leaves}
+use Rattle.agreement.proofs.of_whole_logs.ChangeRows.{on_superseded-stays, on_superseded-leaves}
 
 -- a Superseded that comes; nothing that it says is needed
 pub keeps_superseded : {S C O : Type 0} (rules : Rules S C O) (w : GroupWorld S C O) (h : History C) (n : ℕ) (r : ReplicaState S C) (b : ℕ) →

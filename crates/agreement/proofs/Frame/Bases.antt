@@ -1,11 +1,11 @@
 -- Bases.antt: a ballot has one list, and what is chosen before it lies within its base.
 use Rattle.std.proofs.Common.{◌≡◌, ℕ, ◌+◌, List, [], ◌∷◌, length, take, Some, Option, refl, ap, ◌∙◌, subst, arith}
 use Rattle.agreement.specs.World.{GroupWorld}
-use Rattle.whole.specs.lists.Lists.{In, IsPrefixOf}
-use Rattle.whole.specs.lists.Lists.In.{here, there}
+use Rattle.lists.specs.Lists.{In, IsPrefixOf}
+use Rattle.lists.specs.Lists.In.{here, there}
 use Rattle.agreement.specs.Inside.Ballots.{Given, Line, History, Told, IsChosenIn, Sealed}
 use Rattle.agreement.specs.Inside.BallotsStand.{IsChain, BallotListsStand}
-use Rattle.whole.proofs.of_lists.Prefixes.{prefix_then, take_prefix}
+use Rattle.lists.proofs.Prefixes.{prefix_then, take_prefix}
 
 -- there is one list of a ballot
 pub one_line : {C : Type 0} (o : Option (Line C)) (l m : Line C) → o ≡ Some l → o ≡ Some m → l ≡ m

@@ -1,7 +1,7 @@
 -- EqualLists.antt: equal lists begin one another.
 use Rattle.std.proofs.Common.{◌≡◌, List, subst}
-use Rattle.whole.specs.lists.Lists.{IsPrefixOf}
-use Rattle.whole.proofs.of_lists.Prefixes.{prefix_same}
+use Rattle.lists.specs.Lists.{IsPrefixOf}
+use Rattle.lists.proofs.Prefixes.{prefix_same}
 
 -- a list that equals another begins it
 pub prefix_of_same : {X : Type 0} (xs ys : List X) → xs ≡ ys → IsPrefixOf xs ys

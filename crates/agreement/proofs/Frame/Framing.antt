@@ -3,16 +3,16 @@ use Rattle.std.proofs.Common.{◌≡◌, ℕ, ◌+◌, ◌≤◌, ◌⊎◌, inl
 use Rattle.std.specs.Prelude.{slice_get}
 use Rattle.std.proofs.lemmas.Bool.{cases_eq}
 use Rattle.machine.specs.Machine.{Rules}
-use Rattle.whole.specs.Messages.{Effect}
-use Rattle.whole.specs.Replica.{ReplicaState}
+use Rattle.agreement.specs.whole_logs.Messages.{Effect}
+use Rattle.agreement.specs.whole_logs.Replica.{ReplicaState}
 use Rattle.agreement.specs.World.{GroupWorld, messages, moved}
 use Rattle.agreement.specs.Inside.Ballots.{Line, History, Told}
 use Rattle.agreement.specs.Inside.Extending.{Extends, AcknowledgedIsWithin}
 use Rattle.agreement.specs.Inside.MovesAt.{MovesAt, with_lines, TellsNow}
 use Rattle.agreement.specs.Inside.Sound.{IsSoundWorld}
-use Rattle.whole.proofs.of_lists.Prefixes.{prefix_length}
-use Rattle.whole.proofs.of_lists.Places.{get_set, get_set_other}
-use Rattle.whole.proofs.of_lists.Members.{in_left}
+use Rattle.lists.proofs.Prefixes.{prefix_length}
+use Rattle.lists.proofs.Places.{get_set, get_set_other}
+use Rattle.lists.proofs.Members.{in_left}
 
 -- what is acknowledged of a ballot with a list lies within it
 pub within_of : {S C O : Type 0} (rules : Rules S C O) (w : GroupWorld S C O) (h : History C) → IsSoundWorld rules w h → AcknowledgedIsWithin w h

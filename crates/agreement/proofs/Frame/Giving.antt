@@ -6,20 +6,20 @@ use Rattle.std.specs.List.{flat_map}
 use Rattle.std.proofs.lemmas.Grind.{flat_map-append}
 use Rattle.std.proofs.lemmas.List.{append-nil, take-take}
 use Rattle.machine.specs.Machine.{Rules, replay}
-use Rattle.whole.specs.Messages.{Effect}
-use Rattle.whole.specs.Replica.{ReplicaState}
-use Rattle.whole.specs.Applying.{outputs_from, outputs_between}
+use Rattle.agreement.specs.whole_logs.Messages.{Effect}
+use Rattle.agreement.specs.whole_logs.Replica.{ReplicaState}
+use Rattle.agreement.specs.whole_logs.Applying.{outputs_from, outputs_between}
 use Rattle.agreement.specs.World.{GroupWorld, outputs, moved}
-use Rattle.whole.specs.lists.Lists.{In, IsPrefixOf}
-use Rattle.whole.specs.lists.Lists.In.{here, there}
+use Rattle.lists.specs.Lists.{In, IsPrefixOf}
+use Rattle.lists.specs.Lists.In.{here, there}
 use Rattle.agreement.specs.Inside.Ballots.{Given, Line, History, IsChosenIn}
 use Rattle.agreement.specs.Inside.BallotsStand.{AreBallots, BallotListsStand}
 use Rattle.agreement.specs.Inside.Extending.{Extends, AcknowledgedIsWithin}
 use Rattle.agreement.specs.Inside.MovesAt.{MovesAt, with_lines}
 use Rattle.agreement.specs.Inside.Sound.{LeftIs, IsSoundWorld}
 use Rattle.agreement.specs.Leaving.{Segment}
-use Rattle.whole.proofs.of_lists.Places.{get_set}
-use Rattle.whole.proofs.of_lists.Members.{in_append, in_at}
+use Rattle.lists.proofs.Places.{get_set}
+use Rattle.lists.proofs.Members.{in_append, in_at}
 use Rattle.agreement.proofs.Frame.Apart.{above_now, below_now, chosen_within}
 use Rattle.agreement.proofs.Frame.Framing.{within_of, move_extends, move_within}
 use Rattle.agreement.proofs.Frame.MoveLines.{move_lines}

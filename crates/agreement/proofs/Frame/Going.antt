@@ -2,13 +2,13 @@
 use Rattle.std.proofs.Common.{◌≡◌, ℕ, ◌+◌, ◌≤◌, ◌⊎◌, inl, inr, Some, refl, ◌∙◌, arith}
 use Rattle.std.specs.Prelude.{slice_get}
 use Rattle.machine.specs.Machine.{Rules}
-use Rattle.whole.specs.Replica.{ReplicaState}
+use Rattle.agreement.specs.whole_logs.Replica.{ReplicaState}
 use Rattle.agreement.specs.World.{GroupWorld}
 use Rattle.agreement.specs.Inside.Ballots.{History, Told}
 use Rattle.agreement.specs.Inside.Extending.{Extends}
 use Rattle.agreement.specs.Inside.Keeps.{HistoryGoesOn}
 use Rattle.agreement.specs.Inside.Sound.{IsSoundWorld}
-use Rattle.whole.proofs.of_lists.Prefixes.{prefix_same, prefix_then}
+use Rattle.lists.proofs.Prefixes.{prefix_same, prefix_then}
 
 -- nothing happened
 abbrev pub goes_same : {S C O : Type 0} (rules : Rules S C O) (w : GroupWorld S C O) (h : History C) → IsSoundWorld rules w h → HistoryGoesOn rules w h w

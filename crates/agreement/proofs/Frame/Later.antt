@@ -1,14 +1,14 @@
 -- Later.antt: what is acknowledged, sealed and chosen stays so in a later world.
 use Rattle.std.proofs.Common.{◌≡◌, ℕ, zero, suc, ◌++◌, ◌+◌, ◌≤◌, ◌⊎◌, inl, inr, List, [], ◌∷◌, take, refl, ap, sym, ◌∙◌, subst, arith}
-use Rattle.whole.specs.Replica.{ReplicaState}
+use Rattle.agreement.specs.whole_logs.Replica.{ReplicaState}
 use Rattle.agreement.specs.World.{GroupWorld}
-use Rattle.whole.specs.lists.Lists.{In, IsPrefixOf}
+use Rattle.lists.specs.Lists.{In, IsPrefixOf}
 use Rattle.agreement.specs.Inside.Ballots.{Line, History, Told, IsChosenIn, Sealed}
 use Rattle.agreement.specs.Inside.BallotsStand.{Applied}
 use Rattle.agreement.specs.Inside.Extending.{Extends, AcknowledgedIsWithin}
 use Rattle.agreement.specs.Inside.BallotsStand.Applied.{nothing, in_ballot}
 use Rattle.agreement.specs.Inside.Ballots.Told.{told_at_opening, told_by_held, told_by_installed, told_as_primary}
-use Rattle.whole.proofs.of_lists.Prefixes.{prefix_then, prefix_length, take_prefix}
+use Rattle.lists.proofs.Prefixes.{prefix_then, prefix_length, take_prefix}
 
 -- prefixes of a list and of one that it begins
 pub takes : {X : Type 0} (k : ℕ) {xs ys : List X} → IsPrefixOf xs ys → IsPrefixOf (take k xs) (take k ys)

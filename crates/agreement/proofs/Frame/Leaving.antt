@@ -4,17 +4,17 @@ use Rattle.std.specs.Prelude.{slice_get}
 use Rattle.std.proofs.lemmas.Bool.{cases_eq}
 use Rattle.std.proofs.lemmas.List.{append-nil}
 use Rattle.machine.specs.Machine.{Rules}
-use Rattle.whole.specs.Messages.{Effect}
-use Rattle.whole.specs.Replica.{ReplicaState}
+use Rattle.agreement.specs.whole_logs.Messages.{Effect}
+use Rattle.agreement.specs.whole_logs.Replica.{ReplicaState}
 use Rattle.agreement.specs.World.{GroupWorld, outputs, moved}
-use Rattle.whole.specs.lists.Lists.{In, IsPrefixOf}
+use Rattle.lists.specs.Lists.{In, IsPrefixOf}
 use Rattle.agreement.specs.Inside.Ballots.{Line, History, IsChosenIn}
 use Rattle.agreement.specs.Inside.Extending.{Extends}
 use Rattle.agreement.specs.Inside.MovesAt.{MovesAt, with_lines}
 use Rattle.agreement.specs.Inside.Sound.{LeftIs}
 use Rattle.agreement.specs.Leaving.{Segment}
-use Rattle.whole.proofs.of_lists.Prefixes.{prefix_then}
-use Rattle.whole.proofs.of_lists.Places.{get_set, get_set_other}
+use Rattle.lists.proofs.Prefixes.{prefix_then}
+use Rattle.lists.proofs.Places.{get_set, get_set_other}
 use Rattle.agreement.proofs.Frame.Later.{chosen_kept, takes}
 use Rattle.agreement.proofs.Frame.Framing.{move_extends}
 

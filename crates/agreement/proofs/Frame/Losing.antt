@@ -2,11 +2,11 @@
 use Rattle.std.proofs.Common.{◌≡◌, ℕ, inl, inr, List, [], Some, refl, sym, subst}
 use Rattle.std.specs.Prelude.{slice_get}
 use Rattle.machine.specs.Machine.{Rules}
-use Rattle.whole.specs.Messages.{Effect}
-use Rattle.whole.specs.Losses.{Loses, halted}
-use Rattle.whole.specs.Losses.Thinned.{none}
-use Rattle.whole.specs.Replica.{ReplicaState}
-use Rattle.whole.specs.Sending.{Outcome, nothing_done}
+use Rattle.agreement.specs.whole_logs.Messages.{Effect}
+use Rattle.agreement.specs.whole_logs.Losses.{Loses, halted}
+use Rattle.agreement.specs.whole_logs.Losses.Thinned.{none}
+use Rattle.agreement.specs.whole_logs.Replica.{ReplicaState}
+use Rattle.agreement.specs.whole_logs.Sending.{Outcome, nothing_done}
 use Rattle.agreement.specs.World.{GroupWorld, moved}
 use Rattle.agreement.specs.Inside.Ballots.{History}
 use Rattle.agreement.specs.Inside.Keeps.{NodeGoesOn, KeepsAdding}

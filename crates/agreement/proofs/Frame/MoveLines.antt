@@ -1,17 +1,17 @@
 -- MoveLines.antt: a move keeps the rows on lists, and what is newly acknowledged is acknowledged by
 -- the node that moved.
 use Rattle.std.proofs.Common.{◌≡◌, ℕ, ◌+◌, ◌<◌, ◌⊎◌, inl, inr, List, length, Some, Option, sym, subst}
-use Rattle.whole.specs.Messages.{Effect}
-use Rattle.whole.specs.Replica.{ReplicaState}
+use Rattle.agreement.specs.whole_logs.Messages.{Effect}
+use Rattle.agreement.specs.whole_logs.Replica.{ReplicaState}
 use Rattle.agreement.specs.World.{GroupWorld, moved}
-use Rattle.whole.specs.lists.Lists.{In, IsPrefixOf}
+use Rattle.lists.specs.Lists.{In, IsPrefixOf}
 use Rattle.agreement.specs.Inside.Ballots.{TellsHere, Given, Line, History, Told, IsChosenIn, Sealed}
 use Rattle.agreement.specs.Inside.BallotsStand.{BallotListsStand}
 use Rattle.agreement.specs.Inside.Extending.{AcknowledgedIsWithin}
 use Rattle.agreement.specs.Inside.MovesAt.{MovesAt, with_lines, LineGoesOn, TellsNow}
 use Rattle.agreement.specs.Inside.MovesAt.LineGoesOn.{stays, grows, begins}
-use Rattle.whole.proofs.of_lists.Prefixes.{prefix_same, prefix_then}
-use Rattle.whole.proofs.of_lists.Places.{get_set}
+use Rattle.lists.proofs.Prefixes.{prefix_same, prefix_then}
+use Rattle.lists.proofs.Places.{get_set}
 use Rattle.agreement.proofs.Frame.Later.{sealed_kept, chosen_kept}
 use Rattle.agreement.proofs.Frame.Framing.{move_extends}
 

@@ -4,18 +4,18 @@ use Rattle.std.proofs.Common.{◌≡◌, ℕ, ◌⊎◌, inl, inr, List, [], ◌
 use Rattle.std.specs.Prelude.{slice_get}
 use Rattle.std.proofs.lemmas.Bool.{cases_eq}
 use Rattle.machine.specs.Machine.{Rules}
-use Rattle.whole.specs.Messages.{Message, Effect}
-use Rattle.whole.specs.Replica.{ReplicaState}
+use Rattle.agreement.specs.whole_logs.Messages.{Message, Effect}
+use Rattle.agreement.specs.whole_logs.Replica.{ReplicaState}
 use Rattle.agreement.specs.World.{GroupWorld, messages, moved}
-use Rattle.whole.specs.lists.Lists.{In}
+use Rattle.lists.specs.Lists.{In}
 use Rattle.agreement.specs.Inside.Ballots.{Line, History}
 use Rattle.agreement.specs.Inside.BallotsStand.{AreBallots, IsChain}
 use Rattle.agreement.specs.Inside.MovesAt.{MovesAt, with_lines}
 use Rattle.agreement.specs.Inside.Sound.{LeftIs, IsSoundWorld}
 use Rattle.agreement.specs.Inside.SoundNodes.{IsSoundNode}
 use Rattle.agreement.specs.Inside.Saying.{SpeaksTruth}
-use Rattle.whole.proofs.of_lists.Places.{get_set, get_set_other}
-use Rattle.whole.proofs.of_lists.Members.{in_append}
+use Rattle.lists.proofs.Places.{get_set, get_set_other}
+use Rattle.lists.proofs.Members.{in_append}
 use Rattle.agreement.proofs.Frame.SaysLater.{says_kept}
 use Rattle.agreement.proofs.Frame.Framing.{within_of, move_extends, move_within}
 use Rattle.agreement.proofs.Frame.MoveLines.{move_lines}

@@ -1,14 +1,14 @@
 -- Others.antt: the nodes that did not move stay as they should be.
 use Rattle.std.proofs.Common.{◌≡◌, ℕ, ◌+◌, ◌⊎◌, inl, inr, List, length, Some, Option, sym, ◌∙◌, subst, arith}
-use Rattle.whole.specs.Messages.{Effect}
-use Rattle.whole.specs.Replica.{ReplicaState}
+use Rattle.agreement.specs.whole_logs.Messages.{Effect}
+use Rattle.agreement.specs.whole_logs.Replica.{ReplicaState}
 use Rattle.agreement.specs.World.{GroupWorld, moved}
-use Rattle.whole.specs.lists.Lists.{IsPrefixOf}
+use Rattle.lists.specs.Lists.{IsPrefixOf}
 use Rattle.agreement.specs.Inside.Ballots.{Given, Line, History, Told}
 use Rattle.agreement.specs.Inside.Extending.{Extends, AcknowledgedIsWithin}
 use Rattle.agreement.specs.Inside.MovesAt.{MovesAt, with_lines, TellsNow}
 use Rattle.agreement.specs.Inside.SoundNodes.{IsSoundNode}
-use Rattle.whole.proofs.of_lists.Prefixes.{prefix_then}
+use Rattle.lists.proofs.Prefixes.{prefix_then}
 use Rattle.agreement.proofs.Frame.Later.{told_kept, applied_kept}
 use Rattle.agreement.proofs.Frame.SaysLater.{of_kept}
 use Rattle.agreement.proofs.Frame.Framing.{move_extends}

@@ -1,14 +1,14 @@
 -- Outputs.antt: outputs are no messages, and the least of the progress is at most each.
 use Rattle.std.proofs.Common.{◌≡◌, ℕ, ◌+◌, ◌≤◌, min, List, [], ◌∷◌, ◌++◌, map, refl, ap, ◌∙◌, arith}
 use Rattle.machine.specs.Machine.{Rules}
-use Rattle.whole.specs.Messages.Effect.{Out}
-use Rattle.whole.specs.ballot_base.declared.status.Progress.{Progress}
-use Rattle.whole.specs.Applying.{outputs_from}
-use Rattle.whole.specs.Serving.{least}
-use Rattle.whole.proofs.StepRows.{least-le}
+use Rattle.agreement.specs.whole_logs.Messages.Effect.{Out}
+use Rattle.ballot_base.specs.declared.status.Progress.{Progress}
+use Rattle.agreement.specs.whole_logs.Applying.{outputs_from}
+use Rattle.ballot_base.specs.Serving.{least}
+use Rattle.ballot_base.proofs.StepRows.{least-le}
 use Rattle.agreement.specs.World.{messages}
-use Rattle.whole.specs.lists.Lists.{In}
-use Rattle.whole.specs.lists.Lists.In.{here, there}
+use Rattle.lists.specs.Lists.{In}
+use Rattle.lists.specs.Lists.In.{here, there}
 use Rattle.agreement.proofs.Effects.{messages-append}
 
 -- the least of the progress is at most each of them

@@ -1,8 +1,8 @@
 -- Roles.antt: a role by its test.
 use Rattle.std.proofs.Common.{◌≡◌, true, refl}
-use Rattle.whole.specs.ballot_base.declared.status.Role.{Role}
-use Rattle.whole.specs.ballot_base.declared.status.Role.TheVariants.{Backup, Fetching, Installing, Active}
-use Rattle.whole.specs.Replica.{is_active, is_backup, is_fetching, is_installing}
+use Rattle.ballot_base.specs.declared.status.Role.{Role}
+use Rattle.ballot_base.specs.declared.status.Role.TheVariants.{Backup, Fetching, Installing, Active}
+use Rattle.ballot_base.specs.Replica.{is_active, is_backup, is_fetching, is_installing}
 
 -- a role by its test
 pub role_active : (r : Role) → is_active r ≡ true → r ≡ Active

@@ -1,14 +1,14 @@
 -- SaysLater.antt: what messages say stays so in a later world.
 use Rattle.std.proofs.Common.{ℕ, ◌≤◌, inl, inr, List, length, ap, sym, ◌∙◌, subst, arith}
-use Rattle.whole.specs.Messages.{Body}
-use Rattle.whole.specs.Messages.Body.{NewBallot, Join, State, Install, Installed, Activate, Activated, Superseded, Append, Held, Commit}
+use Rattle.agreement.specs.whole_logs.Messages.{Body}
+use Rattle.agreement.specs.whole_logs.Messages.Body.{NewBallot, Join, State, Install, Installed, Activate, Activated, Superseded, Append, Held, Commit}
 use Rattle.agreement.specs.World.{GroupWorld}
-use Rattle.whole.specs.lists.Lists.{In, IsPrefixOf}
+use Rattle.lists.specs.Lists.{In, IsPrefixOf}
 use Rattle.agreement.specs.Inside.Ballots.{Given, History, Told, IsChosenIn}
 use Rattle.agreement.specs.Inside.Extending.{Extends, AcknowledgedIsWithin}
 use Rattle.agreement.specs.Inside.Saying.{HasJoined, IsOf, IsOffered, SpeaksTruth}
 use Rattle.agreement.specs.Inside.Ballots.Told.{told_at_opening, told_by_held, told_by_installed, told_as_primary}
-use Rattle.whole.proofs.of_lists.Prefixes.{prefix_then, prefix_length, prefix_get}
+use Rattle.lists.proofs.Prefixes.{prefix_then, prefix_length, prefix_get}
 use Rattle.agreement.proofs.Frame.Later.{sealed_kept, chosen_kept}
 
 pub joined_kept : {S C O : Type 0} (w v : GroupWorld S C O) (h i : History C) (m b : ℕ) → Extends w h v i → HasJoined w m b → HasJoined v m b

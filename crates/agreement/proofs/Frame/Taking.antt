@@ -1,14 +1,14 @@
 -- Taking.antt: a sealed list has all that a node applied that may take it.
 use Rattle.std.proofs.Common.{◌≡◌, ℕ, ◌+◌, ◌<◌, ◌≤◌, ◌⊎◌, inl, inr, List, [], ◌∷◌, length, take, Some, refl, ap, sym, ◌∙◌, subst, arith}
 use Rattle.std.proofs.lemmas.Bool.{cases_lt}
-use Rattle.whole.specs.Replica.{ReplicaState}
+use Rattle.agreement.specs.whole_logs.Replica.{ReplicaState}
 use Rattle.agreement.specs.World.{GroupWorld}
-use Rattle.whole.specs.lists.Lists.{In, IsPrefixOf}
-use Rattle.whole.specs.lists.Lists.In.{here, there}
+use Rattle.lists.specs.Lists.{In, IsPrefixOf}
+use Rattle.lists.specs.Lists.In.{here, there}
 use Rattle.agreement.specs.Inside.Ballots.{Given, Line, History, IsChosenIn, Sealed}
 use Rattle.agreement.specs.Inside.BallotsStand.{IsChain, AreBallots, BallotListsStand, IsPlaced, Applied}
 use Rattle.agreement.specs.Inside.BallotsStand.Applied.{nothing, in_ballot}
-use Rattle.whole.proofs.of_lists.Prefixes.{prefix_then}
+use Rattle.lists.proofs.Prefixes.{prefix_then}
 use Rattle.agreement.proofs.Frame.Bases.{sealed_bounds, before_base, base_is, chosen_told}
 
 -- older ballots are lower

@@ -3,18 +3,18 @@
 use Rattle.std.proofs.Common.{◌≡◌, ℕ, ◌+◌, ◌<◌, ◌≤◌, ◌⊎◌, inl, inr, List, length, Some, Option, refl, sym, ◌∙◌, subst, arith}
 use Rattle.std.specs.Prelude.{slice_get}
 use Rattle.std.proofs.lemmas.Bool.{cases_eq}
-use Rattle.whole.specs.Messages.{Message, Body, Effect}
-use Rattle.whole.specs.Messages.Body.{Held, Installed}
-use Rattle.whole.specs.Replica.{ReplicaState}
+use Rattle.agreement.specs.whole_logs.Messages.{Message, Body, Effect}
+use Rattle.agreement.specs.whole_logs.Messages.Body.{Held, Installed}
+use Rattle.agreement.specs.whole_logs.Replica.{ReplicaState}
 use Rattle.agreement.specs.World.{GroupWorld, messages, moved}
-use Rattle.whole.specs.lists.Lists.{In}
+use Rattle.lists.specs.Lists.{In}
 use Rattle.agreement.specs.Inside.Ballots.{Given, Line, History, Told}
 use Rattle.agreement.specs.Inside.BallotsStand.{IsPlaced}
 use Rattle.agreement.specs.Inside.Ballots.Told.{told_at_opening, told_by_held, told_by_installed, told_as_primary}
 use Rattle.agreement.specs.Inside.MovesAt.{MovesAt, with_lines, TellsNow}
 use Rattle.agreement.specs.Inside.MovesAt.LineGoesOn.{stays}
-use Rattle.whole.proofs.of_lists.Members.{in_append}
-use Rattle.whole.proofs.of_lists.Prefixes.{prefix_same}
+use Rattle.lists.proofs.Members.{in_append}
+use Rattle.lists.proofs.Prefixes.{prefix_same}
 
 -- a body says what the node may tell now
 abbrev pub TellsWithin : {S C : Type 0} → (ℕ → Option (Line C)) → ReplicaState S C → ReplicaState S C → Body C → Type 0

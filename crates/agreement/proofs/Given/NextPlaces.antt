@@ -4,13 +4,14 @@ use Rattle.std.specs.Prelude.{◌==◌, Option, None, slice_get}
 use Rattle.std.proofs.lemmas.Bool.{cases_eq, eq-eqb, ne_eqb}
 use Rattle.std.proofs.lemmas.List.{length-take-le}
 use Rattle.machine.specs.Machine.{Rules, replay}
-use Rattle.whole.proofs.of_lists.Prefixes.{prefix_length}
-use Rattle.whole.proofs.of_lists.Places.{get_set, get_set_other}
-use Rattle.whole.specs.Applying.{outputs_between}
-use Rattle.whole.specs.Messages.{Effect}
-use Rattle.whole.specs.Losses.{Loses, halted}
-use Rattle.whole.specs.Protocol.{Input, replica_step}
-use Rattle.whole.specs.Replica.{ReplicaState, is_active}
+use Rattle.lists.proofs.Prefixes.{prefix_length}
+use Rattle.lists.proofs.Places.{get_set, get_set_other}
+use Rattle.agreement.specs.whole_logs.Applying.{outputs_between}
+use Rattle.agreement.specs.whole_logs.Messages.{Effect}
+use Rattle.agreement.specs.whole_logs.Losses.{Loses, halted}
+use Rattle.agreement.specs.whole_logs.Protocol.{Input, replica_step}
+use Rattle.agreement.specs.whole_logs.Replica.{ReplicaState}
+use Rattle.ballot_base.specs.Replica.{is_active}
 use Rattle.agreement.specs.Giving.{GivesNext, given_in, gives_from}
 use Rattle.agreement.specs.Laws.{AnswersAtTheNextPlaces}
 use Rattle.agreement.specs.MasterState.{AssignRefusal, MasterState, refusal}

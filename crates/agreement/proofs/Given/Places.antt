@@ -2,10 +2,11 @@
 use Rattle.std.proofs.Common.{◌≡◌, ℕ, ◌+◌, ◌≤◌, List, [], ◌++◌, length, take, drop, refl, ap, sym, ◌∙◌, arith}
 use Rattle.std.proofs.lemmas.List.{length-drop, length-take-le, take-take}
 use Rattle.machine.specs.Machine.{Rules, replay, replay_from}
-use Rattle.whole.specs.lists.Lists.{IsPrefixOf}
-use Rattle.whole.proofs.of_lists.Prefixes.{take_prefix}
-use Rattle.whole.specs.Applying.{outputs_from, outputs_between}
-use Rattle.whole.proofs.AppliesInOrder.{outputs_from-append, part_none, replay_goes_on}
+use Rattle.lists.specs.Lists.{IsPrefixOf}
+use Rattle.lists.proofs.Prefixes.{take_prefix}
+use Rattle.agreement.specs.whole_logs.Applying.{outputs_from, outputs_between}
+use Rattle.agreement.proofs.of_whole_logs.AppliesInOrder.{outputs_from-append}
+use Rattle.ballot_base.proofs.AppliesInOrder.{part_none, replay_goes_on}
 use Rattle.agreement.specs.World.{outputs}
 use Rattle.agreement.proofs.Effects.{outputs-append}
 use Rattle.agreement.proofs.Frame.Giving.{same_outputs}

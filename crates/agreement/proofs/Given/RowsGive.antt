@@ -3,15 +3,16 @@ use Rattle.std.proofs.Common.{◌≡◌, ℕ, ◌⊎◌, inl, inr, true, false, 
 use Rattle.std.specs.Prelude.{nat_lt, nat_le, ◌&&◌, ◌||◌, ◌==◌}
 use Rattle.std.specs.List.{list_any}
 use Rattle.std.proofs.lemmas.Bool.{cases_Bool}
-use Rattle.whole.specs.Messages.Body.{Join, Commit}
-use Rattle.whole.specs.Changing.{on_new_ballot, on_join, on_install, on_state}
-use Rattle.whole.specs.Activating.{on_superseded, on_installed, activates}
-use Rattle.whole.specs.Replica.{ReplicaState, is_fetching, is_installing, others}
-use Rattle.whole.specs.ballot_base.declared.status.Role.{Role}
-use Rattle.whole.specs.ballot_base.declared.status.Role.TheVariants.{Backup, Fetching, Installing, Active}
-use Rattle.whole.specs.Protocol.{ticked}
-use Rattle.whole.specs.Sending.{Outcome, message_to_followed}
-use Rattle.whole.specs.Serving.{appends_after, follows, on_append, on_tick_active}
+use Rattle.agreement.specs.whole_logs.Messages.Body.{Join, Commit}
+use Rattle.agreement.specs.whole_logs.Changing.{on_new_ballot, on_join, on_install, on_state}
+use Rattle.agreement.specs.whole_logs.Activating.{on_superseded, on_installed, activates}
+use Rattle.agreement.specs.whole_logs.Replica.{ReplicaState}
+use Rattle.ballot_base.specs.Replica.{is_fetching, is_installing, others}
+use Rattle.ballot_base.specs.declared.status.Role.{Role}
+use Rattle.ballot_base.specs.declared.status.Role.TheVariants.{Backup, Fetching, Installing, Active}
+use Rattle.agreement.specs.whole_logs.Protocol.{ticked}
+use Rattle.agreement.specs.whole_logs.Sending.{Outcome, message_to_followed}
+use Rattle.agreement.specs.whole_logs.Serving.{appends_after, follows, on_append, on_tick_active}
 use Rattle.agreement.specs.World.{outputs}
 use Rattle.agreement.proofs.Changing.NewBallots.{outputs_to_each}
 use Rattle.agreement.proofs.Effects.{outputs-append, outputs_of_messages}

@@ -4,11 +4,12 @@ use Rattle.std.specs.Prelude.{Option, slice_get}
 use Rattle.std.proofs.lemmas.Bool.{cases_eq}
 use Rattle.std.proofs.lemmas.List.{append-nil, length-take-le}
 use Rattle.machine.specs.Machine.{Rules}
-use Rattle.whole.proofs.of_lists.Prefixes.{prefix_length, take_prefix}
-use Rattle.whole.proofs.of_lists.Places.{get_set_other}
-use Rattle.whole.specs.Applying.{applied_to, outputs_between}
-use Rattle.whole.specs.ballot_base.declared.config.Config.{Config}
-use Rattle.whole.specs.Replica.{ReplicaState, is_active}
+use Rattle.lists.proofs.Prefixes.{prefix_length, take_prefix}
+use Rattle.lists.proofs.Places.{get_set_other}
+use Rattle.agreement.specs.whole_logs.Applying.{applied_to, outputs_between}
+use Rattle.ballot_base.specs.declared.config.Config.{Config}
+use Rattle.agreement.specs.whole_logs.Replica.{ReplicaState}
+use Rattle.ballot_base.specs.Replica.{is_active}
 use Rattle.agreement.specs.Giving.{LeadsOn, given_in, given_of}
 use Rattle.agreement.specs.Giving.LeadsOn.{leads_there, leads_still, leads_beside}
 use Rattle.agreement.specs.Laws.{AnswersWhileItLeads}

@@ -3,12 +3,13 @@ use Rattle.std.proofs.Common.{◌≡◌, ℕ, ◌+◌, ◌<◌, ◌≤◌, ◌�
 use Rattle.std.proofs.lemmas.Bool.{cases_lt}
 use Rattle.std.proofs.lemmas.List.{take-take, take-append-drop, take-append-le, drop-append-le, length-take-le}
 use Rattle.machine.specs.Machine.{Rules, replay_from}
-use Rattle.whole.specs.Applying.{applied_to}
-use Rattle.whole.specs.Replica.{ReplicaState}
-use Rattle.whole.specs.Sending.{Outcome}
-use Rattle.whole.specs.Serving.{added, least, commit_at}
-use Rattle.whole.proofs.AppliesInOrder.{part_none, replay_from-append}
-use Rattle.whole.proofs.StepRows.{commit_at-stays, commit_at-goes, added-is}
+use Rattle.agreement.specs.whole_logs.Applying.{applied_to}
+use Rattle.agreement.specs.whole_logs.Replica.{ReplicaState}
+use Rattle.agreement.specs.whole_logs.Sending.{Outcome}
+use Rattle.agreement.specs.whole_logs.Serving.{added, commit_at}
+use Rattle.ballot_base.specs.Serving.{least}
+use Rattle.ballot_base.proofs.AppliesInOrder.{part_none, replay_from-append}
+use Rattle.agreement.proofs.of_whole_logs.StepRows.{commit_at-stays, commit_at-goes, added-is}
 
 -- a replica after a step has applied no less, and its machine has done the places that are new
 pub record Applies {S C O : Type 0} (rules : Rules S C O) (old new : ReplicaState S C) : Type 0 where

@@ -3,17 +3,17 @@ use Rattle.std.proofs.Common.{◌≡◌, ℕ, ◌⊎◌, inl, inr, false, List, 
 use Rattle.std.specs.Prelude.{slice_get}
 use Rattle.std.proofs.lemmas.Bool.{cases_eq}
 use Rattle.machine.specs.Machine.{Rules, replay}
-use Rattle.whole.specs.Messages.{Effect}
-use Rattle.whole.specs.Losses.{Loses}
-use Rattle.whole.specs.Protocol.{Input, replica_step}
-use Rattle.whole.specs.Replica.{ReplicaState}
-use Rattle.whole.proofs.AppliesInOrder.{replay_goes_on}
+use Rattle.agreement.specs.whole_logs.Messages.{Effect}
+use Rattle.agreement.specs.whole_logs.Losses.{Loses}
+use Rattle.agreement.specs.whole_logs.Protocol.{Input, replica_step}
+use Rattle.agreement.specs.whole_logs.Replica.{ReplicaState}
+use Rattle.ballot_base.proofs.AppliesInOrder.{replay_goes_on}
 use Rattle.agreement.specs.World.{GroupWorld, moved}
 use Rattle.agreement.specs.Inside.Ballots.{History}
 use Rattle.agreement.specs.Inside.Keeps.{NodeGoesOn}
 use Rattle.agreement.specs.Replays.{IsReplay, AreReplays}
 use Rattle.agreement.specs.Inside.Sound.{IsSoundWorld}
-use Rattle.whole.proofs.of_lists.Places.{get_set, get_set_other}
+use Rattle.lists.proofs.Places.{get_set, get_set_other}
 use Rattle.agreement.proofs.Machines.Applies.{Applies}
 use Rattle.agreement.proofs.Machines.Comparing.{applied_stays}
 use Rattle.agreement.proofs.Machines.StepApplies.{step_applies}

@@ -3,12 +3,13 @@ use Rattle.std.proofs.Common.{◌≡◌, ℕ, zero, suc, ◌+◌, ◌<◌, ◌�
 use Rattle.std.specs.Prelude.{nat_le, ◌&&◌, ◌==◌}
 use Rattle.std.specs.List.{list_all}
 use Rattle.std.proofs.lemmas.Bool.{and_parts, cases_Bool, eqb-true, leb-true, leb-false}
-use Rattle.whole.specs.ballot_base.LawfulConfig.{is_lawful}
-use Rattle.whole.specs.ballot_base.declared.config.Config.{Config}
+use Rattle.ballot_base.specs.LawfulConfig.{is_lawful}
+use Rattle.ballot_base.specs.declared.config.Config.{Config}
 use Rattle.agreement.specs.World.{can_open}
-use Rattle.whole.specs.lists.Lists.{In}
-use Rattle.whole.specs.lists.Lists.In.{here, there}
-use Rattle.agreement.specs.MasterState.{AssignRefusal, refusal, max_ballot, master_after, MasterState, activated}
+use Rattle.lists.specs.Lists.{In}
+use Rattle.lists.specs.Lists.In.{here, there}
+use Rattle.agreement.specs.MasterState.{AssignRefusal, refusal, master_after, MasterState, activated}
+use Rattle.machine.specs.Ballots.{max_ballot}
 use Rattle.agreement.specs.Inside.Masters.{AreNodes, IsServing}
 use Rattle.agreement.specs.MasterState.AssignRefusal.{bad_members, ballots_spent}
 use Rattle.agreement.proofs.LawfulConfigs.{lawful_config, any_in}

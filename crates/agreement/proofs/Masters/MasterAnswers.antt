@@ -3,10 +3,10 @@ use Rattle.std.proofs.Common.{◌≡◌, ℕ, inl, Bool, true, false, cond, None
 use Rattle.std.specs.Prelude.{◌==◌}
 use Rattle.std.proofs.lemmas.Bool.{eqb-true}
 use Rattle.machine.specs.Machine.{Rules}
-use Rattle.whole.specs.Messages.Body.{Activate, Activated, Superseded}
+use Rattle.agreement.specs.whole_logs.Messages.Body.{Activate, Activated, Superseded}
 use Rattle.agreement.specs.World.{GroupWorld}
-use Rattle.whole.specs.lists.Lists.{In}
-use Rattle.whole.specs.lists.Lists.In.{here}
+use Rattle.lists.specs.Lists.{In}
+use Rattle.lists.specs.Lists.In.{here}
 use Rattle.agreement.specs.Inside.Ballots.{History}
 use Rattle.agreement.specs.Inside.Extending.{Extends}
 use Rattle.agreement.specs.MasterState.{MasterState, activated}

@@ -1,9 +1,9 @@
 -- MasterNodes.antt: nodes stay as they should be when ballots are given or activated.
 use Rattle.std.proofs.Common.{◌≡◌, ℕ, ◌+◌, ◌<◌, ◌≤◌, ◌⊎◌, inl, inr, List, length, Some, Option, arith}
 use Rattle.std.proofs.lemmas.Bool.{cases_lt}
-use Rattle.whole.specs.Replica.{ReplicaState}
+use Rattle.agreement.specs.whole_logs.Replica.{ReplicaState}
 use Rattle.agreement.specs.World.{GroupWorld}
-use Rattle.whole.specs.lists.Lists.{In}
+use Rattle.lists.specs.Lists.{In}
 use Rattle.agreement.specs.Inside.Ballots.{Given, Line, History, Told}
 use Rattle.agreement.specs.Inside.BallotsStand.{BallotListsStand}
 use Rattle.agreement.specs.Inside.Extending.{Extends, AcknowledgedIsWithin}

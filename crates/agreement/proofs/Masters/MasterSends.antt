@@ -1,19 +1,19 @@
 -- MasterSends.antt: messages of the master keep a world sound.
 use Rattle.std.proofs.Common.{◌≡◌, ℕ, ◌+◌, ◌<◌, ◌⊎◌, inl, inr, List, [], ◌∷◌, ◌++◌, length, Some, Option, refl, ap, sym, ◌∙◌, subst, arith}
 use Rattle.machine.specs.Machine.{Rules}
-use Rattle.whole.specs.Messages.{Message}
-use Rattle.whole.specs.Messages.Body.{Held, Installed}
+use Rattle.agreement.specs.whole_logs.Messages.{Message}
+use Rattle.agreement.specs.whole_logs.Messages.Body.{Held, Installed}
 use Rattle.agreement.specs.World.{GroupWorld}
-use Rattle.whole.specs.lists.Lists.{In}
-use Rattle.whole.specs.lists.Lists.In.{here, there}
+use Rattle.lists.specs.Lists.{In}
+use Rattle.lists.specs.Lists.In.{here, there}
 use Rattle.agreement.specs.Inside.Ballots.{Given, Line, History, Told, IsChosenIn}
 use Rattle.agreement.specs.Inside.BallotsStand.{IsChain, AreBallots}
 use Rattle.agreement.specs.Inside.Extending.{Extends, AcknowledgedIsWithin}
 use Rattle.agreement.specs.Inside.Ballots.Told.{told_at_opening, told_by_held, told_by_installed, told_as_primary}
 use Rattle.agreement.specs.Inside.Sound.{IsSoundWorld}
 use Rattle.agreement.specs.Inside.Saying.{SpeaksTruth}
-use Rattle.whole.proofs.of_lists.Prefixes.{prefix_same}
-use Rattle.whole.proofs.of_lists.Members.{in_left, in_append}
+use Rattle.lists.proofs.Prefixes.{prefix_same}
+use Rattle.lists.proofs.Members.{in_left, in_append}
 use Rattle.agreement.proofs.Frame.Framing.{within_of}
 use Rattle.agreement.proofs.Frame.Joining.{IsSilent, AreSilent}
 use Rattle.agreement.proofs.Frame.Later.{chosen_kept, sealed_kept}

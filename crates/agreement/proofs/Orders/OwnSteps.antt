@@ -5,12 +5,12 @@ use Rattle.std.specs.Prelude.{slice_get, filter}
 use Rattle.std.proofs.lemmas.Bool.{cases_lt}
 use Rattle.std.proofs.lemmas.List.Elements.{filter-append}
 use Rattle.machine.specs.Machine.{Rules}
-use Rattle.whole.specs.Protocol.{Input}
-use Rattle.whole.specs.Protocol.Input.{Receives, Proposes, Ticks}
-use Rattle.whole.specs.Replica.{ReplicaState}
+use Rattle.agreement.specs.whole_logs.Protocol.{Input}
+use Rattle.agreement.specs.whole_logs.Protocol.Input.{Receives, Proposes, Ticks}
+use Rattle.agreement.specs.whole_logs.Replica.{ReplicaState}
 use Rattle.agreement.specs.Proposals.{proposal_by}
 use Rattle.agreement.specs.World.{GroupWorld}
-use Rattle.whole.specs.lists.Lists.{IsPrefixOf}
+use Rattle.lists.specs.Lists.{IsPrefixOf}
 use Rattle.agreement.specs.Inside.Ballots.{Line, History}
 use Rattle.agreement.specs.Inside.MomentSteps.{AddsBy}
 use Rattle.agreement.specs.Inside.Keeps.{NodeGoesOn, LineAdds}
@@ -18,7 +18,7 @@ use Rattle.agreement.specs.Inside.Keeps.LineAdds.{as_it_was, begins_after, adds_
 use Rattle.agreement.specs.Proposals.{commands_of, IsOfBallot}
 use Rattle.agreement.specs.Inside.Own.{OwnLines}
 use Rattle.agreement.specs.Inside.Sound.{IsSoundWorld}
-use Rattle.whole.proofs.of_lists.Prefixes.{prefix_then}
+use Rattle.lists.proofs.Prefixes.{prefix_then}
 use Rattle.agreement.proofs.Orders.Owning.{own_starts, own_proposed}
 use Rattle.agreement.proofs.Frame.Bases.{one_line}
 

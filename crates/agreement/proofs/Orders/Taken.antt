@@ -4,15 +4,17 @@ use Rattle.std.specs.Prelude.{Bool}
 use Rattle.std.proofs.lemmas.Bool.{cases_Bool, cases_lt, lt-ltb, le-ltb}
 use Rattle.std.proofs.lemmas.List.{length-append}
 use Rattle.machine.specs.Machine.{Rules}
-use Rattle.whole.specs.lists.Lists.{In}
-use Rattle.whole.specs.Messages.{Effect}
-use Rattle.whole.specs.Losses.{Loses, Thinned, halted}
-use Rattle.whole.specs.Losses.Thinned.{none}
-use Rattle.whole.specs.Protocol.Input.{Proposes}
-use Rattle.whole.specs.Replica.{ReplicaState, is_active}
-use Rattle.whole.specs.Sending.{Outcome, nothing_done}
-use Rattle.whole.specs.Serving.{added, max_places, proposed}
-use Rattle.whole.proofs.StepRows.{proposed-adds, proposed-full, proposed-not_active}
+use Rattle.lists.specs.Lists.{In}
+use Rattle.agreement.specs.whole_logs.Messages.{Effect}
+use Rattle.agreement.specs.whole_logs.Losses.{Loses, Thinned, halted}
+use Rattle.agreement.specs.whole_logs.Losses.Thinned.{none}
+use Rattle.agreement.specs.whole_logs.Protocol.Input.{Proposes}
+use Rattle.agreement.specs.whole_logs.Replica.{ReplicaState}
+use Rattle.ballot_base.specs.Replica.{is_active}
+use Rattle.agreement.specs.whole_logs.Sending.{Outcome, nothing_done}
+use Rattle.agreement.specs.whole_logs.Serving.{added, proposed}
+use Rattle.ballot_base.specs.Serving.{max_places}
+use Rattle.agreement.proofs.of_whole_logs.StepRows.{proposed-adds, proposed-full, proposed-not_active}
 use Rattle.agreement.specs.Proposals.{taken_by}
 
 -- a proposal to a node: it was added, or refused, or the node stopped

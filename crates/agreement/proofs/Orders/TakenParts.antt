@@ -2,9 +2,9 @@
 use Rattle.std.proofs.Common.{ℕ, ◌⊎◌, inl, inr, Bool, true, false, cond, List, [], ◌∷◌, ◌++◌, length}
 use Rattle.std.specs.Prelude.{nat_lt, ◌==◌}
 use Rattle.machine.specs.Machine.{Rules}
-use Rattle.whole.specs.lists.Lists.{In}
-use Rattle.whole.proofs.of_lists.Members.{in_append, in_left, in_right}
-use Rattle.whole.specs.ballot_base.declared.config.Config.{Config}
+use Rattle.lists.specs.Lists.{In}
+use Rattle.lists.proofs.Members.{in_append, in_left, in_right}
+use Rattle.ballot_base.specs.declared.config.Config.{Config}
 use Rattle.agreement.specs.MasterState.{MasterState}
 use Rattle.agreement.specs.Moments.{Moment, Moments}
 use Rattle.agreement.specs.Moments.Moments.{began, went_on, learned}

@@ -3,15 +3,15 @@ use Rattle.std.proofs.Common.{◌≡◌, ℕ, ◌⊎◌, inl, inr, false, cond, 
 use Rattle.std.specs.Prelude.{slice_get, nat_lt, ◌==◌}
 use Rattle.std.proofs.lemmas.Bool.{cases_eq, eq-eqb, ne_eqb}
 use Rattle.machine.specs.Machine.{Rules}
-use Rattle.whole.specs.lists.Lists.{In}
-use Rattle.whole.specs.lists.Lists.In.{here, there}
-use Rattle.whole.proofs.of_lists.Places.{get_set, get_set_other}
-use Rattle.whole.specs.Messages.{Effect}
-use Rattle.whole.specs.Losses.{Loses}
-use Rattle.whole.specs.Protocol.{Input, replica_step}
-use Rattle.whole.specs.Protocol.Input.{Receives, Proposes, Ticks}
-use Rattle.whole.specs.Replica.{ReplicaState}
-use Rattle.whole.proofs.StepRows.{added-log}
+use Rattle.lists.specs.Lists.{In}
+use Rattle.lists.specs.Lists.In.{here, there}
+use Rattle.lists.proofs.Places.{get_set, get_set_other}
+use Rattle.agreement.specs.whole_logs.Messages.{Effect}
+use Rattle.agreement.specs.whole_logs.Losses.{Loses}
+use Rattle.agreement.specs.whole_logs.Protocol.{Input, replica_step}
+use Rattle.agreement.specs.whole_logs.Protocol.Input.{Receives, Proposes, Ticks}
+use Rattle.agreement.specs.whole_logs.Replica.{ReplicaState}
+use Rattle.agreement.proofs.of_whole_logs.StepRows.{added-log}
 use Rattle.agreement.specs.Laws.{TakenStandAtOnce}
 use Rattle.agreement.specs.MasterState.{MasterState}
 use Rattle.agreement.specs.Proposals.{IsTaken, proposal_of, taken_by, taken_in, takes_at}

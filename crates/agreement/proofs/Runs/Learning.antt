@@ -4,15 +4,16 @@ use Rattle.std.proofs.Common.{inl, ◌≡◌, ℕ, ◌≤◌, false, List, [], l
 use Rattle.std.specs.Prelude.{slice_get}
 use Rattle.std.proofs.lemmas.List.{length-set, take-take}
 use Rattle.machine.specs.Machine.{Rules}
-use Rattle.whole.specs.Applying.{applied_to}
-use Rattle.whole.specs.Messages.{Effect}
-use Rattle.whole.specs.Losses.Thinned.{none}
-use Rattle.whole.specs.Protocol.Input.{Ticks}
-use Rattle.whole.specs.Replica.{ReplicaState, is_active}
-use Rattle.whole.specs.ballot_base.declared.status.Role.TheVariants.{Active}
-use Rattle.whole.proofs.AppliesInOrder.{replay_goes_on}
-use Rattle.whole.specs.lists.Lists.{In, IsPrefixOf}
-use Rattle.whole.proofs.of_lists.Prefixes.{prefix_take, prefix_then}
+use Rattle.agreement.specs.whole_logs.Applying.{applied_to}
+use Rattle.agreement.specs.whole_logs.Messages.{Effect}
+use Rattle.agreement.specs.whole_logs.Losses.Thinned.{none}
+use Rattle.agreement.specs.whole_logs.Protocol.Input.{Ticks}
+use Rattle.agreement.specs.whole_logs.Replica.{ReplicaState}
+use Rattle.ballot_base.specs.Replica.{is_active}
+use Rattle.ballot_base.specs.declared.status.Role.TheVariants.{Active}
+use Rattle.ballot_base.proofs.AppliesInOrder.{replay_goes_on}
+use Rattle.lists.specs.Lists.{In, IsPrefixOf}
+use Rattle.lists.proofs.Prefixes.{prefix_take, prefix_then}
 use Rattle.agreement.specs.Inside.Ballots.{History}
 use Rattle.agreement.specs.Inside.BallotsStand.{Applied}
 use Rattle.agreement.specs.Inside.BallotsStand.Applied.{nothing, in_ballot}

@@ -5,19 +5,20 @@ use Rattle.std.specs.List.{list_any}
 use Rattle.std.proofs.lemmas.Bool.{cases_eq, eq-eqb, ne_eqb}
 use Rattle.machine.specs.Machine.{Rules}
 use Rattle.agreement.proofs.LawfulConfigs.{any_in}
-use Rattle.whole.specs.ballot_base.declared.config.Config.{Config}
-use Rattle.whole.specs.ballot_base.declared.status.Progress.{Progress}
-use Rattle.whole.specs.ballot_base.declared.status.Role.TheVariants.{Backup, Active}
-use Rattle.whole.specs.Replica.{ReplicaState, opening, others, progress_at}
+use Rattle.ballot_base.specs.declared.config.Config.{Config}
+use Rattle.ballot_base.specs.declared.status.Progress.{Progress}
+use Rattle.ballot_base.specs.declared.status.Role.TheVariants.{Backup, Active}
+use Rattle.agreement.specs.whole_logs.Replica.{ReplicaState, opening}
+use Rattle.ballot_base.specs.Replica.{others, progress_at}
 use Rattle.agreement.specs.World.{opening_world}
-use Rattle.whole.specs.lists.Lists.{In, IsPrefixOf}
-use Rattle.whole.specs.lists.Lists.In.{here}
+use Rattle.lists.specs.Lists.{In, IsPrefixOf}
+use Rattle.lists.specs.Lists.In.{here}
 use Rattle.agreement.specs.Inside.Ballots.{Given, Line}
 use Rattle.agreement.specs.Inside.Ballots.Told.{told_at_opening}
 use Rattle.agreement.specs.Inside.BallotsStand.Applied.{nothing}
 use Rattle.agreement.specs.Inside.OpeningHistory.{first_ballot, first_line, opening_history}
 use Rattle.agreement.specs.Inside.SoundNodes.{IsSoundNode}
-use Rattle.whole.proofs.of_lists.Prefixes.{prefix_same}
+use Rattle.lists.proofs.Prefixes.{prefix_same}
 use Rattle.agreement.proofs.Changing.Activating.{reached_of, followed_in}
 use Rattle.agreement.proofs.Changing.OtherMembers.{in_others, others_in, not_others}
 use Rattle.agreement.proofs.Runs.OpeningTold.{in_any, first_given, first_lined, told_opens}

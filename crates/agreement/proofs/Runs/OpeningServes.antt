@@ -3,9 +3,10 @@ use Rattle.std.proofs.Common.{Bool, cond, inl, ◌≡◌, ℕ, zero, suc, ◌+�
 use Rattle.std.specs.Prelude.{◌==◌}
 use Rattle.std.proofs.lemmas.List.{length-append}
 use Rattle.machine.specs.Machine.{Rules}
-use Rattle.whole.specs.ballot_base.declared.config.Config.{Config}
-use Rattle.whole.specs.ballot_base.declared.status.Role.TheVariants.{Active}
-use Rattle.whole.specs.Replica.{ReplicaState, opening, opening_member, progress_at, others}
+use Rattle.ballot_base.specs.declared.config.Config.{Config}
+use Rattle.ballot_base.specs.declared.status.Role.TheVariants.{Active}
+use Rattle.agreement.specs.whole_logs.Replica.{ReplicaState, opening, opening_member}
+use Rattle.ballot_base.specs.Replica.{progress_at, others}
 use Rattle.agreement.specs.World.{can_open, opening_nodes, opening_world}
 use Rattle.agreement.specs.Inside.Masters.{IsServing}
 use Rattle.agreement.specs.Inside.Begun.{AreLong}

@@ -4,10 +4,10 @@ use Rattle.std.specs.Prelude.{◌==◌, ◌||◌}
 use Rattle.std.specs.List.{list_any}
 use Rattle.std.proofs.lemmas.Bool.{eqb-true, eq-eqb}
 use Rattle.machine.specs.Machine.{Rules}
-use Rattle.whole.specs.ballot_base.declared.config.Config.{Config}
+use Rattle.ballot_base.specs.declared.config.Config.{Config}
 use Rattle.agreement.specs.World.{opening_world}
-use Rattle.whole.specs.lists.Lists.{In}
-use Rattle.whole.specs.lists.Lists.In.{here, there}
+use Rattle.lists.specs.Lists.{In}
+use Rattle.lists.specs.Lists.In.{here, there}
 use Rattle.agreement.specs.Inside.Ballots.{Given, Line, Told}
 use Rattle.agreement.specs.Inside.Ballots.Told.{told_at_opening, told_by_held, told_by_installed, told_as_primary}
 use Rattle.agreement.specs.Inside.OpeningHistory.{first_ballot, first_line, opening_history}

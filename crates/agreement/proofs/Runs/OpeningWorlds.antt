@@ -3,11 +3,11 @@ use Rattle.std.proofs.Common.{◌≡◌, ℕ, zero, suc, ◌+◌, ◌<◌, ◌�
 use Rattle.std.specs.Prelude.{slice_get}
 use Rattle.std.proofs.lemmas.List.{length-append}
 use Rattle.machine.specs.Machine.{Rules}
-use Rattle.whole.specs.ballot_base.declared.config.Config.{Config}
-use Rattle.whole.specs.Replica.{ReplicaState, opening}
+use Rattle.ballot_base.specs.declared.config.Config.{Config}
+use Rattle.agreement.specs.whole_logs.Replica.{ReplicaState, opening}
 use Rattle.agreement.specs.World.{opening_nodes, opening_world}
-use Rattle.whole.specs.lists.Lists.{In, IsPrefixOf}
-use Rattle.whole.specs.lists.Lists.In.{here, there}
+use Rattle.lists.specs.Lists.{In, IsPrefixOf}
+use Rattle.lists.specs.Lists.In.{here, there}
 use Rattle.agreement.specs.Inside.Ballots.{Given, Line, IsChosenIn}
 use Rattle.agreement.specs.Inside.Ballots.Told.{told_at_opening}
 use Rattle.agreement.specs.Inside.Masters.{IsMaster}
@@ -15,7 +15,7 @@ use Rattle.agreement.specs.Inside.OpeningHistory.{first_ballot, first_line, open
 use Rattle.agreement.specs.MasterState.{opening_master}
 use Rattle.agreement.specs.Inside.Sound.{IsSoundWorld}
 use Rattle.agreement.specs.Inside.SoundNodes.{IsSoundNode}
-use Rattle.whole.proofs.of_lists.Prefixes.{prefix_same}
+use Rattle.lists.proofs.Prefixes.{prefix_same}
 use Rattle.agreement.proofs.Frame.Giving.{get_pushed_to}
 use Rattle.agreement.proofs.Runs.OpeningTold.{first_given, first_lined, told_opens}
 use Rattle.agreement.proofs.Runs.OpeningNodes.{node_opens}

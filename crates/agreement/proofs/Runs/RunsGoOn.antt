@@ -2,11 +2,11 @@
 -- replays, its ballots begin with their starts.
 use Rattle.std.proofs.Common.{List, ◌≡◌, ◌⊎◌, ℕ, inl, subst, [], Option, refl, ap, sym, ◌∙◌}
 use Rattle.machine.specs.Machine.{Rules}
-use Rattle.whole.specs.ballot_base.declared.config.Config.{Config}
-use Rattle.whole.specs.Losses.Thinned.{none}
-use Rattle.whole.specs.Protocol.Input.{Ticks}
-use Rattle.whole.specs.Protocol.{replica_step}
-use Rattle.whole.specs.lists.Lists.{In}
+use Rattle.ballot_base.specs.declared.config.Config.{Config}
+use Rattle.agreement.specs.whole_logs.Losses.Thinned.{none}
+use Rattle.agreement.specs.whole_logs.Protocol.Input.{Ticks}
+use Rattle.agreement.specs.whole_logs.Protocol.{replica_step}
+use Rattle.lists.specs.Lists.{In}
 use Rattle.agreement.specs.Proposals.{proposal_by}
 use Rattle.agreement.specs.World.{GroupWorld}
 use Rattle.agreement.specs.Inside.Ballots.{Line, History, Told, TellsHere}

@@ -4,24 +4,26 @@ use Rattle.std.specs.Prelude.{nat_lt, nat_le, ◌&&◌, ◌||◌, ◌==◌, slic
 use Rattle.std.specs.List.{list_any}
 use Rattle.std.proofs.lemmas.Bool.{cases_Bool, cases_lt}
 use Rattle.machine.specs.Machine.{Rules}
-use Rattle.whole.specs.Applying.{outputs_from}
-use Rattle.whole.specs.Messages.{Body, Effect, Message}
-use Rattle.whole.specs.Messages.Body.{NewBallot, Join, State, Install, Installed, Activate, Activated, Superseded, Append, Held, Commit}
-use Rattle.whole.specs.Changing.{on_new_ballot, on_join, install_effects, on_state, on_install}
-use Rattle.whole.specs.Activating.{activates, on_installed, on_activated, on_superseded}
-use Rattle.whole.specs.Messages.Effect.{To, Out}
-use Rattle.whole.specs.ballot_base.declared.status.Progress.{Progress}
-use Rattle.whole.specs.Protocol.{Input, received, ticked, replica_step}
-use Rattle.whole.specs.Protocol.Input.{Receives, Proposes, Ticks}
-use Rattle.whole.specs.Replica.{ReplicaState, is_active, is_fetching, is_installing, others}
-use Rattle.whole.specs.ballot_base.declared.status.Role.{Role}
-use Rattle.whole.specs.ballot_base.declared.status.Role.TheVariants.{Backup, Fetching, Installing, Active}
-use Rattle.whole.specs.Sending.{Outcome, message_to_each, message_to_followed}
-use Rattle.whole.specs.Serving.{append_at, appends_after, follows, leads, commit_at, commit, max_places, added, proposed, on_append, on_held, on_commit, on_tick_active}
-use Rattle.whole.proofs.StepRows.{commit_at-stays, commit_at-goes}
+use Rattle.agreement.specs.whole_logs.Applying.{outputs_from}
+use Rattle.agreement.specs.whole_logs.Messages.{Body, Effect, Message}
+use Rattle.agreement.specs.whole_logs.Messages.Body.{NewBallot, Join, State, Install, Installed, Activate, Activated, Superseded, Append, Held, Commit}
+use Rattle.agreement.specs.whole_logs.Changing.{on_new_ballot, on_join, install_effects, on_state, on_install}
+use Rattle.agreement.specs.whole_logs.Activating.{activates, on_installed, on_activated, on_superseded}
+use Rattle.agreement.specs.whole_logs.Messages.Effect.{To, Out}
+use Rattle.ballot_base.specs.declared.status.Progress.{Progress}
+use Rattle.agreement.specs.whole_logs.Protocol.{Input, received, ticked, replica_step}
+use Rattle.agreement.specs.whole_logs.Protocol.Input.{Receives, Proposes, Ticks}
+use Rattle.agreement.specs.whole_logs.Replica.{ReplicaState}
+use Rattle.ballot_base.specs.Replica.{is_active, is_fetching, is_installing, others}
+use Rattle.ballot_base.specs.declared.status.Role.{Role}
+use Rattle.ballot_base.specs.declared.status.Role.TheVariants.{Backup, Fetching, Installing, Active}
+use Rattle.agreement.specs.whole_logs.Sending.{Outcome, message_to_each, message_to_followed}
+use Rattle.agreement.specs.whole_logs.Serving.{append_at, appends_after, follows, leads, commit_at, commit, added, proposed, on_append, on_held, on_commit, on_tick_active}
+use Rattle.ballot_base.specs.Serving.{max_places}
+use Rattle.agreement.proofs.of_whole_logs.StepRows.{commit_at-stays, commit_at-goes}
 use Rattle.agreement.specs.World.{messages}
-use Rattle.whole.specs.lists.Lists.{In}
-use Rattle.whole.specs.lists.Lists.In.{here, there}
+use Rattle.lists.specs.Lists.{In}
+use Rattle.lists.specs.Lists.In.{here, there}
 
 -- the messages among effects are from one node
 pub data AreFrom {C O : Type 0} (id : ℕ) : List (Effect C O) → Type 0 where

@@ -3,16 +3,16 @@ use Rattle.std.proofs.Common.{◌≡◌, ℕ, zero, suc, ◌<◌, ◌⊎◌, inl
 use Rattle.std.specs.Prelude.{slice_get}
 use Rattle.std.proofs.lemmas.List.{length-set}
 use Rattle.machine.specs.Machine.{Rules}
-use Rattle.whole.specs.Messages.{Body, Effect, Message}
-use Rattle.whole.specs.Messages.Body.{Activate}
-use Rattle.whole.specs.ballot_base.declared.config.Config.{Config}
-use Rattle.whole.specs.Losses.{Loses, halted}
-use Rattle.whole.specs.Protocol.{Input, replica_step}
-use Rattle.whole.specs.Replica.{ReplicaState}
+use Rattle.agreement.specs.whole_logs.Messages.{Body, Effect, Message}
+use Rattle.agreement.specs.whole_logs.Messages.Body.{Activate}
+use Rattle.ballot_base.specs.declared.config.Config.{Config}
+use Rattle.agreement.specs.whole_logs.Losses.{Loses, halted}
+use Rattle.agreement.specs.whole_logs.Protocol.{Input, replica_step}
+use Rattle.agreement.specs.whole_logs.Replica.{ReplicaState}
 use Rattle.agreement.specs.World.{GroupWorld, messages, moved}
-use Rattle.whole.specs.lists.Lists.{In}
-use Rattle.whole.specs.lists.Lists.In.{here, there}
-use Rattle.whole.proofs.of_lists.Members.{in_append}
+use Rattle.lists.specs.Lists.{In}
+use Rattle.lists.specs.Lists.In.{here, there}
+use Rattle.lists.proofs.Members.{in_append}
 use Rattle.agreement.specs.MasterState.{MasterState, MasterOutcome, AssignRefusal, activated, assigned, refusal, master_after}
 use Rattle.agreement.specs.Steps.{MayHappen, sends_from_master, world_after}
 use Rattle.agreement.specs.Steps.MayHappen.{node_takes, node_stops, master_assigns, master_hears, assignment_lost, answer_lost}

@@ -2,23 +2,23 @@
 use Rattle.std.proofs.Common.{◌≡◌, ℕ, ◌+◌, ◌≤◌, ◌⊎◌, inl, inr, List, [], ◌∷◌, ◌++◌, length, Some, None, Option, refl, ap, sym, ◌∙◌, subst, arith}
 use Rattle.std.specs.Prelude.{slice_get}
 use Rattle.machine.specs.Machine.{Rules}
-use Rattle.whole.specs.Messages.{Message, Body}
-use Rattle.whole.specs.Messages.Body.{Append, Commit}
-use Rattle.whole.specs.ballot_base.declared.status.Progress.{Progress}
-use Rattle.whole.specs.Replica.{ReplicaState}
-use Rattle.whole.specs.Sending.{Outcome, message_to_followed}
-use Rattle.whole.specs.Serving.{append_at, appends_after, on_tick_active}
-use Rattle.whole.proofs.MessageRows.{on_tick_active-is}
+use Rattle.agreement.specs.whole_logs.Messages.{Message, Body}
+use Rattle.agreement.specs.whole_logs.Messages.Body.{Append, Commit}
+use Rattle.ballot_base.specs.declared.status.Progress.{Progress}
+use Rattle.agreement.specs.whole_logs.Replica.{ReplicaState}
+use Rattle.agreement.specs.whole_logs.Sending.{Outcome, message_to_followed}
+use Rattle.agreement.specs.whole_logs.Serving.{append_at, appends_after, on_tick_active}
+use Rattle.agreement.proofs.of_whole_logs.MessageRows.{on_tick_active-is}
 use Rattle.agreement.specs.World.{GroupWorld, messages, outputs}
-use Rattle.whole.specs.lists.Lists.{In}
-use Rattle.whole.specs.lists.Lists.In.{here, there}
+use Rattle.lists.specs.Lists.{In}
+use Rattle.lists.specs.Lists.In.{here, there}
 use Rattle.agreement.specs.Inside.Ballots.{History, Told, IsChosenIn}
 use Rattle.agreement.specs.Inside.Ballots.Told.{told_as_primary}
 use Rattle.agreement.specs.Inside.Keeps.{KeepsSoundness}
 use Rattle.agreement.specs.Inside.Sound.{IsSoundWorld}
 use Rattle.agreement.specs.Inside.SoundNodes.{IsActive, IsSoundNode}
 use Rattle.agreement.specs.Inside.Saying.{SpeaksTruth}
-use Rattle.whole.proofs.of_lists.Members.{in_append}
+use Rattle.lists.proofs.Members.{in_append}
 use Rattle.agreement.proofs.Effects.{messages-append, outputs-append, outputs_of_messages}
 use Rattle.agreement.proofs.Frame.Joining.{IsSilent}
 use Rattle.agreement.proofs.Frame.SaysLater.{told_less}

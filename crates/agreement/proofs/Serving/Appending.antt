@@ -3,13 +3,13 @@ use Rattle.std.proofs.Common.{◌≡◌, ℕ, ◌+◌, ◌<◌, ◌≤◌, ◌�
 use Rattle.std.specs.Prelude.{slice_get}
 use Rattle.std.proofs.lemmas.Bool.{cases_Bool, cases_lt}
 use Rattle.machine.specs.Machine.{Rules}
-use Rattle.whole.specs.Messages.Body.{Append, Held}
-use Rattle.whole.specs.Replica.{ReplicaState}
-use Rattle.whole.specs.Sending.{Outcome, message_to}
-use Rattle.whole.specs.Serving.{follows, extended, on_append}
-use Rattle.whole.proofs.MessageRows.{on_append-elsewhere, on_append-gap, on_append-takes}
+use Rattle.agreement.specs.whole_logs.Messages.Body.{Append, Held}
+use Rattle.agreement.specs.whole_logs.Replica.{ReplicaState}
+use Rattle.agreement.specs.whole_logs.Sending.{Outcome, message_to}
+use Rattle.agreement.specs.whole_logs.Serving.{follows, extended, on_append}
+use Rattle.agreement.proofs.of_whole_logs.MessageRows.{on_append-elsewhere, on_append-gap, on_append-takes}
 use Rattle.agreement.specs.World.{GroupWorld}
-use Rattle.whole.specs.lists.Lists.{In, IsPrefixOf}
+use Rattle.lists.specs.Lists.{In, IsPrefixOf}
 use Rattle.agreement.specs.Inside.Ballots.{Given, Line, History}
 use Rattle.agreement.specs.Inside.Keeps.{KeepsSoundness}
 use Rattle.agreement.specs.Inside.Sound.{IsSoundWorld}

@@ -2,20 +2,20 @@
 use Rattle.std.proofs.Common.{◌≡◌, ℕ, ◌+◌, ◌≤◌, List, [], ◌∷◌, ◌++◌, length, take, Some, ap, sym, ◌∙◌, subst, arith}
 use Rattle.std.specs.Prelude.{slice_get}
 use Rattle.machine.specs.Machine.{Rules, replay}
-use Rattle.whole.specs.Messages.Body.{Append}
-use Rattle.whole.specs.Replica.{ReplicaState}
-use Rattle.whole.specs.Sending.{Outcome, message_to_followed}
-use Rattle.whole.specs.Serving.{added}
-use Rattle.whole.proofs.StepRows.{added-is}
+use Rattle.agreement.specs.whole_logs.Messages.Body.{Append}
+use Rattle.agreement.specs.whole_logs.Replica.{ReplicaState}
+use Rattle.agreement.specs.whole_logs.Sending.{Outcome, message_to_followed}
+use Rattle.agreement.specs.whole_logs.Serving.{added}
+use Rattle.agreement.proofs.of_whole_logs.StepRows.{added-is}
 use Rattle.agreement.specs.World.{GroupWorld, moved}
-use Rattle.whole.specs.lists.Lists.{In}
+use Rattle.lists.specs.Lists.{In}
 use Rattle.agreement.specs.Inside.Ballots.{History}
 use Rattle.agreement.specs.Inside.Keeps.{KeepsAdding}
 use Rattle.agreement.specs.Inside.MovesAt.{with_lines, lined_at}
 use Rattle.agreement.specs.Inside.Sound.{IsSoundWorld}
 use Rattle.agreement.specs.Inside.Saying.{SpeaksTruth}
-use Rattle.whole.proofs.of_lists.Prefixes.{prefix_push, take_prefix}
-use Rattle.whole.proofs.of_lists.Places.{get_pushed}
+use Rattle.lists.proofs.Prefixes.{prefix_push, take_prefix}
+use Rattle.lists.proofs.Places.{get_pushed}
 use Rattle.agreement.proofs.Effects.{outputs_of_messages}
 use Rattle.agreement.proofs.Serving.ActiveTicks.{said_to_progress}
 use Rattle.agreement.proofs.Frame.Joining.{IsSilent}

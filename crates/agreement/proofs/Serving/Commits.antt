@@ -3,23 +3,25 @@ use Rattle.std.proofs.Common.{◌≡◌, ℕ, ◌+◌, ◌<◌, ◌≤◌, ◌�
 use Rattle.std.proofs.lemmas.Bool.{cases_lt}
 use Rattle.std.proofs.lemmas.List.{append-nil}
 use Rattle.machine.specs.Machine.{Rules, replay}
-use Rattle.whole.specs.Messages.{Message, Effect}
-use Rattle.whole.specs.Messages.Body.{Commit}
-use Rattle.whole.specs.ballot_base.declared.status.Progress.{Progress}
-use Rattle.whole.specs.Replica.{ReplicaState}
-use Rattle.whole.specs.Sending.{Outcome, message_to_followed, sent_first}
-use Rattle.whole.specs.Applying.{applied_to, outputs_from, outputs_to, outputs_between}
-use Rattle.whole.specs.Serving.{least, commit_at}
-use Rattle.whole.proofs.StepRows.{commit_at-goes, commit_at-stays, least-le}
+use Rattle.agreement.specs.whole_logs.Messages.{Message, Effect}
+use Rattle.agreement.specs.whole_logs.Messages.Body.{Commit}
+use Rattle.ballot_base.specs.declared.status.Progress.{Progress}
+use Rattle.agreement.specs.whole_logs.Replica.{ReplicaState}
+use Rattle.agreement.specs.whole_logs.Sending.{Outcome, message_to_followed, sent_first}
+use Rattle.agreement.specs.whole_logs.Applying.{applied_to, outputs_from, outputs_to, outputs_between}
+use Rattle.ballot_base.specs.Serving.{least}
+use Rattle.agreement.specs.whole_logs.Serving.{commit_at}
+use Rattle.agreement.proofs.of_whole_logs.StepRows.{commit_at-goes, commit_at-stays}
+use Rattle.ballot_base.proofs.StepRows.{least-le}
 use Rattle.agreement.specs.World.{GroupWorld, messages, outputs, moved}
-use Rattle.whole.specs.lists.Lists.{In}
+use Rattle.lists.specs.Lists.{In}
 use Rattle.agreement.specs.Inside.Ballots.{Line, History, IsChosenIn}
 use Rattle.agreement.specs.Inside.Keeps.{KeepsAdding}
 use Rattle.agreement.specs.Inside.MovesAt.{MovesAt, with_lines}
 use Rattle.agreement.specs.Inside.Sound.{IsSoundWorld}
 use Rattle.agreement.specs.Inside.SoundNodes.{IsActive, IsSoundNode}
 use Rattle.agreement.specs.Inside.Saying.{SpeaksTruth}
-use Rattle.whole.proofs.of_lists.Members.{in_append}
+use Rattle.lists.proofs.Members.{in_append}
 use Rattle.agreement.proofs.Effects.{messages-append, outputs-append, outputs_of_messages, thinned_messages, thinned_outputs}
 use Rattle.agreement.proofs.Serving.ActiveTicks.{said_to_progress, active_chosen, active_log, followed_other}
 use Rattle.agreement.proofs.Frame.MoveLines.{tells_here}

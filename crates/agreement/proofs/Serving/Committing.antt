@@ -3,15 +3,16 @@ use Rattle.std.proofs.Common.{◌≡◌, ℕ, ◌+◌, ◌<◌, ◌≤◌, ◌�
 use Rattle.std.specs.Prelude.{slice_get, ◌&&◌, ◌==◌}
 use Rattle.std.proofs.lemmas.Bool.{cases_Bool, cases_lt, and_parts, eqb-true}
 use Rattle.machine.specs.Machine.{Rules}
-use Rattle.whole.specs.Applying.{applied_to}
-use Rattle.whole.specs.Messages.Body.{Commit}
-use Rattle.whole.specs.Messages.{Effect}
-use Rattle.whole.specs.Replica.{ReplicaState, is_backup}
-use Rattle.whole.specs.Sending.{Outcome}
-use Rattle.whole.specs.Serving.{follows, on_commit}
-use Rattle.whole.proofs.MessageRows.{on_commit-elsewhere, on_commit-past, on_commit-takes}
+use Rattle.agreement.specs.whole_logs.Applying.{applied_to}
+use Rattle.agreement.specs.whole_logs.Messages.Body.{Commit}
+use Rattle.agreement.specs.whole_logs.Messages.{Effect}
+use Rattle.agreement.specs.whole_logs.Replica.{ReplicaState}
+use Rattle.ballot_base.specs.Replica.{is_backup}
+use Rattle.agreement.specs.whole_logs.Sending.{Outcome}
+use Rattle.agreement.specs.whole_logs.Serving.{follows, on_commit}
+use Rattle.agreement.proofs.of_whole_logs.MessageRows.{on_commit-elsewhere, on_commit-past, on_commit-takes}
 use Rattle.agreement.specs.World.{GroupWorld, moved}
-use Rattle.whole.specs.lists.Lists.{In, IsPrefixOf}
+use Rattle.lists.specs.Lists.{In, IsPrefixOf}
 use Rattle.agreement.specs.Inside.Ballots.{Given, Line, History}
 use Rattle.agreement.specs.Inside.BallotsStand.{Applied}
 use Rattle.agreement.specs.Inside.BallotsStand.Applied.{nothing, in_ballot}

@@ -2,9 +2,9 @@
 use Rattle.std.proofs.Common.{◌≡◌, ℕ, ◌⊎◌, inl, inr, cond, List, [], ◌∷◌, ◌++◌, length, Some, ap, sym, ◌∙◌, subst}
 use Rattle.std.specs.Prelude.{slice_get}
 use Rattle.std.proofs.lemmas.Bool.{cases_eq, eq-eqb, ne_eqb}
-use Rattle.whole.specs.Serving.{extended}
-use Rattle.whole.specs.lists.Lists.{IsPrefixOf}
-use Rattle.whole.proofs.of_lists.Prefixes.{prefix_same, prefix_push, prefix_next}
+use Rattle.agreement.specs.whole_logs.Serving.{extended}
+use Rattle.lists.specs.Lists.{IsPrefixOf}
+use Rattle.lists.proofs.Prefixes.{prefix_same, prefix_push, prefix_next}
 
 -- a log that takes the next place of a list
 pub extended_front : {C : Type 0} (log whole : List C) (place : ℕ) (c : C) → IsPrefixOf log whole → slice_get whole place ≡ Some c →

@@ -3,16 +3,19 @@ use Rattle.std.proofs.Common.{◌≡◌, ℕ, ◌+◌, ◌≤◌, ◌⊎◌, inl
 use Rattle.std.specs.Prelude.{slice_get, ◌==◌}
 use Rattle.std.proofs.lemmas.Bool.{cases_Bool, and_parts, eqb-true}
 use Rattle.machine.specs.Machine.{Rules, replay}
-use Rattle.whole.specs.Messages.Body.{Held}
-use Rattle.whole.specs.Messages.{Effect}
-use Rattle.whole.specs.ballot_base.declared.status.Progress.{Progress}
-use Rattle.whole.specs.ballot_base.declared.status.Role.TheVariants.{Active}
-use Rattle.whole.specs.Replica.{ReplicaState, is_active}
-use Rattle.whole.specs.Sending.{Outcome}
-use Rattle.whole.specs.Serving.{raised, raised_progress, leads, on_held}
-use Rattle.whole.proofs.MessageRows.{raised_progress-member, on_held-elsewhere, on_held-raises}
+use Rattle.agreement.specs.whole_logs.Messages.Body.{Held}
+use Rattle.agreement.specs.whole_logs.Messages.{Effect}
+use Rattle.ballot_base.specs.declared.status.Progress.{Progress}
+use Rattle.ballot_base.specs.declared.status.Role.TheVariants.{Active}
+use Rattle.agreement.specs.whole_logs.Replica.{ReplicaState}
+use Rattle.ballot_base.specs.Replica.{is_active}
+use Rattle.agreement.specs.whole_logs.Sending.{Outcome}
+use Rattle.ballot_base.specs.Serving.{raised, raised_progress}
+use Rattle.agreement.specs.whole_logs.Serving.{leads, on_held}
+use Rattle.ballot_base.proofs.MessageRows.{raised_progress-member}
+use Rattle.agreement.proofs.of_whole_logs.MessageRows.{on_held-elsewhere, on_held-raises}
 use Rattle.agreement.specs.World.{GroupWorld, moved}
-use Rattle.whole.specs.lists.Lists.{In}
+use Rattle.lists.specs.Lists.{In}
 use Rattle.agreement.specs.Inside.Ballots.{History, Told}
 use Rattle.agreement.specs.Inside.BallotsStand.{Applied}
 use Rattle.agreement.specs.Inside.Ballots.Told.{told_by_held}

@@ -1,13 +1,13 @@
 -- Ready.antt: a primary whose log or progress has changed, and that has not committed yet.
 use Rattle.std.proofs.Common.{◌≡◌, ℕ, ◌+◌, ◌≤◌, List, length, Some, Option, ap, arith}
 use Rattle.machine.specs.Machine.{Rules}
-use Rattle.whole.specs.Messages.{Message, Effect}
-use Rattle.whole.specs.ballot_base.declared.status.Progress.{Progress}
-use Rattle.whole.specs.ballot_base.declared.status.Role.TheVariants.{Active}
-use Rattle.whole.specs.Replica.{ReplicaState}
-use Rattle.whole.specs.Applying.{applied_to}
+use Rattle.agreement.specs.whole_logs.Messages.{Message, Effect}
+use Rattle.ballot_base.specs.declared.status.Progress.{Progress}
+use Rattle.ballot_base.specs.declared.status.Role.TheVariants.{Active}
+use Rattle.agreement.specs.whole_logs.Replica.{ReplicaState}
+use Rattle.agreement.specs.whole_logs.Applying.{applied_to}
 use Rattle.agreement.specs.World.{GroupWorld, messages, moved}
-use Rattle.whole.specs.lists.Lists.{In}
+use Rattle.lists.specs.Lists.{In}
 use Rattle.agreement.specs.Inside.Ballots.{Line, History}
 use Rattle.agreement.specs.Inside.BallotsStand.Applied.{in_ballot}
 use Rattle.agreement.specs.Inside.Keeps.{LineAdds}

@@ -2,18 +2,18 @@
 use Rattle.std.proofs.Common.{◌≡◌, ℕ, ◌+◌, List, [], ◌∷◌, Some, Option, refl, ap, sym, ◌∙◌, subst, arith}
 use Rattle.std.specs.Prelude.{slice_get}
 use Rattle.machine.specs.Machine.{Rules}
-use Rattle.whole.specs.Messages.{Message, Effect}
-use Rattle.whole.specs.Messages.Body.{Join, Install}
-use Rattle.whole.specs.ballot_base.declared.status.Role.{Role}
-use Rattle.whole.specs.ballot_base.declared.status.Role.TheVariants.{Backup, Fetching, Installing, Active}
-use Rattle.whole.specs.Replica.{ReplicaState}
-use Rattle.whole.specs.Sending.{message_to_each}
-use Rattle.whole.specs.Changing.{on_tick_fetching, install_effects}
-use Rattle.whole.specs.Serving.{on_tick_active}
-use Rattle.whole.specs.Protocol.{ticked}
+use Rattle.agreement.specs.whole_logs.Messages.{Message, Effect}
+use Rattle.agreement.specs.whole_logs.Messages.Body.{Join, Install}
+use Rattle.ballot_base.specs.declared.status.Role.{Role}
+use Rattle.ballot_base.specs.declared.status.Role.TheVariants.{Backup, Fetching, Installing, Active}
+use Rattle.agreement.specs.whole_logs.Replica.{ReplicaState}
+use Rattle.agreement.specs.whole_logs.Sending.{message_to_each}
+use Rattle.agreement.specs.whole_logs.Changing.{on_tick_fetching, install_effects}
+use Rattle.agreement.specs.whole_logs.Serving.{on_tick_active}
+use Rattle.agreement.specs.whole_logs.Protocol.{ticked}
 use Rattle.agreement.specs.World.{GroupWorld, messages, outputs, moved}
-use Rattle.whole.specs.lists.Lists.{In}
-use Rattle.whole.specs.lists.Lists.In.{here, there}
+use Rattle.lists.specs.Lists.{In}
+use Rattle.lists.specs.Lists.In.{here, there}
 use Rattle.agreement.specs.Inside.Ballots.{Given, History}
 use Rattle.agreement.specs.Inside.Keeps.{KeepsSoundness}
 use Rattle.agreement.specs.Inside.Sound.{IsSoundWorld}

@@ -5,13 +5,15 @@ use Rattle.std.specs.Prelude.{nat_lt, nat_le, ◌&&◌, ◌||◌, ◌==◌}
 use Rattle.std.specs.List.{list_any}
 use Rattle.std.proofs.lemmas.Bool.{cases_Bool}
 use Rattle.machine.specs.Machine.{Rules}
-use Rattle.whole.specs.ballot_base.declared.status.Role.TheVariants.{Active}
-use Rattle.whole.specs.Replica.{ReplicaState, is_fetching, is_installing}
-use Rattle.whole.specs.Sending.{Outcome}
-use Rattle.whole.specs.Changing.{on_new_ballot, on_join, on_install, on_state}
-use Rattle.whole.specs.Activating.{on_superseded, on_installed}
-use Rattle.whole.specs.Serving.{on_append, on_held, on_commit, commit, commit_at, added, least, raised, follows, leads}
-use Rattle.whole.proofs.StepRows.{added-is}
+use Rattle.ballot_base.specs.declared.status.Role.TheVariants.{Active}
+use Rattle.agreement.specs.whole_logs.Replica.{ReplicaState}
+use Rattle.ballot_base.specs.Replica.{is_fetching, is_installing}
+use Rattle.agreement.specs.whole_logs.Sending.{Outcome}
+use Rattle.agreement.specs.whole_logs.Changing.{on_new_ballot, on_join, on_install, on_state}
+use Rattle.agreement.specs.whole_logs.Activating.{on_superseded, on_installed}
+use Rattle.agreement.specs.whole_logs.Serving.{on_append, on_held, on_commit, commit, commit_at, added, follows, leads}
+use Rattle.ballot_base.specs.Serving.{least, raised}
+use Rattle.agreement.proofs.of_whole_logs.StepRows.{added-is}
 
 -- a node that is active after a step was active before, in the same ballot
 abbrev pub StaysActive : {S C O : Type 0} → ReplicaState S C → Outcome S C O → Type 0

@@ -4,20 +4,22 @@ use Rattle.std.proofs.Common.{◌≡◌, ℕ, ◌<◌, ◌≤◌, ◌⊎◌, inl
 use Rattle.std.specs.Prelude.{nat_lt, nat_le, ◌&&◌, ◌==◌}
 use Rattle.std.proofs.lemmas.Bool.{cases_Bool, cases_lt, and_parts}
 use Rattle.machine.specs.Machine.{Rules}
-use Rattle.whole.specs.Applying.{applied_to}
-use Rattle.whole.specs.Messages.{Body}
-use Rattle.whole.specs.Messages.Body.{NewBallot, Join, State, Install, Installed, Activate, Activated, Superseded, Append, Held, Commit}
-use Rattle.whole.specs.ballot_base.declared.status.Role.{Role}
-use Rattle.whole.specs.ballot_base.declared.status.Role.TheVariants.{Backup, Fetching, Installing, Active}
-use Rattle.whole.specs.Protocol.{Input, received, ticked, replica_step}
-use Rattle.whole.specs.Protocol.Input.{Receives, Proposes, Ticks}
-use Rattle.whole.specs.Replica.{ReplicaState, is_active, is_installing, others, progress_at}
-use Rattle.whole.specs.Sending.{Outcome}
-use Rattle.whole.specs.Serving.{max_places, proposed, on_tick_active}
-use Rattle.whole.proofs.StepRows.{proposed-adds, proposed-not_active, proposed-full}
-use Rattle.whole.specs.Activating.{on_activated}
+use Rattle.agreement.specs.whole_logs.Applying.{applied_to}
+use Rattle.agreement.specs.whole_logs.Messages.{Body}
+use Rattle.agreement.specs.whole_logs.Messages.Body.{NewBallot, Join, State, Install, Installed, Activate, Activated, Superseded, Append, Held, Commit}
+use Rattle.ballot_base.specs.declared.status.Role.{Role}
+use Rattle.ballot_base.specs.declared.status.Role.TheVariants.{Backup, Fetching, Installing, Active}
+use Rattle.agreement.specs.whole_logs.Protocol.{Input, received, ticked, replica_step}
+use Rattle.agreement.specs.whole_logs.Protocol.Input.{Receives, Proposes, Ticks}
+use Rattle.agreement.specs.whole_logs.Replica.{ReplicaState}
+use Rattle.ballot_base.specs.Replica.{is_active, is_installing, others, progress_at}
+use Rattle.agreement.specs.whole_logs.Sending.{Outcome}
+use Rattle.ballot_base.specs.Serving.{max_places}
+use Rattle.agreement.specs.whole_logs.Serving.{proposed, on_tick_active}
+use Rattle.agreement.proofs.of_whole_logs.StepRows.{proposed-adds, proposed-not_active, proposed-full}
+use Rattle.agreement.specs.whole_logs.Activating.{on_activated}
 use Rattle.agreement.proofs.Frame.Roles.{role_active, role_installing}
-use Rattle.whole.proofs.ChangeRows.{on_activated-stays, on_activated-adds}
+use Rattle.agreement.proofs.of_whole_logs.ChangeRows.{on_activated-stays, on_activated-adds}
 use Rattle.agreement.proofs.Starts.StaysActive.{StaysActive, active_new_ballot, active_join, active_state, active_install, active_installed, active_superseded, active_append, active_held, active_commit, added_keeps}
 
 -- a node that has just begun its ballot

@@ -1,10 +1,10 @@
 -- Ballots and their lists, and what nodes have acknowledged of them.
 use Rattle.std.specs.Prelude.{ℕ, ◌+◌, ◌<◌, ◌≤◌, ◌≡◌, List, length, take, slice_get}
 use Rattle.std.specs.Prelude.{Option, Some}
-use Rattle.whole.specs.Messages.Body.{Held, Installed}
-use Rattle.whole.specs.Replica.{ReplicaState}
+use Rattle.agreement.specs.whole_logs.Messages.Body.{Held, Installed}
+use Rattle.agreement.specs.whole_logs.Replica.{ReplicaState}
 use Rattle.agreement.specs.World.{GroupWorld}
-use Rattle.whole.specs.lists.Lists.{In, IsPrefixOf}
+use Rattle.lists.specs.Lists.{In, IsPrefixOf}
 
 -- a ballot as the master gave it; ballot 1 has the previous ballot 0
 pub record Given : Type 0 where

@@ -3,11 +3,11 @@
 use Rattle.agreement.specs.Inside.MovesAt.{with_lines}
 use Rattle.std.specs.Prelude.{◌⊎◌, ℕ, ◌≡◌, List, [], ◌∷◌, ◌++◌, Some, None}
 use Rattle.machine.specs.Machine.{Rules}
-use Rattle.whole.specs.Messages.{Effect}
-use Rattle.whole.specs.Losses.{Thinned}
-use Rattle.whole.specs.Sending.{Outcome}
+use Rattle.agreement.specs.whole_logs.Messages.{Effect}
+use Rattle.agreement.specs.whole_logs.Losses.{Thinned}
+use Rattle.agreement.specs.whole_logs.Sending.{Outcome}
 use Rattle.agreement.specs.World.{GroupWorld, moved}
-use Rattle.whole.specs.lists.Lists.{In, IsPrefixOf}
+use Rattle.lists.specs.Lists.{In, IsPrefixOf}
 use Rattle.agreement.specs.Inside.Ballots.{Told, TellsHere, Given, Line, History}
 use Rattle.agreement.specs.Inside.Extending.{Extends}
 use Rattle.agreement.specs.Inside.Sound.{IsSoundWorld}

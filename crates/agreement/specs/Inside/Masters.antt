@@ -1,9 +1,10 @@
 -- What the master's fields say about the history of ballots.
 use Rattle.std.specs.Prelude.{ℕ, ◌+◌, ◌<◌, ◌≤◌, ◌≡◌, List, ◌∷◌, Some}
-use Rattle.whole.specs.ballot_base.declared.config.Config.{Config}
+use Rattle.ballot_base.specs.declared.config.Config.{Config}
 use Rattle.agreement.specs.Inside.Ballots.{Given, History}
-use Rattle.whole.specs.lists.Lists.{In}
-use Rattle.agreement.specs.MasterState.{MasterState, max_ballot}
+use Rattle.lists.specs.Lists.{In}
+use Rattle.agreement.specs.MasterState.{MasterState}
+use Rattle.machine.specs.Ballots.{max_ballot}
 
 -- the master's fields are those of the history
 pub record IsMaster {C : Type 0} (master : MasterState) (history : History C) : Type 0 where

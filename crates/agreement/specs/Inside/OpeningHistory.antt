@@ -1,6 +1,6 @@
 -- The history of a group that opens.
 use Rattle.std.specs.Prelude.{◌==◌, [], ◌∷◌, Some, None, if◌then◌else◌}
-use Rattle.whole.specs.ballot_base.declared.config.Config.{Config}
+use Rattle.ballot_base.specs.declared.config.Config.{Config}
 use Rattle.agreement.specs.Inside.Ballots.{Given, Line, History}
 
 -- ballot 1 as it opens, and its list

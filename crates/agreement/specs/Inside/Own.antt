@@ -1,6 +1,6 @@
 -- The commands that were proposed in one ballot are in each log in the order of their proposals.
 use Rattle.std.specs.Prelude.{ℕ, Bool, ◌≡◌, List, filter, Some}
-use Rattle.whole.specs.lists.Lists.{In, IsPrefixOf}
+use Rattle.lists.specs.Lists.{In, IsPrefixOf}
 use Rattle.agreement.specs.Proposals.{commands_of, IsOfBallot}
 use Rattle.agreement.specs.Inside.Ballots.{Line, History}
 

@@ -8,8 +8,8 @@ use Rattle.agreement.specs.MasterState.{MasterState}
 use Rattle.agreement.specs.Replays.{AreReplays}
 use Rattle.agreement.specs.Inside.Sound.{IsSoundWorld}
 use Rattle.agreement.specs.World.{GroupWorld}
-use Rattle.whole.specs.Messages.{Message}
-use Rattle.whole.specs.lists.Lists.{In}
+use Rattle.agreement.specs.whole_logs.Messages.{Message}
+use Rattle.lists.specs.Lists.{In}
 
 -- the number of a node that there is
 abbrev pub IsNode : ℕ → ℕ → Type 0

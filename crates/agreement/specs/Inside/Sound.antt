@@ -2,11 +2,11 @@
 use Rattle.std.specs.Prelude.{ℕ, ◌+◌, ◌<◌, ◌≤◌, ◌≡◌, ◌⊎◌, List, length, take, slice_get, Some}
 use Rattle.std.specs.List.{flat_map}
 use Rattle.machine.specs.Machine.{Rules}
-use Rattle.whole.specs.Messages.{Message}
-use Rattle.whole.specs.Replica.{ReplicaState}
-use Rattle.whole.specs.Applying.{outputs_between}
+use Rattle.agreement.specs.whole_logs.Messages.{Message}
+use Rattle.agreement.specs.whole_logs.Replica.{ReplicaState}
+use Rattle.agreement.specs.whole_logs.Applying.{outputs_between}
 use Rattle.agreement.specs.World.{GroupWorld, outputs}
-use Rattle.whole.specs.lists.Lists.{In, IsPrefixOf}
+use Rattle.lists.specs.Lists.{In, IsPrefixOf}
 use Rattle.agreement.specs.Inside.Ballots.{Given, Line, History, Told, IsChosenIn}
 use Rattle.agreement.specs.Inside.BallotsStand.{AreBallots, BallotListsStand}
 use Rattle.agreement.specs.Inside.SoundNodes.{IsSoundNode}

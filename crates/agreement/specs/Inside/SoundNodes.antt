@@ -1,10 +1,10 @@
 -- What holds of every node of a group, by its role.
 use Rattle.std.specs.Prelude.{ℕ, ◌+◌, ◌<◌, ◌≤◌, ◌≡◌, ◌⊎◌, [], length, Some, None}
-use Rattle.whole.specs.ballot_base.declared.status.Progress.{Progress}
-use Rattle.whole.specs.ballot_base.declared.status.Role.TheVariants.{Fetching, Installing, Active}
-use Rattle.whole.specs.Replica.{ReplicaState}
+use Rattle.ballot_base.specs.declared.status.Progress.{Progress}
+use Rattle.ballot_base.specs.declared.status.Role.TheVariants.{Fetching, Installing, Active}
+use Rattle.agreement.specs.whole_logs.Replica.{ReplicaState}
 use Rattle.agreement.specs.World.{GroupWorld}
-use Rattle.whole.specs.lists.Lists.{In}
+use Rattle.lists.specs.Lists.{In}
 use Rattle.agreement.specs.Inside.Ballots.{Given, Line, History, Told}
 use Rattle.agreement.specs.Inside.BallotsStand.{IsPlaced, Applied}
 use Rattle.agreement.specs.Inside.Saying.{IsOf}

@@ -2,9 +2,9 @@
 -- acknowledged, by the messages that were sent.
 use Rattle.std.specs.Prelude.{ℕ, ◌==◌, List, [], ◌∷◌, length, if◌then◌else◌}
 use Rattle.std.proofs.Common.{min, max}
-use Rattle.whole.specs.Messages.{Message, Body}
-use Rattle.whole.specs.Messages.Body.{NewBallot, Join, State, Install, Installed, Activate}
-use Rattle.whole.specs.Messages.Body.{Activated, Superseded, Append, Held, Commit}
+use Rattle.agreement.specs.whole_logs.Messages.{Message, Body}
+use Rattle.agreement.specs.whole_logs.Messages.Body.{NewBallot, Join, State, Install, Installed, Activate}
+use Rattle.agreement.specs.whole_logs.Messages.Body.{Activated, Superseded, Append, Held, Commit}
 use Rattle.agreement.specs.Inside.Ballots.{Given, Line}
 
 -- the length that a body acknowledges of a ballot's list

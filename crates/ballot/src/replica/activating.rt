@@ -11,7 +11,7 @@ ghost use Rattle.ballot_base.specs.Serving.{commit};
 ghost use Rattle.ballot_base.specs.Sending.{message_to_followed};
 ghost use Rattle.ballot_base.specs.Losses.{halted, one_more};
 ghost use Rattle.ballot_base.specs.Applying.{applied_to};
-ghost use Rattle.ballot_base.specs.lists.Lists.{IsPrefixOf};
+ghost use Rattle.lists.specs.Lists.{IsPrefixOf};
 
 use super::Replica;
 use ballot_base::{

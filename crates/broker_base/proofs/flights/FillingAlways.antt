@@ -1,8 +1,8 @@
 -- Another form of the step of one session: its queue is filled after every command. On the states
 -- of pasts it is the same, since there a connected client's queue is filled.
 use Rattle.std.proofs.Common.{ℕ, Bool, not, ◌&&◌, ◌||◌, if◌then◌else◌, List, ◌++◌, Option, Some, None}
-use Rattle.session_base.specs.packet.declared.packet.Packet.TheVariants as packets
-use Rattle.broker_spec.specs.retained.Retained.{RetainedTopics}
+use Rattle.packet.specs.declared.packet.Packet.TheVariants as packets
+use Rattle.retained.specs.Retained.{RetainedTopics}
 use Rattle.session_base.specs.Queue.{Flight, on_puback, on_pubrec, on_pubcomp}
 use Rattle.broker_spec.specs.Connection.{ConnectionName}
 use Rattle.broker_spec.specs.Place.{Client, same_client, Mark, Place, only_if}

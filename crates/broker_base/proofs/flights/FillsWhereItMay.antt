@@ -1,8 +1,8 @@
 -- If a connected client's queue is filled, a fill after every command is a fill where entries may
 -- start: at a Connect, after PUBACK and PUBCOMP, and after each copy that is enqueued.
 use Rattle.std.proofs.Common.{◌≡◌, ℕ, ◌≤◌, Bool, true, false, not, ◌&&◌, ◌||◌, inl, inr, if◌then◌else◌, Option, Some, None, List, [], ◌++◌, length, refl, ap, ◌∙◌, sym, subst}
-use Rattle.session_base.specs.packet.declared.packet.Packet.TheVariants as packets
-use Rattle.broker_spec.specs.retained.Retained.{RetainedTopics}
+use Rattle.packet.specs.declared.packet.Packet.TheVariants as packets
+use Rattle.retained.specs.Retained.{RetainedTopics}
 use Rattle.session_base.specs.declared.publication.Publication.{Publication}
 use Rattle.session_base.specs.Laws.{IsFilledQueue}
 use Rattle.session_base.specs.Subscriptions.{GrantedSubscription}

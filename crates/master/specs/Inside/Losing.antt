@@ -1,16 +1,16 @@
 -- Steps of nodes and of groups that may lose something when memory runs out, and count it.
 use Rattle.std.specs.Prelude.{ℕ, Bool, true, false, ◌<◌, ◌≡◌, ◌⊎◌, List, [], ◌++◌, Some}
 use Rattle.machine.specs.Machine.{Rules}
-use Rattle.ballot.specs.ballot_base.declared.message.Message.{Message}
-use Rattle.ballot.specs.ballot_base.declared.message.Effect.{Effect}
-use Rattle.ballot.specs.ballot_base.Losses.{SendsAndAddsNothing, Loses, Thinned, greatest_count, one_more}
-use Rattle.ballot.specs.ballot_base.Protocol.{Input, replica_step}
-use Rattle.ballot.specs.ballot_base.Protocol.Input.{Receives, Proposes, Ticks}
-use Rattle.ballot.specs.ballot_base.Replica.{ReplicaState, CountedReplica}
-use Rattle.ballot.specs.ballot_base.Unread.{is_unread}
-use Rattle.snapshots.specs.Masters.{MasterOutcome}
-use Rattle.snapshots.specs.Steps.{sends_from_master}
-use Rattle.snapshots.specs.World.{messages, outputs, moved}
+use Rattle.ballot_base.specs.declared.message.Message.{Message}
+use Rattle.ballot_base.specs.declared.message.Effect.{Effect}
+use Rattle.ballot_base.specs.Losses.{SendsAndAddsNothing, Loses, Thinned, greatest_count, one_more}
+use Rattle.ballot_base.specs.Protocol.{Input, replica_step}
+use Rattle.ballot_base.specs.Protocol.Input.{Receives, Proposes, Ticks}
+use Rattle.ballot_base.specs.Replica.{ReplicaState, CountedReplica}
+use Rattle.ballot_base.specs.Unread.{is_unread}
+use Rattle.agreement.specs.cut_logs.Masters.{MasterOutcome}
+use Rattle.agreement.specs.cut_logs.Steps.{sends_from_master}
+use Rattle.agreement.specs.cut_logs.World.{messages, outputs, moved}
 use Rattle.master.specs.declared.inputs.Input.{Input as InputInCode}
 use Rattle.master.specs.declared.inputs.Input.TheVariants.{Received, Proposed, Ticked}
 use Rattle.master.specs.Group.{GroupState}

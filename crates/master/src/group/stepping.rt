@@ -2,12 +2,12 @@
 
 ghost use Rattle.std.specs.Prelude.{◌≡◌, ◌<◌, ◌↔◌, true, false, None, Some, slice_get, OnOk};
 ghost use Rattle.std.specs.Prelude.{OnErr, IsErr};
-ghost use Rattle.ballot.specs.ballot_base.declared.message.Body.TheVariants.{Activate};
-ghost use Rattle.ballot.specs.ballot_base.Cutting.{can_cut};
-ghost use Rattle.ballot.specs.ballot_base.Replica.{ReplicaState};
-ghost use Rattle.ballot.specs.lists.Lists.{In};
-ghost use Rattle.snapshots.specs.Masters.{activated, assigned};
-ghost use Rattle.snapshots.specs.agreement.MasterState.{refusal};
+ghost use Rattle.ballot_base.specs.declared.message.Body.TheVariants.{Activate};
+ghost use Rattle.ballot_base.specs.Cutting.{can_cut};
+ghost use Rattle.ballot_base.specs.Replica.{ReplicaState};
+ghost use Rattle.lists.specs.Lists.{In};
+ghost use Rattle.agreement.specs.cut_logs.Masters.{activated, assigned};
+ghost use Rattle.agreement.specs.MasterState.{refusal};
 ghost use Rattle.master.specs.Exact.{event_outcome};
 ghost use Rattle.master.specs.Outcomes.{cut_outcome};
 ghost use Rattle.master.specs.Inside.Losing.{GroupCutOrLost, GroupMasterStepOrLost};
@@ -20,7 +20,7 @@ use crate::inputs::{Input, counted};
 use crate::recording::record;
 use crate::sending::{activation_answer, asks_for, send};
 use crate::told::follow_ballot;
-use ballot::{Body, Config, MAX_PLACES, Members};
+use ballot_base::{Body, Config, MAX_PLACES, Members};
 use machine::{Machine, Memory};
 
 impl<M: Machine> Group<M> {

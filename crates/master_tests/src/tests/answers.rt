@@ -2,7 +2,7 @@
 
 use super::groups::*;
 use super::stories::{Run, first_fault};
-use ballot::{Body, Message};
+use ballot_base::{Body, Message};
 use machine::{Tally, TallyCommand};
 use master::{Event, Group};
 

@@ -1,6 +1,7 @@
 // Groups of machines that add numbers, and small questions that are asked of them.
 
-use ballot::{Config, Effect, Members, OpeningError};
+use ballot_base::errors::OpeningError;
+use ballot_base::{Config, Effect, Members};
 use machine::{Memory, Tally, TallyCommand};
 use master::{Event, Group};
 use std::alloc::Global;

@@ -2,7 +2,8 @@
 
 use super::groups::*;
 use super::stories::{Run, first_fault};
-use ballot::{Config, OpeningError};
+use ballot_base::Config;
+use ballot_base::errors::OpeningError;
 use machine::{Tally, TallyCommand};
 use master::{Event, Group, Idle};
 use std::alloc::Global;

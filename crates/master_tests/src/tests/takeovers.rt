@@ -2,7 +2,7 @@
 
 use super::groups::*;
 use super::stories::{Run, first_fault};
-use ballot::Effect;
+use ballot_base::Effect;
 use machine::{Tally, TallyCommand};
 use master::{Event, Group};
 use std::alloc::Global;

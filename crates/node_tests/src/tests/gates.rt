@@ -5,7 +5,8 @@ ghost use Rattle.std.specs.Prelude.{◌≡◌};
 use super::nodes::send;
 use super::starts::{Start, fresh_two};
 use mailbox::Lane;
-use node::{Gate, HasState, Item, Node, NodeNaming, NodeState, Report};
+use node::{HasState, Node, NodeNaming, NodeState, Report};
+use node_base::devices::Gate;
 use std::alloc::Global;
 use std::marker::Brand;
 use std::sync::{Mutex, Wait};
@@ -13,6 +14,7 @@ use std::test::Fail;
 use std::thread;
 use std::thread::Threads;
 use std::time::Clock;
+use world_base::node_core::Item;
 
 // What was reported to a gate about a node: how many takings are done, how many times it was asked
 // for the second one, and whether each call named the next taking.

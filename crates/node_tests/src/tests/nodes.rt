@@ -6,11 +6,14 @@ ghost use Rattle.std.specs.Prelude.{◌≡◌, ◌≤◌};
 use super::starts::{Start, fresh};
 use super::taken::{Came, SILENT, Sent, take_one};
 use mailbox::Lane;
-use node::{Handed, Item, NoGate, Node, NodeNaming, NodeState, Piece, Port, Report};
+use node::{Node, NodeNaming, NodeState, Report};
+use node_base::devices::NoGate;
 use std::alloc::Global;
 use std::marker::Brand;
 use std::sync::Wait;
 use std::test::Fail;
+use world_base::node_connections::{Handed, Piece, Port};
+use world_base::node_core::Item;
 
 // Client `a`, keep alive 60, CleanSession 0.
 const CONNECT: &[u8] = &[

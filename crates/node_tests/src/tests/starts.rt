@@ -2,10 +2,11 @@
 
 ghost use Rattle.std.specs.Prelude.{◌≤◌};
 
+use ballot_base::{Config, Members};
 use mailbox::Inbox;
-use node::{Config, Item, Members, NodeCore};
 use std::alloc::Global;
 use std::test::Fail;
+use world_base::node_core::{Item, NodeCore};
 
 /// An inbox with what its node is at first.
 #[derive(Drop)]

@@ -1,8 +1,11 @@
 // What comes of what is done with nodes, as it is shown.
 
-use node::{Body, Command, Effect, Handed, NodeNaming, NodeState, Output};
+use ballot_base::{Body, Effect};
+use broker_spec::{Command, Output};
+use node::{NodeNaming, NodeState};
 use std::alloc::Global;
 use std::sync::Wait;
+use world_base::node_connections::Handed;
 
 /// What a node sends.
 #[derive(Clone, Copy, Debug, PartialEq, Eq)]

@@ -6,11 +6,12 @@ use super::nodes::{met, send, sent};
 use super::starts::{Start, fresh_two};
 use super::taken::{Came, SILENT, take_one};
 use mailbox::Lane;
-use node::{Item, NodeNaming, NodeState};
+use node::{NodeNaming, NodeState};
 use std::alloc::Global;
 use std::marker::Brand;
 use std::sync::{Mutex, Wait};
 use std::test::Fail;
+use world_base::node_core::Item;
 
 // What is done with two nodes, meant by their indexes, of one lane each.
 #[derive(Clone, Copy, Debug, PartialEq, Eq)]

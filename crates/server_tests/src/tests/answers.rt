@@ -2,10 +2,10 @@
 
 use super::nodes::{fault_in, first_fault_with};
 use super::row::{Row, Table};
-use server::Listener;
-use server_clients::{Fault, Flood, connect, exchange, hear_end_within, join, named, open, unless};
+use crate::clients::{Fault, Flood, connect, exchange, hear_end_within, join, named, open, unless};
 use std::net::{Net, TcpStream};
 use std::time::{Clock, Instant};
+use streams::Listener;
 
 // A flood to several members: each packet is a place of the log of each.
 const FLOODS: &[Table] = &[

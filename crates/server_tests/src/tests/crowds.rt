@@ -2,8 +2,7 @@
 
 use super::nodes::first_fault_with;
 use super::row::Row;
-use server::Listener;
-use server_clients::{
+use crate::clients::{
     Came, Fault, Large, Pair, SUBSCRIBE, SUBSCRIBED, StreamState, connect, exchange, hear_end,
     hear_end_within, hear_nothing_for, join, large_publish, named, open, ping, publish_times,
 };
@@ -13,6 +12,7 @@ use std::ops::Range;
 use std::sync::Wait;
 use std::thread;
 use std::time::{Clock, Duration};
+use streams::Listener;
 
 #[test]
 fn a_sixty_first_client_is_closed(rt: HostRuntime) {

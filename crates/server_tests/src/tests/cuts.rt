@@ -1,12 +1,16 @@
 // Nodes that cut their logs, as their reports show.
 
-use server::{Config, Listener, Members, NoGate, NodeReport, serve_gated};
-use server_clients::{Fault, join, large_publish, listen_all, named, publish_times, unless};
+use crate::clients::{Fault, join, large_publish, listen_all, named, publish_times, unless};
+use ballot_base::{Config, Members};
+use node_base::devices::NoGate;
+use server::node_threads::NodeReport;
+use server::serve_gated;
 use std::net::{Net, TcpListener, TcpStream};
 use std::sync::Wait;
 use std::thread;
 use std::thread::Threads;
 use std::time::{Clock, Duration};
+use streams::Listener;
 
 // What a client sends to the primary, the first of some members. Then how long they serve, and
 // which of them have cut their logs at the end.

@@ -2,15 +2,16 @@
 
 use super::nodes::fault_in;
 use super::row::{Row, Table};
-use packet::ClientId;
-use server::{Cluster, Listener};
-use server_clients::{
+use crate::clients::{
     Came, Fault, Heard, Pair, SUBSCRIBE, SUBSCRIBED, deliver, exchange, hear_end_within,
     hear_nothing, join, named, publish, unless,
 };
+use packet_base::ClientId;
+use post::Cluster;
 use std::net::{Net, TcpStream};
 use std::sync::Wait;
 use std::time::Clock;
+use streams::Listener;
 
 // For how long the end of an expelled client's stream is awaited: its keep alive would end it after
 // 90 seconds.

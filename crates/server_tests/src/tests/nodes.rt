@@ -1,13 +1,16 @@
 // Nodes on free ports of the loopback interface, and the rows that run with them.
 
 use super::row::{Row, Table, first_fault};
-use server::{Cluster, Config, Listener, Members, serve_while};
-use server_clients::{Fault, listen_all, opening};
+use crate::clients::{Fault, listen_all, opening};
+use ballot_base::{Config, Members};
+use post::Cluster;
+use server::serve_while;
 use std::net::{Net, TcpListener, TcpStream};
 use std::sync::Wait;
 use std::thread;
 use std::thread::Threads;
 use std::time::{Clock, Duration};
+use streams::Listener;
 
 /// Returns the name of the first of these tables whose row fails, and the step that fails. Each
 /// table has nodes of its own.

@@ -1,7 +1,8 @@
 // What is refused: listeners that are not served; and how each refusal is told.
 
-use server::{OrderError, ServeError, serve_while};
-use server_clients::{listen_all, opening};
+use crate::clients::{listen_all, opening};
+use post::outbox::OrderError;
+use server::{ServeError, serve_while};
 use std::net::{Net, TcpListener, TcpStream};
 use std::sync::Wait;
 use std::test::Fail;

@@ -4,11 +4,12 @@ use super::answers::{flood_in_one_write, silence};
 use super::crowds::{come_in_turn, deaf_one, never_reading, silent_ones, sixty};
 use super::expulsions::expel_twice;
 use super::takeovers::{move_session, take_over};
-use server::{Cluster, Listener};
-use server_clients::{Fault, named, visit};
+use crate::clients::{Fault, named, visit};
+use post::Cluster;
 use std::net::{Net, TcpStream};
 use std::sync::Wait;
 use std::time::Clock;
+use streams::Listener;
 
 /// What clients do, and what they are answered.
 #[derive(Clone, Copy)]

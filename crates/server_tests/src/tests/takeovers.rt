@@ -2,14 +2,15 @@
 
 use super::nodes::{fault_in, move_to};
 use super::row::{Row, Table};
-use server::{Cluster, Listener};
-use server_clients::{
+use crate::clients::{
     Came, Fault, Heard, Pair, connect, deliver, exchange, hear_nothing, named, open, publish, send,
     unless, visit,
 };
+use post::Cluster;
 use std::net::{Net, TcpStream};
 use std::sync::Wait;
 use std::time::Clock;
+use streams::Listener;
 
 const TABLES: &[Table] = &[
     Table {

@@ -1,9 +1,9 @@
 // Rows: calls of an index, each with what it is to answer.
 
 use crate::shown::{SHOWN, front_of};
-use packet::{ClientId, QoS};
+use packet_base::{ClientId, QoS};
 use std::alloc::Global;
-use subs::SubIndex;
+use subs_base::SubIndex;
 use topics::{Filter, TopicName};
 
 /// What a client is granted.

@@ -3,11 +3,12 @@
 // and does its work when it is made again.
 
 use crate::indexes::calls::{Grant, are_wanted};
-use packet::QoS::{AtLeastOnce, AtMostOnce, ExactlyOnce};
-use packet::{ClientId, QoS};
+use packet_base::QoS::{AtLeastOnce, AtMostOnce, ExactlyOnce};
+use packet_base::{ClientId, QoS};
 use std::alloc::Global;
 use std::test::*;
-use subs::{ListIndex, SubIndex, TreeIndex};
+use subs::TreeIndex;
+use subs_base::{ListIndex, SubIndex};
 use topics::{Filter, TopicName};
 
 /// What is set in turn: a new client, levels that are new or exist, `#`, `+`, and another QoS.

@@ -1,9 +1,9 @@
 // What a client's filters are once others are put in their place.
 
-use packet::{ClientId, QoS};
+use packet_base::{ClientId, QoS};
 use std::alloc::Global;
 use std::collections::BTreeMap;
-use subs::{ListIndex, SubIndex};
+use subs_base::{ListIndex, SubIndex};
 use topics::Filter;
 
 // Puts one filter of a client, and then none. Returns how many clients had one after each; none if

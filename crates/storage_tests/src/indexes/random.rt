@@ -1,11 +1,12 @@
 // A long list of calls by a fixed rule, of both indexes.
 
 use crate::indexes::calls::{Shown, shown};
-use packet::{ClientId, QoS};
+use packet_base::{ClientId, QoS};
 use random_numbers::Numbers;
 use std::alloc::Global;
 use std::test::*;
-use subs::{ListIndex, SubIndex, TreeIndex};
+use subs::TreeIndex;
+use subs_base::{ListIndex, SubIndex};
 use topics::{Filter, TopicName};
 
 /// How many calls.

@@ -2,9 +2,10 @@
 
 use crate::indexes::calls::Call::{self, Clear, DropClient, Granted, Set};
 use crate::indexes::calls::{Fault, first_fault};
-use packet::QoS::{AtLeastOnce, AtMostOnce, ExactlyOnce};
+use packet_base::QoS::{AtLeastOnce, AtMostOnce, ExactlyOnce};
 use std::alloc::Global;
-use subs::{ListIndex, SubIndex, TreeIndex};
+use subs::TreeIndex;
+use subs_base::{ListIndex, SubIndex};
 
 const PLUS_32: &str = "+/+/+/+/+/+/+/+/+/+/+/+/+/+/+/+/+/+/+/+/+/+/+/+/+/+/+/+/+/+/+/+";
 

@@ -4,7 +4,7 @@
 
 use crate::indexes::memory::filter_of;
 use crate::retaining::row::put;
-use packet::QoS;
+use packet_base::QoS;
 use retained::{RetainedError, RetainedStore};
 use std::alloc::Global;
 use topics::Filter;

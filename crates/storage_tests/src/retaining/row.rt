@@ -1,7 +1,7 @@
 // Rows: what is done to a store, and what is to come of it.
 
 use crate::shown::{SHOWN, front_of};
-use packet::{Payload, QoS};
+use packet_base::{Payload, QoS};
 use retained::{RetainedError, RetainedPublication, RetainedStore};
 use std::alloc::Global;
 use topics::{Filter, TopicName};

@@ -1,9 +1,9 @@
 -- A call of a client.
 use Rattle.std.specs.Prelude.{◌≡◌, Result, Ok, Err, IsOk, IsErr}
-use Rattle.headline.specs.ballot_base.Losses.{one_more}
-use Rattle.escaping_client.specs.client_base.declared.error.ClientError.{ClientError}
-use Rattle.escaping_client.specs.client_base.declared.error.ClientError.TheVariants as errors
-use Rattle.escaping_nodes.specs.master.declared.event.Idle.{Idle}
+use Rattle.ballot_base.specs.Losses.{one_more}
+use Rattle.client_base.specs.declared.error.ClientError.{ClientError}
+use Rattle.client_base.specs.declared.error.ClientError.TheVariants as errors
+use Rattle.master.specs.declared.event.Idle.{Idle}
 use Rattle.world_pipes.specs.declared.sending.Sending.{Sending}
 use Rattle.world_pipes.specs.declared.sending.Sending.TheVariants as sendings
 use Rattle.world.specs.World.{WorldState}

@@ -2,11 +2,11 @@
 use Rattle.std.specs.Prelude.{◌≡◌, ◌-◌, ℕ, Bool, true, false, Some, slice_get}
 use Rattle.world_nodes.specs.Nodes.{NodesState}
 use Rattle.world_pipes.specs.Piped.{Piped}
-use Rattle.world_clients.specs.declared.connection_slot.ConnectionSlot.{ConnectionSlot}
-use Rattle.world_clients.specs.declared.world_client.WorldClient.{WorldClient}
+use Rattle.world_pipes.specs.declared.clients.connection_slot.ConnectionSlot.{ConnectionSlot}
+use Rattle.world_pipes.specs.declared.clients.world_client.WorldClient.{WorldClient}
 use Rattle.world.specs.Found.{port_at_node, with_piped}
 use Rattle.world.specs.World.{WorldState}
-use Rattle.world_clients.specs.Carrying.{CarriesUp, CanCarryUp, CannotCarryUp}
+use Rattle.world_pipes.specs.clients.Carrying.{CarriesUp, CanCarryUp, CannotCarryUp}
 
 -- ---- bytes reach a node
 

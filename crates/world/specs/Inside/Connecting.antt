@@ -1,16 +1,16 @@
 -- A new connection.
 use Rattle.std.specs.Prelude.{◌≡◌, ◌⊎◌, ◌-◌, ℕ, true, false, [], ◌∷◌, ◌++◌, Some, length, slice_get}
-use Rattle.headline.specs.ballot_base.Losses.{one_more}
+use Rattle.ballot_base.specs.Losses.{one_more}
 use Rattle.world_nodes.specs.Nodes.{NodesState}
 use Rattle.world_nodes.specs.Steps.{NodesLoseNothing}
 use Rattle.world_pipes.specs.Piped.{Piped}
-use Rattle.world_clients.specs.declared.world_client.WorldClient.{WorldClient}
+use Rattle.world_pipes.specs.declared.clients.world_client.WorldClient.{WorldClient}
 use Rattle.world.specs.Found.{port_at_node, with_piped}
 use Rattle.world.specs.Gathering.{Gathers}
-use Rattle.world_clients.specs.Opening.{NoneOpens}
+use Rattle.world_pipes.specs.clients.Opening.{NoneOpens}
 use Rattle.world.specs.Opening.{next_connection_number}
 use Rattle.world.specs.World.{WorldState}
-use Rattle.world_clients.specs.Opening.{HasNew}
+use Rattle.world_pipes.specs.clients.Opening.{HasNew}
 
 -- the client at this index has a new connection to the node, under the next number, and the node
 -- has taken it

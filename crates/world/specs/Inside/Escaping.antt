@@ -1,12 +1,12 @@
 -- The events of a way out, by arithmetic, and the member whose log is fetched.
 use Rattle.std.specs.Prelude.{◌≡◌, ◌≤◌, ℕ, suc, ◌+◌, ◌-◌, ◌*◌, Bool, List, ◌∷◌, ◌++◌, Some, length, map, slice_get}
 use Rattle.std.specs.List.{position}
-use Rattle.headline.specs.ballot_base.Serving.{max_places}
-use Rattle.ways_out.specs.Deliveries.{way_out}
+use Rattle.ballot_base.specs.Serving.{max_places}
+use Rattle.recovery.specs.replicas.Deliveries.{way_out}
 use Rattle.world_nodes.specs.Running.{is_running, numbered_node}
-use Rattle.world_events.specs.declared.event.Event.{Event}
-use Rattle.world_events.specs.declared.event.Event.TheVariants as events
-use Rattle.world_events.specs.EscapeEvents.{answer_events, client_events}
+use Rattle.world_pipes.specs.declared.events.event.Event.{Event}
+use Rattle.world_pipes.specs.declared.events.event.Event.TheVariants as events
+use Rattle.world_pipes.specs.events.EscapeEvents.{answer_events, client_events}
 use Rattle.world.specs.Escaping.{configuration_of, log_length_of}
 use Rattle.world.specs.World.{WorldState}
 

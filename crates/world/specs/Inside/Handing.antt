@@ -5,12 +5,12 @@ use Rattle.world_nodes.specs.Running.{numbered_node}
 use Rattle.world_nodes.specs.Nodes.{NodesState}
 use Rattle.world_nodes.specs.Steps.{nodes_with_loss}
 use Rattle.world_pipes.specs.declared.way.Way.{Way}
-use Rattle.world_clients.specs.declared.connection_slot.ConnectionSlot.{ConnectionSlot}
-use Rattle.world_clients.specs.declared.world_client.WorldClient.{WorldClient}
+use Rattle.world_pipes.specs.declared.clients.connection_slot.ConnectionSlot.{ConnectionSlot}
+use Rattle.world_pipes.specs.declared.clients.world_client.WorldClient.{WorldClient}
 use Rattle.world.specs.Found.{slot_numbered, port_at_node, with_piped}
-use Rattle.world_clients.specs.Handing.{with_down, HandsOverBytes, is_reported_open, bytes_put_out}
+use Rattle.world_pipes.specs.clients.Handing.{with_down, HandsOverBytes, is_reported_open, bytes_put_out}
 use Rattle.world.specs.Gathering.{GatheredWhere, leads_open_to}
-use Rattle.world_clients.specs.SlotsAreValid.{open_from}
+use Rattle.world_pipes.specs.clients.SlotsAreValid.{open_from}
 use Rattle.world.specs.World.{WorldState}
 
 -- what a node queued for the connection of this number is in transit down, after what was, and this

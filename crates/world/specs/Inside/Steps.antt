@@ -1,12 +1,12 @@
 -- What the parts of a step do, and how a step is counted.
 use Rattle.std.specs.Prelude.{◌≡◌, ◌⊎◌, ◌≤◌, ◌<◌, ℕ, true, false, List, [], Result, Ok, Err}
-use Rattle.headline.specs.ballot_base.Losses.{greatest_count, one_more}
-use Rattle.escaping_nodes.specs.master.declared.event.Idle.{Idle}
+use Rattle.ballot_base.specs.Losses.{greatest_count, one_more}
+use Rattle.master.specs.declared.event.Idle.{Idle}
 use Rattle.session_base.specs.declared.publication.Publication.{Publication}
 use Rattle.world_nodes.specs.Steps.{NodesLoseNothing}
-use Rattle.world_events.specs.declared.event.Event.{Event}
+use Rattle.world_pipes.specs.declared.events.event.Event.{Event}
 use Rattle.world.specs.Asking.{EventAsks}
-use Rattle.world_clients.specs.NodesGoOn.{NodesGoOn}
+use Rattle.world_pipes.specs.clients.NodesGoOn.{NodesGoOn}
 use Rattle.world.specs.Cannot.{CannotHappen}
 use Rattle.world.specs.Doing.{DoesEvent}
 use Rattle.world.specs.Happening.{HappensLosing}

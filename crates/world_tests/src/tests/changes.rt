@@ -2,7 +2,8 @@
 
 use crate::tests::opening::{config_of, opened};
 use std::alloc::Global;
-use world::{Event, World};
+use world::World;
+use world_pipes::events::Event;
 
 // How often the configuration changes.
 const CHANGES: u64 = 200;

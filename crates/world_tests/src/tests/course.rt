@@ -1,12 +1,13 @@
 // How a long run of events by a fixed rule continues.
 
 use crate::tests::opening::{config_of, named};
-use packet::{ClientId, Payload, QoS};
+use packet_base::{ClientId, Payload, QoS};
 use random_numbers::Numbers;
 use session_base::Publication;
 use std::alloc::Global;
 use topics::{Filter, TopicName};
-use world::{Event, World};
+use world::World;
+use world_pipes::events::Event;
 
 /// The clients of the run.
 pub const CLIENTS: [&str; 4] = ["a", "b", "c", "d"];

@@ -2,9 +2,10 @@
 
 use crate::tests::course::{CLIENTS, Course, crash_primary, step_next};
 use crate::tests::opening::{named, opened_for};
-use packet::QoS;
+use client_base::Accepted;
+use packet_base::QoS;
 use std::alloc::Global;
-use world::{Accepted, World};
+use world::World;
 
 const EVENTS: u32 = 20_000;
 

@@ -5,7 +5,8 @@
 
 use crate::tests::opening::{named, opened};
 use std::alloc::Global;
-use world::{Event, World};
+use world::World;
+use world_pipes::events::Event;
 
 // How many messages were sent and commands are agreed after each event.
 const WANTED: &[(u64, u64)] = &[(0, 0), (1, 0), (2, 1), (3, 1), (3, 1), (3, 1)];

@@ -1,8 +1,10 @@
 // Worlds that open, and names in them.
 
-use packet::ClientId;
+use ballot_base::{Config, Members};
+use machine::Memory;
+use packet_base::ClientId;
 use std::alloc::Global;
-use world::{Config, Members, Memory, World};
+use world::World;
 
 /// Returns a world of `nodes` nodes and clients `a` and `b`. These are the members of ballot 1, and
 /// node 1 is its primary.

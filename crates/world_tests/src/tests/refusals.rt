@@ -1,7 +1,7 @@
 // Why a world has no way out, with the numbers of docs/REFUSALS.md and what a user is told.
 
 use std::test::Fail;
-use world::EscapeError;
+use world_pipes::events::EscapeError;
 
 const REFUSALS: &[(EscapeError, u8, &str)] = &[
     (EscapeError::Idle, 24, "no way out"),

@@ -1,6 +1,6 @@
 use Rattle.std.proofs.Common.{◌≡◌, ◌++◌}
 use Rattle.std.specs.List.{flat_map}
-use Rattle.broker_form.specs.Writing.{row_bytes}
+use Rattle.broker_base.specs.form.Writing.{row_bytes}
 use Rattle.broker.specs.Inside.{AreRows}
 use Rattle.broker.proofs.freezing.write_sessions.Given as goal
 

@@ -1,7 +1,7 @@
 use Rattle.std.proofs.lemmas.Result.{err_from_is_err_and}
 use Rattle.session_base.proofs.ReadingLoops.{ends, goes_on, stops_so, refused_so}
-use Rattle.broker_form.specs.Form.{row_at}
-use Rattle.broker_form.specs.Follows.{row_follows}
+use Rattle.broker_base.specs.form.Form.{row_at}
+use Rattle.broker_base.specs.form.Follows.{row_follows}
 use Rattle.broker.proofs.rows.read_rows.Goals as goal
 
 pub returns-in_err-client-clause-exact : goal.returns-in_err-client-clause-exact

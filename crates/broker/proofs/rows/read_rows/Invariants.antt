@@ -1,7 +1,7 @@
 use Rattle.std.proofs.Common.{◌≡◌, ◌-◌, []}
 use Rattle.session_base.specs.Counted.{items_after}
-use Rattle.broker_form.specs.Form.{row_at}
-use Rattle.broker_form.specs.Follows.{row_follows}
+use Rattle.broker_base.specs.form.Form.{row_at}
+use Rattle.broker_base.specs.form.Follows.{row_follows}
 use Rattle.broker.specs.Inside.{AreOwned}
 use Rattle.broker.proofs.rows.read_rows.Given as goal
 

@@ -6,7 +6,7 @@ use Rattle.std.specs.Cmp.Lexicographic.{slice_cmp}
 use Rattle.std.specs.Ordering.{nat_cmp}
 use Rattle.std.proofs.lemmas.Iterator.Adapters.{YieldsList-from_vec}
 use Rattle.subs.proofs.RowsGathered.{made_of, same_tests}
-use Rattle.broker_tables.specs.subs_base.Content.{last_qos_in}
+use Rattle.subs_base.specs.Content.{last_qos_in}
 use Rattle.broker.proofs.thawing.filters_of.Goals as goal
 
 pub returns : goal.returns

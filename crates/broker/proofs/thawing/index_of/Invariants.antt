@@ -1,7 +1,7 @@
 -- Once those that are left are put in, all are.
 use Rattle.std.proofs.Common.{◌≡◌}
-use Rattle.broker_tables.specs.subs_base.Content.{no_subscriptions}
-use Rattle.broker_tables.specs.subs_base.ListIndex.{content_of}
+use Rattle.subs_base.specs.Content.{no_subscriptions}
+use Rattle.subs_base.specs.ListIndex.{content_of}
 use Rattle.broker.specs.Inside.{all_put}
 use Rattle.broker.proofs.thawing.index_of.Given as goal
 

@@ -1,7 +1,7 @@
 use Rattle.std.proofs.Common.{◌∙◌, ap, sym, None}
 use Rattle.session_base.specs.Counted.{last_of}
 use Rattle.session_base.proofs.Follows.{last_is}
-use Rattle.broker_form.specs.Follows.{is_after}
+use Rattle.broker_base.specs.form.Follows.{is_after}
 use Rattle.broker.proofs.thawing.is_after.Goals as goal
 
 pub returns-in-Some-clause-test : goal.returns-in-Some-clause-test

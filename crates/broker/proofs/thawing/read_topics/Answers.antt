@@ -1,7 +1,7 @@
 use Rattle.std.proofs.lemmas.Result.{err_from_is_err_and}
 use Rattle.session_base.proofs.ReadingLoops.{ends, goes_on, stops_so, refused_so}
-use Rattle.broker_form.specs.Form.{retained_at}
-use Rattle.broker_form.specs.Follows.{topic_follows}
+use Rattle.broker_base.specs.form.Form.{retained_at}
+use Rattle.broker_base.specs.form.Follows.{topic_follows}
 use Rattle.broker.proofs.LastRows.{one_more}
 use Rattle.broker.proofs.thawing.read_topics.Goals as goal
 

@@ -1,7 +1,7 @@
 use Rattle.std.proofs.Common.{◌≡◌, ◌-◌, [], length}
 use Rattle.session_base.specs.Counted.{items_after}
-use Rattle.broker_form.specs.Form.{retained_at}
-use Rattle.broker_form.specs.Follows.{topic_follows}
+use Rattle.broker_base.specs.form.Form.{retained_at}
+use Rattle.broker_base.specs.form.Follows.{topic_follows}
 use Rattle.broker.proofs.thawing.read_topics.Given as goal
 
 abbrev pub invariant-loop : goal.invariant-loop

@@ -1,6 +1,6 @@
 use Rattle.std.proofs.Common.{◌∙◌, arith}
 use Rattle.std.proofs.lemmas.Result.{IfOk-at_ok}
-use Rattle.broker_form.specs.FormLaws.{IsUsualState}
+use Rattle.broker_base.specs.form.FormLaws.{IsUsualState}
 use Rattle.broker.proofs.PutAnew.{put_anew}
 use Rattle.broker.proofs.thawing.thawed_tables.Goals as goal
 

@@ -1,5 +1,5 @@
 use Rattle.std.proofs.Common.{rules}
-use Rattle.packet.specs.packet_base.QoS.{qos_number}
+use Rattle.packet_base.specs.QoS.{qos_number}
 use Rattle.command_line.proofs.matching.qos.Goals as goal
 
 pub returns-in_err-number-clause-missing : goal.returns-in_err-number-clause-missing

@@ -1,7 +1,7 @@
 use Rattle.std.specs.Vec.Iter.{into_iter_items}
-use Rattle.node.specs.lists.Lists.{Each}
+use Rattle.lists.specs.Lists.{Each}
 use Rattle.post.specs.Queuing.{QueuesAll, messages_of}
-use Rattle.outbox.specs.Queued.{WasGiven}
+use Rattle.post.specs.outbox.Queued.{WasGiven}
 use Rattle.post.proofs.queuing.queue_each.Given as goal
 
 abbrev pub invariant-loop-effect : goal.invariant-loop-effect

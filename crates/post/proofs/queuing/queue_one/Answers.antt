@@ -1,8 +1,8 @@
 use Rattle.std.proofs.Common.{[], ◌∷◌, sym, subst}
-use Rattle.node.specs.broker_spec.declared.command.Command.{Command}
-use Rattle.node.specs.broker_spec.declared.command.Output.{Output}
-use Rattle.node.specs.ballot_base.declared.message.Effect.{Effect}
-use Rattle.outbox.specs.Given.{Addressed}
+use Rattle.broker_spec.specs.declared.command.Command.{Command}
+use Rattle.broker_spec.specs.declared.command.Output.{Output}
+use Rattle.ballot_base.specs.declared.message.Effect.{Effect}
+use Rattle.post.specs.outbox.Given.{Addressed}
 use Rattle.post.specs.Queuing.{QueuesAll, messages_of}
 use Rattle.post.specs.Queuing.QueuesAll.{none, one_more}
 use Rattle.post.proofs.queuing.queue_one.Goals as goal

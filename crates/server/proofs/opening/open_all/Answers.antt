@@ -1,5 +1,5 @@
 use Rattle.std.proofs.Common.{Vec, Global, ◌∙◌, ap}
-use Rattle.node_threads.specs.declared.opened_node.OpenedNode.{OpenedNode}
+use Rattle.server.specs.declared.node_threads.opened_node.OpenedNode.{OpenedNode}
 use Rattle.server.proofs.Namesakes.{below_more, below_same, named_more, named_same}
 use Rattle.server.proofs.opening.open_all.Goals as goal
 use Rattle.server.proofs.opening.open_all.Goals.{then-is_some+in_ok-open+in_ok-push, else-is_some}

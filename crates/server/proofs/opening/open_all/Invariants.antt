@@ -1,8 +1,8 @@
 use Rattle.std.proofs.Common.{◌<◌}
-use Rattle.node_threads.specs.post.lists.Lists.{Each}
-use Rattle.node_threads.specs.Named.{AreNamed}
+use Rattle.lists.specs.Lists.{Each}
+use Rattle.server.specs.node_threads.Named.{AreNamed}
 use Rattle.server.specs.Opening.{first_in, inbox_among}
-use Rattle.node_threads.specs.declared.opened_node.OpenedNode.{OpenedNode}
+use Rattle.server.specs.declared.node_threads.opened_node.OpenedNode.{OpenedNode}
 use Rattle.server.proofs.opening.open_all.Given as goal
 
 abbrev pub invariant-loop-number : goal.invariant-loop-number

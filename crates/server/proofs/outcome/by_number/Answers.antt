@@ -1,6 +1,6 @@
 use Rattle.std.proofs.Common.{rules}
 use Rattle.std.proofs.lemmas.List.Sorted.{IsNonDecreasingBy-from_sort_by_key}
-use Rattle.node_threads.specs.declared.served_node.NodeReport.{NodeReport}
+use Rattle.server.specs.declared.node_threads.served_node.NodeReport.{NodeReport}
 use Rattle.server.proofs.outcome.by_number.Goals as goal
 
 pub returns-clause-sorted : goal.returns-clause-sorted

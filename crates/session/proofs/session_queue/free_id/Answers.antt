@@ -1,6 +1,6 @@
 use Rattle.std.proofs.Common.{rules, sym, ◌∙◌, ◌≡◌, ℕ, true, false, List}
 use Rattle.std.proofs.lemmas.Map.Made.{is_some-lookup}
-use Rattle.session_base.specs.lists.Lists.{has_id}
+use Rattle.lists.specs.Lists.{has_id}
 use Rattle.session_base.specs.Queue.{ids_of}
 use Rattle.session.proofs.FreeIdentifier.{stop, next}
 use Rattle.session.proofs.session_queue.free_id.Goals as goal

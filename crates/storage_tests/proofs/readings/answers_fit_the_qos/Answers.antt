@@ -1,12 +1,12 @@
 use Rattle.std.proofs.Common.{refl}
-use Rattle.broker_form.specs.broker_spec.Sessions.{current_connection, clean_session_of}
-use Rattle.broker_form.specs.broker_spec.Owner.{named}
-use Rattle.broker_form.specs.broker_spec.Subscriptions.{subscriptions_of}
-use Rattle.broker_form.specs.broker_spec.Received.{received_of}
-use Rattle.broker_form.specs.broker_spec.Retained.{retained_publications}
-use Rattle.broker_form.specs.broker_spec.Times.{entries_of}
-use Rattle.broker_form.specs.broker_spec.Commands.{past_from}
-use Rattle.broker_form.specs.broker_spec.AnswersInOrder.{answers_from}
+use Rattle.broker_spec.specs.Sessions.{current_connection, clean_session_of}
+use Rattle.broker_spec.specs.Owner.{named}
+use Rattle.broker_spec.specs.Subscriptions.{subscriptions_of}
+use Rattle.broker_spec.specs.Received.{received_of}
+use Rattle.broker_spec.specs.Retained.{retained_publications}
+use Rattle.broker_spec.specs.Times.{entries_of}
+use Rattle.broker_spec.specs.Commands.{past_from}
+use Rattle.broker_spec.specs.AnswersInOrder.{answers_from}
 use Rattle.storage_tests.proofs.QoSOfEntries.{entries_fit_their_qos}
 use Rattle.storage_tests.proofs.readings.answers_fit_the_qos.Goals as goal
 

@@ -1,7 +1,7 @@
 use Rattle.std.proofs.Common.{◌≡◌, true, Option, Some, None, refl, is_some}
-use Rattle.broker_form.specs.broker_spec.Owner.{owner_of}
-use Rattle.broker_form.specs.broker_spec.Place.{Client}
-use Rattle.broker_form.proofs.of_broker_spec.OwnersAreServed.{owner_is_served}
+use Rattle.broker_spec.specs.Owner.{owner_of}
+use Rattle.broker_spec.specs.Place.{Client}
+use Rattle.broker_spec.proofs.OwnersAreServed.{owner_is_served}
 use Rattle.storage_tests.proofs.readings.live_connections_are_current.Goals as goal
 
 is_there : (owner : Option Client) → is_some owner ≡ true → (c : Client) × (owner ≡ Some c)

@@ -1,6 +1,6 @@
 use Rattle.std.proofs.Common.{◌≡◌, take}
-use Rattle.master.specs.machine.Machine.{replay_from}
-use Rattle.node_core.specs.Core.{rules}
+use Rattle.machine.specs.Machine.{replay_from}
+use Rattle.world_base.specs.node_core.Core.{rules}
 use Rattle.world_nodes.proofs.asking.apply_all.Given as goal
 
 abbrev pub invariant-loop-command : goal.invariant-loop-command

@@ -1,9 +1,9 @@
 use Rattle.std.proofs.Common.{Bool, ℕ, Option, ◌&&◌, sym, ap, subst, ◌∙◌}
 use Rattle.std.specs.Prelude.{IfSome}
-use Rattle.master.specs.ballot_base.declared.message.Message.{Message}
-use Rattle.byte_world.specs.broker_spec.declared.command.Command.{Command}
+use Rattle.ballot_base.specs.declared.message.Message.{Message}
+use Rattle.broker_spec.specs.declared.command.Command.{Command}
 use Rattle.master.proofs.Counting.{get_there}
-use Rattle.node_core.specs.declared.item.Item.TheVariants.{Peer}
+use Rattle.world_base.specs.declared.node_core.item.Item.TheVariants.{Peer}
 use Rattle.world_nodes.specs.Inside.{TookItem}
 use Rattle.world_nodes.proofs.Resting.{took_in}
 use Rattle.world_nodes.proofs.stepping.pass_over.Goals as goal

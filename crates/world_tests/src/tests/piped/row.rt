@@ -1,10 +1,12 @@
 // Rows of what a client with its pipes does, and what is seen of it. The server's part is played by
 // hand.
 
-use packet::{ClientId, Payload, QoS};
+use client_base::ClientError;
+use packet_base::{ClientId, Payload, QoS};
 use std::alloc::Global;
 use topics::{Filter, TopicName};
-use world_pipes::{ClientError, PipedClient, Port, Sending};
+use world_base::node_connections::Port;
+use world_pipes::{PipedClient, Sending};
 
 /// What a client does, or what is seen of it.
 #[derive(Clone, Copy, Debug, PartialEq, Eq)]

@@ -2,11 +2,11 @@
 use Rattle.std.proofs.Common.{◌≡◌, ◌∙◌, ◌++◌, ap, sym, subst, false}
 use Rattle.std.specs.Prelude.{is_err}
 use Rattle.broker_spec.specs.Commands.{usual_limits}
-use Rattle.broker_tables.specs.broker_base.Step.{step}
-use Rattle.broker_form.specs.FormLaws.{IsUsualState}
-use Rattle.broker_form.proofs.UsualStates.{stays_usual}
-use Rattle.broker_tables.specs.Tables.{state_in, stepped}
-use Rattle.broker_tables.proofs.Commands.{stepped_is, at_ok}
+use Rattle.broker_base.specs.Step.{step}
+use Rattle.broker_base.specs.form.FormLaws.{IsUsualState}
+use Rattle.broker_base.proofs.of_form.UsualStates.{stays_usual}
+use Rattle.broker.specs.tables.Tables.{state_in, stepped}
+use Rattle.broker.proofs.of_tables.Commands.{stepped_is, at_ok}
 use Rattle.broker.proofs.broker_machine.BrokerMachineMachine.apply.Goals as goal
 
 pub invariant_of-self-else-is_err : goal.invariant_of-self-else-is_err

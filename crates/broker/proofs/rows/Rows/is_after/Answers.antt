@@ -1,5 +1,5 @@
 use Rattle.std.proofs.Common.{◌∙◌, ap, sym}
-use Rattle.broker_form.specs.Follows.{is_after}
+use Rattle.broker_base.specs.form.Follows.{is_after}
 use Rattle.broker.proofs.LastRows.{last_at}
 use Rattle.broker.proofs.rows.Rows.is_after.Goals as goal
 

@@ -1,7 +1,7 @@
 use Rattle.std.proofs.Common.{◌∙◌, ap, sym}
-use Rattle.broker_tables.specs.broker_base.ClientSession.{ClientSession}
-use Rattle.broker_tables.specs.broker_rows.Owners.{owners_in, owned_by}
-use Rattle.broker_tables.specs.Tables.{owners_at}
+use Rattle.broker_base.specs.ClientSession.{ClientSession}
+use Rattle.broker_base.specs.rows.Owners.{owners_in, owned_by}
+use Rattle.broker.specs.tables.Tables.{owners_at}
 use Rattle.broker.proofs.LastRows.{insert_last}
 use Rattle.broker.proofs.OwnersOfLast.{owners_of_last, may_stand}
 use Rattle.broker.proofs.rows.Rows.put_last.Goals as goal

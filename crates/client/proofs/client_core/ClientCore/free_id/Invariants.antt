@@ -1,5 +1,5 @@
 use Rattle.std.proofs.Common.{◌≡◌, ℕ, ◌≤◌, ◌<◌, true}
-use Rattle.client_base.specs.lists.Lists.{has_id}
+use Rattle.lists.specs.Lists.{has_id}
 use Rattle.client_base.specs.State.{used_ids}
 use Rattle.client.proofs.client_core.ClientCore.free_id.Given as goal
 

@@ -1,6 +1,6 @@
 use Rattle.std.proofs.Common.{◌≡◌, ◌≤◌, ◌-◌, ap, sym, ◌∙◌, take, length, List, refl, arith}
 use Rattle.std.proofs.lemmas.List.{length-take-le}
-use Rattle.ballot.specs.ballot_base.Replica.{ReplicaState}
+use Rattle.ballot_base.specs.Replica.{ReplicaState}
 use Rattle.master.specs.Group.{GroupState}
 use Rattle.master.proofs.StepsOfNodes.{same_replica}
 use Rattle.master.proofs.Viewed.{agreed_read, agreed_read_on, some_as_seen, within_of}

@@ -1,6 +1,6 @@
 use Rattle.std.proofs.Common.{sym, ◌∙◌, arith}
-use Rattle.snapshots.specs.Masters.{activated}
-use Rattle.snapshots.specs.agreement.MasterState.{is_granted}
+use Rattle.agreement.specs.cut_logs.Masters.{activated}
+use Rattle.agreement.specs.MasterState.{is_granted}
 use Rattle.master.proofs.Groups.{answer_is, group_answers, master_sends, took_as_seen, turned, world_is}
 use Rattle.master.proofs.LossesCounted.{counts_told}
 use Rattle.master.proofs.group.Group.answer.Goals as goal

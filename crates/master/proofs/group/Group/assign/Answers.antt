@@ -1,5 +1,5 @@
 use Rattle.std.proofs.Common.{◌≡◌, None, true, subst, rules as rules_of}
-use Rattle.snapshots.specs.agreement.MasterState.{refusal}
+use Rattle.agreement.specs.MasterState.{refusal}
 use Rattle.master.specs.declared.event.Event.TheVariants.{Assign}
 use Rattle.master.specs.Group.{GroupState}
 use Rattle.master.proofs.Counting.{gives_turn, some_idle, steps_idle, steps_lost, steps_master}

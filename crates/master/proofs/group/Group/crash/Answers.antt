@@ -1,5 +1,5 @@
 use Rattle.std.proofs.Common.{◌-◌, ap, refl, arith, rules as rules_of}
-use Rattle.ballot.specs.ballot_base.Replica.{CountedReplica}
+use Rattle.ballot_base.specs.Replica.{CountedReplica}
 use Rattle.master.specs.declared.event.Event.TheVariants.{Crash}
 use Rattle.master.proofs.Counting.{some_idle, steps_idle, stops_turn, steps_turn}
 use Rattle.master.proofs.Groups.{group_stops}

@@ -1,5 +1,5 @@
 use Rattle.std.proofs.Common.{◌≡◌, ◌≤◌, ◌<◌, length, ap, sym, ◌∙◌, refl, arith}
-use Rattle.ballot.specs.ballot_base.Replica.{CountedReplica, ReplicaState}
+use Rattle.ballot_base.specs.Replica.{CountedReplica, ReplicaState}
 use Rattle.master.specs.Outcomes.{cut_outcome}
 use Rattle.master.proofs.Archived.{begins_by, taken_back}
 use Rattle.master.proofs.Groups.{group_cuts, group_kept}

@@ -1,6 +1,6 @@
 use Rattle.std.proofs.Common.{◌≡◌, ap, ◌∙◌, arith}
-use Rattle.snapshots.specs.Masters.{assigned}
-use Rattle.snapshots.specs.agreement.MasterState.{assigning, refusal}
+use Rattle.agreement.specs.cut_logs.Masters.{assigned}
+use Rattle.agreement.specs.MasterState.{assigning, refusal}
 use Rattle.master.proofs.Groups.{group_gives, master_sends, new_ballot_is, took_given, world_is}
 use Rattle.master.proofs.LossesCounted.{counts_told}
 use Rattle.master.proofs.group.Group.give.Goals as goal

@@ -1,11 +1,11 @@
 use Rattle.std.proofs.Common.{◌≡◌, false, subst, arith}
 use Rattle.std.proofs.lemmas.Bool.{both_ways}
 use Rattle.std.proofs.lemmas.List.{length-map}
-use Rattle.ballot.specs.ballot_base.Protocol.{replica_step}
-use Rattle.ballot.specs.ballot_base.Protocol.Input.{Receives}
-use Rattle.ballot.specs.ballot_base.Replica.{ReplicaState, CountedReplica}
-use Rattle.ballot.specs.ballot_base.Sending.{nothing_done}
-use Rattle.snapshots.proofs.MomentsAgree.{snapshots_are_read}
+use Rattle.ballot_base.specs.Protocol.{replica_step}
+use Rattle.ballot_base.specs.Protocol.Input.{Receives}
+use Rattle.ballot_base.specs.Replica.{ReplicaState, CountedReplica}
+use Rattle.ballot_base.specs.Sending.{nothing_done}
+use Rattle.agreement.proofs.of_cut_logs.MomentsAgree.{snapshots_are_read}
 use Rattle.master.proofs.EarlierMembers.{names_some, quiet_does_nothing}
 use Rattle.master.proofs.StepsOfNodes.{same_replica}
 use Rattle.master.proofs.Viewed.{heeded}

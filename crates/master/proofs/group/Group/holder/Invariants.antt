@@ -1,6 +1,6 @@
 use Rattle.std.proofs.Common.{ℕ, ◌-◌, take}
 use Rattle.std.specs.Prelude.{slice_get}
-use Rattle.ballot.specs.lists.Lists.{In}
+use Rattle.lists.specs.Lists.{In}
 use Rattle.master.specs.Inside.{IsShort}
 use Rattle.master.proofs.group.Group.holder.Given as goal
 

@@ -1,5 +1,5 @@
 use Rattle.std.proofs.Common.{◌∙◌}
-use Rattle.snapshots.proofs.Effects.{outs_alone}
+use Rattle.agreement.proofs.of_cut_logs.Effects.{outs_alone}
 use Rattle.master.proofs.group.Group.left.Goals as goal
 
 pub returns : goal.returns

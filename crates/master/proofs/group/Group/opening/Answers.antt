@@ -1,8 +1,8 @@
 use Rattle.std.proofs.Common.{◌≡◌, [], ◌∷◌, ap, sym, ◌∙◌, subst, refl, arith}
-use Rattle.ballot.specs.ballot_base.Replica.{CountedReplica}
-use Rattle.snapshots.specs.World.{messages}
-use Rattle.snapshots.specs.Moments.{Moment, Moments}
-use Rattle.snapshots.specs.Moments.Moments.{began}
+use Rattle.ballot_base.specs.Replica.{CountedReplica}
+use Rattle.agreement.specs.cut_logs.World.{messages}
+use Rattle.agreement.specs.cut_logs.Moments.{Moment, Moments}
+use Rattle.agreement.specs.cut_logs.Moments.Moments.{began}
 use Rattle.master.specs.Group.{GroupState}
 use Rattle.master.proofs.Groups.{group_opens}
 use Rattle.master.proofs.LossesCounted.{counts_opened}

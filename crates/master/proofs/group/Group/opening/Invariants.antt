@@ -1,6 +1,6 @@
 use Rattle.std.proofs.Common.{◌≡◌, map}
-use Rattle.ballot.specs.ballot_base.Replica.{CountedReplica}
-use Rattle.snapshots.specs.Moments.{opening_nodes}
+use Rattle.ballot_base.specs.Replica.{CountedReplica}
+use Rattle.agreement.specs.cut_logs.Moments.{opening_nodes}
 use Rattle.master.specs.Inside.{CountsAtMost}
 use Rattle.master.proofs.group.Group.opening.Given as goal
 

@@ -1,6 +1,6 @@
 use Rattle.std.proofs.Common.{◌≡◌, refl, ap, ◌∙◌}
-use Rattle.ballot.specs.ballot_base.Protocol.Input.{Proposes}
-use Rattle.ballot.specs.ballot_base.Replica.{status_of}
+use Rattle.ballot_base.specs.Protocol.Input.{Proposes}
+use Rattle.ballot_base.specs.Replica.{status_of}
 use Rattle.master.specs.declared.event.Event.TheVariants.{Propose}
 use Rattle.master.proofs.Counting.{takes_nothing, takes_turn, cannot_take, proposal_refused, proposal_taken, some_idle, steps_turn, steps_lost, steps_idle}
 use Rattle.master.proofs.Quiet.{exactly_none, node_needs, proposal_does}

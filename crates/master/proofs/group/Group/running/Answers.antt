@@ -1,5 +1,5 @@
 use Rattle.std.proofs.Common.{◌≡◌, ◌<◌, ◌≤◌, length, ap, sym, ◌∙◌, false, arith}
-use Rattle.ballot.specs.ballot_base.declared.status.Status.{Status}
+use Rattle.ballot_base.specs.declared.status.Status.{Status}
 use Rattle.master.proofs.StepsOfNodes.{runs_at, stopped_there}
 use Rattle.master.proofs.group.Group.running.Goals as goal
 

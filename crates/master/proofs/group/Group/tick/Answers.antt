@@ -1,5 +1,5 @@
 use Rattle.std.proofs.Common.{refl}
-use Rattle.ballot.specs.ballot_base.Protocol.Input.{Ticks}
+use Rattle.ballot_base.specs.Protocol.Input.{Ticks}
 use Rattle.master.specs.declared.event.Event.TheVariants.{Tick}
 use Rattle.master.proofs.Counting.{some_idle, takes_nothing, takes_turn, steps_turn}
 use Rattle.master.proofs.Quiet.{exactly_none, steps_exactly_done, tick_says, tick_silent}

@@ -1,5 +1,5 @@
 use Rattle.std.proofs.Common.{arith}
-use Rattle.snapshots.proofs.of_agreement.Masters.Assigns.{not_refused}
+use Rattle.agreement.proofs.Masters.Assigns.{not_refused}
 use Rattle.master.proofs.master.Master.give.Goals as goal
 
 pub invariant_of-self : goal.invariant_of-self

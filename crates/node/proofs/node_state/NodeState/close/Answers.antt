@@ -3,7 +3,7 @@ use Rattle.std.specs.Prelude.{slice_index_or}
 use Rattle.mailbox.specs.Delivery.{items_of_lane}
 use Rattle.mailbox.specs.Ends.{ArrivesWhole, ReceiverView}
 use Rattle.mailbox.proofs.ItemsOfALane.{items_of-append}
-use Rattle.node_core.specs.declared.item.Item.{Item}
+use Rattle.world_base.specs.declared.node_core.item.Item.{Item}
 use Rattle.node.specs.Report.{ReportsAll}
 use Rattle.node.specs.State.{NodeStateView}
 use Rattle.node.proofs.WrittenBack.{written_back}

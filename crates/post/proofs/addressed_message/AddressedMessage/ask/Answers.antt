@@ -1,7 +1,7 @@
 use Rattle.std.proofs.Common.{ℕ, ◌∙◌, ap, subst}
-use Rattle.node.specs.ballot_base.declared.message.Effect.TheVariants.{To}
-use Rattle.outbox.specs.Given.{Addressed}
-use Rattle.outbox.specs.Queued.{WasGiven}
+use Rattle.ballot_base.specs.declared.message.Effect.TheVariants.{To}
+use Rattle.post.specs.outbox.Given.{Addressed}
+use Rattle.post.specs.outbox.Queued.{WasGiven}
 use Rattle.post.proofs.addressed_message.AddressedMessage.ask.Goals as goal
 
 pub answer-requires : goal.answer-requires

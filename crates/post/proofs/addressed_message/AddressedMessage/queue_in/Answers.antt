@@ -1,8 +1,8 @@
 use Rattle.std.proofs.Common.{ℕ, ◌∙◌, ap, subst}
 use Rattle.node.specs.declared.Item.TheVariants.{Peer}
-use Rattle.outbox.specs.Given.{Addressed}
-use Rattle.outbox.specs.Queued.{IsPosted}
-use Rattle.outbox.specs.Queued.IsPosted.{of_node}
+use Rattle.post.specs.outbox.Given.{Addressed}
+use Rattle.post.specs.outbox.Queued.{IsPosted}
+use Rattle.post.specs.outbox.Queued.IsPosted.{of_node}
 use Rattle.post.proofs.addressed_message.AddressedMessage.queue_in.Goals as goal
 
 pub queue-requires : goal.queue-requires

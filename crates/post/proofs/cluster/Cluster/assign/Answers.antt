@@ -1,6 +1,6 @@
 use Rattle.std.proofs.Common.{◌∙◌, ap, refl, sym}
 use Rattle.std.proofs.lemmas.Bool.{and_from, and_left, and_right}
-use Rattle.master.specs.ballot_base.LawfulConfig.{is_lawful}
+use Rattle.ballot_base.specs.LawfulConfig.{is_lawful}
 use Rattle.post.specs.Numbers.{are_nodes}
 use Rattle.post.proofs.RefusedByConfig.{stranger}
 use Rattle.post.proofs.cluster.Cluster.assign.Goals as goal

@@ -1,7 +1,7 @@
 use Rattle.std.proofs.Common.{rules, Bor, ◌≡◌, ◌≢◌, ℕ, List, false, is_some, subst}
 use Rattle.std.proofs.lemmas.Iterator.{YieldsList-from_slice, first_from_find}
 use borrow.Author.Tests.{tests}
-use Rattle.master.specs.lists.Lists.{has_id}
+use Rattle.lists.specs.Lists.{has_id}
 use Rattle.post.specs.declared.peer.Peer.{Peer}
 use Rattle.post.proofs.NoneAmong.{found_among, none_among, of_none}
 use Rattle.post.proofs.cluster.Cluster.node.Goals as goal

@@ -1,4 +1,4 @@
-use Rattle.master.specs.ballot_base.LawfulConfig.{is_lawful}
+use Rattle.ballot_base.specs.LawfulConfig.{is_lawful}
 use Rattle.post.proofs.RefusedByConfig.{bad_by, spent_by}
 use Rattle.post.proofs.peer.Peer.assign_locked.Goals as goal
 

@@ -1,4 +1,4 @@
-use Rattle.outbox.specs.Queued.IsPosted.{expels}
+use Rattle.post.specs.outbox.Queued.IsPosted.{expels}
 use Rattle.post.proofs.peer.Peer.queue_expel.Goals as goal
 
 pub queue-requires : goal.queue-requires

@@ -1,5 +1,5 @@
 use Rattle.std.proofs.Common.{ap, ◌∙◌}
-use Rattle.client.specs.client_base.State.{kept_count}
+use Rattle.client_base.specs.State.{kept_count}
 use Rattle.user_client.specs.Tracing.{CallerView}
 use Rattle.user_client.proofs.CallsAreSteps.{left, left_keeps}
 use Rattle.user_client.proofs.caller.Caller.disconnect.Goals as goal

@@ -1,6 +1,6 @@
 use Rattle.std.proofs.Common.{◌≡◌}
 use Rattle.client.specs.Core.{publication_with}
-use Rattle.client.specs.client_base.Steps.{Call, keeper_step}
+use Rattle.client_base.specs.Steps.{Call, keeper_step}
 use Rattle.user_client.specs.declared.user_client_error.UserClientError.{UserClientError}
 use Rattle.user_client.specs.Refusals.{IsRefusedFor, error_of_call}
 use Rattle.user_client.specs.Tracing.{Step}

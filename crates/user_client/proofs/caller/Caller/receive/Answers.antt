@@ -1,5 +1,5 @@
 use Rattle.std.proofs.Common.{◌≡◌, Bool, ◌||◌, sym, ap, ◌∙◌}
-use Rattle.client.specs.client_base.State.{is_online}
+use Rattle.client_base.specs.State.{is_online}
 use Rattle.user_client.specs.Losing.{IsLostBy}
 use Rattle.user_client.specs.declared.user_client_error.UserClientError.{UserClientError}
 use Rattle.user_client.specs.declared.user_client_error.UserClientError.TheVariants as clients

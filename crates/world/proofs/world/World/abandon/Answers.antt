@@ -1,8 +1,8 @@
 use Rattle.std.proofs.Common.{inl, ◌<◌, length, refl, sym, ◌∙◌, ◌≡◌, true, subst}
 use Rattle.std.proofs.lemmas.Option.{same_Some}
 use Rattle.world_pipes.specs.Piped.{is_holding}
-use Rattle.world_clients.specs.declared.world_client.WorldClient.{WorldClient}
-use Rattle.escaping_nodes.proofs.of_master.Counting.{get_there}
+use Rattle.world_pipes.specs.declared.clients.world_client.WorldClient.{WorldClient}
+use Rattle.master.proofs.Counting.{get_there}
 use Rattle.world.specs.World.{WorldState}
 use Rattle.world.proofs.CallsMet.{abandon_meets}
 use Rattle.world.proofs.ClientGoes.{client_goes_on, housed_still}

@@ -1,5 +1,5 @@
 use Rattle.std.proofs.Common.{◌≤◌, refl, arith}
-use Rattle.escaping_nodes.proofs.of_master.Counting.{get_there}
+use Rattle.master.proofs.Counting.{get_there}
 use Rattle.world.specs.Inside.Calling.{with_one_loss}
 use Rattle.world.specs.World.{WorldState}
 use Rattle.world.proofs.CallsCounted.{carrying_counted}

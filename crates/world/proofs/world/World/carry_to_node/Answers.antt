@@ -1,5 +1,5 @@
 use Rattle.std.proofs.Common.{arith}
-use Rattle.escaping_nodes.proofs.of_master.Counting.{get_there}
+use Rattle.master.proofs.Counting.{get_there}
 use Rattle.world.specs.World.{WorldState}
 use Rattle.world.proofs.ClientGoes.{housed_still}
 use Rattle.world.proofs.Handed.{takes_none, takes_nothing_on, takes_on, takes_up_on}

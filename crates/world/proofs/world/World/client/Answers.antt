@@ -1,9 +1,9 @@
 use Rattle.std.proofs.Common.{◌≡◌, ℕ, List, Some, slice_get, sym, subst, ◌∙◌}
-use Rattle.escaping_client.specs.client.Core.{Core}
+use Rattle.client.specs.Core.{Core}
 use Rattle.headline.specs.Promise.{Promise}
 use Rattle.headline.specs.byte_world.Published.{published_of, published_on_way}
-use Rattle.escaping_nodes.proofs.of_master.Counting.{get_there}
-use Rattle.world_clients.specs.declared.world_client.WorldClient.{WorldClient}
+use Rattle.master.proofs.Counting.{get_there}
+use Rattle.world_pipes.specs.declared.clients.world_client.WorldClient.{WorldClient}
 use Rattle.world.specs.StandsFor.{connections_at}
 use Rattle.world.specs.World.{WorldState}
 use Rattle.world.proofs.PromiseShown.{promise_shown, same_place}

@@ -1,7 +1,7 @@
 use Rattle.std.proofs.Common.{◌-◌, ℕ, false, List, ap, ◌∙◌, length, arith}
 use Rattle.std.specs.List.{remove}
 use Rattle.std.proofs.lemmas.Option.{slice_get_within}
-use Rattle.world_clients.specs.SlotsAreValid.{open_from}
+use Rattle.world_pipes.specs.clients.SlotsAreValid.{open_from}
 use Rattle.world.proofs.HousedOn.{housed_mark}
 use Rattle.world.proofs.OpenEnds.{closes, stands_open}
 use Rattle.world.proofs.world.World.close.Goals as goal

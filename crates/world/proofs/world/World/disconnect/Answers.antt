@@ -2,8 +2,8 @@ use Rattle.std.proofs.Common.{◌≡◌, ◌≤◌, ◌<◌, true, length, refl,
 use Rattle.std.proofs.lemmas.Bool.{both_ways}
 use Rattle.std.proofs.lemmas.Option.{same_Some}
 use Rattle.world_pipes.specs.Piped.{is_holding}
-use Rattle.world_clients.specs.declared.world_client.WorldClient.{WorldClient}
-use Rattle.escaping_nodes.proofs.of_master.Counting.{get_there}
+use Rattle.world_pipes.specs.declared.clients.world_client.WorldClient.{WorldClient}
+use Rattle.master.proofs.Counting.{get_there}
 use Rattle.world.specs.Cannot.{HoldsNone}
 use Rattle.world.specs.ClientCalls.{SendsDisconnect, LosesLeaving}
 use Rattle.world.specs.Inside.Calling.{with_one_loss}

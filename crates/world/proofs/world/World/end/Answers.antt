@@ -1,6 +1,6 @@
 use Rattle.std.proofs.Common.{false, inl, refl}
 use Rattle.std.proofs.lemmas.Bool.{both_ways}
-use Rattle.node_core.specs.declared.item.Item.TheVariants.{Ended}
+use Rattle.world_base.specs.declared.node_core.item.Item.TheVariants.{Ended}
 use Rattle.world.specs.Found.{port_at_node}
 use Rattle.world.specs.World.{WorldState}
 use Rattle.world.proofs.ItemsMet.{not_closed, noticed}

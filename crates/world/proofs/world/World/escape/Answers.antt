@@ -1,14 +1,14 @@
 use Rattle.std.proofs.Common.{◌≡◌, ◌≤◌, ◌<◌, ◌+◌, ◌*◌, ℕ, List, Some, length, slice_get, refl, sym, ap, ◌∙◌, subst}
 use Rattle.std.specs.List.{list_all}
-use Rattle.headline.specs.agreement.MasterState.{refusal}
-use Rattle.headline.specs.broker_spec.Commands.{past_of, usual_limits}
-use Rattle.headline.specs.broker_spec.Sessions.{clean_session_of}
-use Rattle.escaping_client.specs.client.Core.{Core}
-use Rattle.escaping_nodes.proofs.of_master.Counting.{get_there}
+use Rattle.agreement.specs.MasterState.{refusal}
+use Rattle.broker_spec.specs.Commands.{past_of, usual_limits}
+use Rattle.broker_spec.specs.Sessions.{clean_session_of}
+use Rattle.client.specs.Core.{Core}
+use Rattle.master.proofs.Counting.{get_there}
 use Rattle.world_nodes.specs.Asking.{whole_log_of}
 use Rattle.world_nodes.specs.Running.{is_running}
 use Rattle.world_pipes.specs.Piped.{is_holding}
-use Rattle.world_events.specs.declared.event.Event.{Event}
+use Rattle.world_pipes.specs.declared.events.event.Event.{Event}
 use Rattle.world.specs.Escaping.{CanEscape, LeadsClientOut}
 use Rattle.world.specs.Inside.Escaping.{escaping_events}
 use Rattle.world.proofs.LeadsOut.{escaping_leads_out}

@@ -1,6 +1,6 @@
 use Rattle.std.proofs.Common.{refl}
 use Rattle.world.proofs.Joined.{goes_on_rest}
-use Rattle.world_clients.proofs.HandsQuietly.{stays_rest}
+use Rattle.world_pipes.proofs.of_clients.HandsQuietly.{stays_rest}
 use Rattle.world.proofs.world.World.gather.Goals as goal
 
 pub returns-else-node-ne0-clause-goes : goal.returns-else-node-ne0-clause-goes

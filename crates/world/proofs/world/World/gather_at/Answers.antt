@@ -1,13 +1,13 @@
 use Rattle.std.proofs.Common.{◌-◌, ℕ, Bool, true, false, List, slice_get, refl, ap, ◌∙◌, subst, arith}
-use Rattle.world_clients.specs.declared.connection_slot.ConnectionSlot.{ConnectionSlot}
+use Rattle.world_pipes.specs.declared.clients.connection_slot.ConnectionSlot.{ConnectionSlot}
 use Rattle.world.specs.Inside.Handing.{GatheringOrLost}
-use Rattle.world_clients.specs.Handing.{StaysQuiet}
+use Rattle.world_pipes.specs.clients.Handing.{StaysQuiet}
 use Rattle.world.specs.World.{WorldState}
 use Rattle.world.proofs.Joined.{goes_on_join, goes_on_rest, goes_on_still}
 use Rattle.world.proofs.Gathered.{stays_open}
 use Rattle.world.proofs.Walked.{gathers_at_none, gathers_at_one}
 use Rattle.world.proofs.QuietEvents.{stays_join}
-use Rattle.world_clients.proofs.HandsQuietly.{stays_rest}
+use Rattle.world_pipes.proofs.of_clients.HandsQuietly.{stays_rest}
 use Rattle.world.proofs.world.World.gather_at.Goals as goal
 
 pub returns-then-slot-node-clause-goes : goal.returns-then-slot-node-clause-goes

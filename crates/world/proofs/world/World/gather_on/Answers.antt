@@ -1,10 +1,10 @@
 use Rattle.std.proofs.Common.{arith}
-use Rattle.escaping_nodes.proofs.of_master.Counting.{get_there}
-use Rattle.world_clients.specs.SlotsAreValid.{targets_of_clients}
+use Rattle.master.proofs.Counting.{get_there}
+use Rattle.world_pipes.specs.clients.SlotsAreValid.{targets_of_clients}
 use Rattle.world.specs.World.{WorldState}
 use Rattle.world.proofs.ClientGoes.{housed_still}
 use Rattle.world.proofs.Handed.{gathers_on, gathering_goes}
-use Rattle.world_clients.proofs.LeadsKept.{led, led_there}
+use Rattle.world_pipes.proofs.of_clients.LeadsKept.{led, led_there}
 use Rattle.world.proofs.StandsThere.{client_within, way_within}
 use Rattle.world.proofs.world.World.gather_on.Goals as goal
 

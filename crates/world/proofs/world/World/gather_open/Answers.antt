@@ -2,7 +2,7 @@ use Rattle.std.proofs.Common.{refl, ◌∙◌, arith}
 use Rattle.world.proofs.Joined.{goes_on_rest}
 use Rattle.world.proofs.Walked.{next_there, walk_begins, walk_ends, walk_goes_on}
 use Rattle.world.proofs.QuietEvents.{stays_join}
-use Rattle.world_clients.proofs.HandsQuietly.{stays_rest}
+use Rattle.world_pipes.proofs.of_clients.HandsQuietly.{stays_rest}
 use Rattle.world.proofs.world.World.gather_open.Goals as goal
 
 pub loop-at-init : goal.loop-at-init

@@ -1,6 +1,6 @@
 use Rattle.std.proofs.Common.{inl, ◌<◌, length, refl, sym, ◌∙◌}
 use Rattle.std.proofs.lemmas.Bool.{both_ways}
-use Rattle.escaping_nodes.proofs.of_master.Counting.{get_there}
+use Rattle.master.proofs.Counting.{get_there}
 use Rattle.world.specs.World.{WorldState}
 use Rattle.world.proofs.Joined.{goes_on_rest}
 use Rattle.world.proofs.OpensOn.{full_meets, is_free, is_taken, open_meets}

@@ -1,8 +1,8 @@
 use Rattle.std.proofs.Common.{◌<◌, ◌-◌, ℕ, List, length, sym, ap, ◌∙◌, arith}
 use Rattle.std.proofs.lemmas.Option.{same_Some, slice_get_within}
-use Rattle.escaping_nodes.proofs.of_master.Counting.{get_there}
-use Rattle.world_clients.specs.SlotsAreValid.{open_from}
-use Rattle.world_clients.specs.declared.connection_slot.ConnectionSlot.{ConnectionSlot}
+use Rattle.master.proofs.Counting.{get_there}
+use Rattle.world_pipes.specs.clients.SlotsAreValid.{open_from}
+use Rattle.world_pipes.specs.declared.clients.connection_slot.ConnectionSlot.{ConnectionSlot}
 use Rattle.world.proofs.OpenEnds.{opened, stands_open}
 use Rattle.world.proofs.world.World.open_at.Goals as goal
 

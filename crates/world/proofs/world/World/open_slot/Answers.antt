@@ -1,9 +1,9 @@
 use Rattle.std.proofs.Common.{◌≡◌, inl, inr, ◌<◌, ◌-◌, ℕ, List, [], ◌∷◌, ◌++◌, Bool, true, false, suc, length, refl, sym, ap, ◌∙◌, subst, arith}
-use Rattle.escaping_nodes.proofs.of_master.Counting.{get_there}
+use Rattle.master.proofs.Counting.{get_there}
 use Rattle.world.specs.Found.{port_at_node}
-use Rattle.world_clients.specs.SlotsAreValid.{open_from}
-use Rattle.world_clients.specs.Opening.{HearsOfOne, Reaches}
-use Rattle.world_clients.specs.declared.connection_slot.ConnectionSlot.{ConnectionSlot}
+use Rattle.world_pipes.specs.clients.SlotsAreValid.{open_from}
+use Rattle.world_pipes.specs.clients.Opening.{HearsOfOne, Reaches}
+use Rattle.world_pipes.specs.declared.clients.connection_slot.ConnectionSlot.{ConnectionSlot}
 use Rattle.world.specs.World.{WorldState}
 use Rattle.world.proofs.ClientGoes.{housed_still}
 use Rattle.world.proofs.HousedOpened.{housed_opened}

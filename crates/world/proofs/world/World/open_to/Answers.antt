@@ -1,5 +1,5 @@
 use Rattle.std.proofs.Common.{◌≡◌, inl, inr, ◌<◌, ◌^◌, ◌-◌, ℕ, ap, ◌∙◌, subst, sym}
-use Rattle.headline.specs.ballot_base.Losses.{one_more}
+use Rattle.ballot_base.specs.Losses.{one_more}
 use Rattle.world.specs.World.{WorldState}
 use Rattle.world.proofs.Joined.{goes_on_join, goes_on_still}
 use Rattle.world.proofs.world.World.open_to.Goals as goal

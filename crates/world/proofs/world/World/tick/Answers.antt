@@ -1,6 +1,6 @@
 use Rattle.std.proofs.Common.{false, inl, refl}
 use Rattle.std.proofs.lemmas.Bool.{both_ways}
-use Rattle.node_core.specs.declared.item.Item.TheVariants.{Tick}
+use Rattle.world_base.specs.declared.node_core.item.Item.TheVariants.{Tick}
 use Rattle.world.specs.World.{WorldState}
 use Rattle.world.proofs.GroupGoes.{by_call, goes_apart}
 use Rattle.world.proofs.ItemsMet.{ticked}

@@ -1,12 +1,12 @@
 use Rattle.std.proofs.Common.{◌≤◌, ◌<◌, [], length, refl, sym, arith, ◌≡◌, true, false, subst, ap, ◌∙◌}
 use Rattle.std.specs.Option.{is_some}
 use Rattle.std.proofs.lemmas.Option.{same_Some}
-use Rattle.escaping_client.specs.client.Core.{Core}
-use Rattle.escaping_client.specs.client_base.Steps.{request_refusal}
-use Rattle.escaping_client.specs.packet.packet_base.declared.qos.QoS.TheVariants as qualities
-use Rattle.world_clients.specs.declared.world_client.WorldClient.{WorldClient}
-use Rattle.escaping_nodes.proofs.of_master.Counting.{get_there}
-use Rattle.escaping_client.specs.client_base.Steps.{Call}
+use Rattle.client.specs.Core.{Core}
+use Rattle.client_base.specs.Steps.{request_refusal}
+use Rattle.packet_base.specs.declared.qos.QoS.TheVariants as qualities
+use Rattle.world_pipes.specs.declared.clients.world_client.WorldClient.{WorldClient}
+use Rattle.master.proofs.Counting.{get_there}
+use Rattle.client_base.specs.Steps.{Call}
 use Rattle.world.specs.ClientCalls.{SendsCall, LosesAsking}
 use Rattle.world.specs.Cannot.{RefusesCall}
 use Rattle.world.specs.Inside.Calling.{with_one_loss}

@@ -1,9 +1,9 @@
 use Rattle.std.proofs.Common.{◌≡◌, ◌<◌, ◌+◌, ◌-◌, ◌*◌, ◌++◌, ℕ, suc, List, length, rules, sym, ap, ◌∙◌, subst, arith}
 use Rattle.std.proofs.lemmas.Option.{same_Some}
-use Rattle.escaping_nodes.proofs.of_master.Counting.{get_there}
+use Rattle.master.proofs.Counting.{get_there}
 use Rattle.world_pipes.specs.Piped.{is_holding}
-use Rattle.world_clients.specs.declared.world_client.WorldClient.{WorldClient}
-use Rattle.world_events.specs.EscapeEvents.{client_events}
+use Rattle.world_pipes.specs.declared.clients.world_client.WorldClient.{WorldClient}
+use Rattle.world_pipes.specs.events.EscapeEvents.{client_events}
 use Rattle.world.specs.Inside.Escaping.{sent_then}
 use Rattle.world.proofs.WaysWritten.{whole_way}
 use Rattle.world.proofs.world.World.way_out.Goals as goal

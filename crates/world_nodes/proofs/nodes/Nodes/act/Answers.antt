@@ -1,5 +1,5 @@
 use Rattle.std.proofs.Common.{◌-◌, refl, ◌∙◌}
-use Rattle.byte_world.specs.node_moves.Moves.NodeCall.{takes}
+use Rattle.headline.specs.node_moves.Moves.NodeCall.{takes}
 use Rattle.master.proofs.Groups.{more_than}
 use Rattle.world_nodes.specs.Nodes.{NodesState}
 use Rattle.world_nodes.proofs.Acts.{after_turn_of, took_by, turn_takes}

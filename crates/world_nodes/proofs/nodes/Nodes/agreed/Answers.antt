@@ -1,8 +1,8 @@
 use Rattle.std.proofs.Common.{◌-◌, ap, sym, ◌∙◌, length, refl, arith}
 use Rattle.std.proofs.lemmas.List.{length-take-le}
-use Rattle.master.specs.ballot_base.Replica.{ReplicaState}
-use Rattle.byte_world.specs.broker_spec.declared.command.Command.{Command}
-use Rattle.byte_world.specs.broker_base.State.{State}
+use Rattle.ballot_base.specs.Replica.{ReplicaState}
+use Rattle.broker_spec.specs.declared.command.Command.{Command}
+use Rattle.broker_base.specs.State.{State}
 use Rattle.world_nodes.specs.Nodes.{NodesState}
 use Rattle.world_nodes.proofs.AgreedCounted.{front_agrees, recorded_agrees, same_replica, some_agrees, within_at}
 use Rattle.world_nodes.proofs.nodes.Nodes.agreed.Goals as goal

@@ -1,6 +1,6 @@
 use Rattle.std.proofs.Common.{sym, ◌∙◌, subst}
-use Rattle.master.specs.ballot_base.declared.message.Body.TheVariants.{Activate}
-use Rattle.master.specs.agreement.MasterState.{is_granted}
+use Rattle.ballot_base.specs.declared.message.Body.TheVariants.{Activate}
+use Rattle.agreement.specs.MasterState.{is_granted}
 use Rattle.master.proofs.Groups.{answer_is, turned}
 use Rattle.world_nodes.specs.Nodes.{NodesState}
 use Rattle.world_nodes.specs.Steps.{MasterAnswerOrLost}

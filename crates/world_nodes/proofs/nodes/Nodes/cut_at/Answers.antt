@@ -1,7 +1,7 @@
 use Rattle.std.proofs.Common.{◌≡◌, ◌+◌, inl, inr, ◌∙◌, ap, length, refl, arith}
-use Rattle.node_core.specs.Core.{CountedCore}
-use Rattle.node_core.specs.declared.item.Item.TheVariants.{Cut}
-use Rattle.byte_world.specs.node_moves.Moves.NodeCall.{takes}
+use Rattle.world_base.specs.node_core.Core.{CountedCore}
+use Rattle.world_base.specs.declared.node_core.item.Item.TheVariants.{Cut}
+use Rattle.headline.specs.node_moves.Moves.NodeCall.{takes}
 use Rattle.master.proofs.Archived.{taken_back}
 use Rattle.master.proofs.Groups.{more_than}
 use Rattle.world_nodes.specs.Nodes.{NodesState}

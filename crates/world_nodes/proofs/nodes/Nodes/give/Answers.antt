@@ -1,7 +1,7 @@
 use Rattle.std.proofs.Common.{◌≡◌, ap, ◌∙◌, None}
-use Rattle.master.specs.agreement.MasterState.{assigning, master_after, refusal}
-use Rattle.master.specs.ballot_base.declared.config.Config.{Config}
-use Rattle.byte_world.specs.broker_spec.declared.command.Command.{Command}
+use Rattle.agreement.specs.MasterState.{assigning, master_after, refusal}
+use Rattle.ballot_base.specs.declared.config.Config.{Config}
+use Rattle.broker_spec.specs.declared.command.Command.{Command}
 use Rattle.master.proofs.Groups.{new_ballot_is}
 use Rattle.world_nodes.specs.Nodes.{NodesState}
 use Rattle.world_nodes.proofs.MasterCounts.{gives_counting, no_refusal}

@@ -1,6 +1,6 @@
 use Rattle.std.proofs.Common.{◌≡◌, ◌-◌, List, ◌∙◌, ap, length, sym, arith}
 use Rattle.std.proofs.lemmas.Bool.{ltb-false, ltb-true}
-use Rattle.node_core.specs.Core.{CountedCore}
+use Rattle.world_base.specs.node_core.Core.{CountedCore}
 use Rattle.world_nodes.specs.Inside.{held_at}
 use Rattle.world_nodes.proofs.AgreedCounted.{held_nowhere, held_there}
 use Rattle.world_nodes.proofs.nodes.Nodes.held.Goals as goal

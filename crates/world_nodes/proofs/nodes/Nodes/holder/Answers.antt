@@ -1,6 +1,6 @@
 use Rattle.std.proofs.Common.{◌-◌, ℕ, List, ap, sym, ◌∙◌, subst, get_or, arith}
 use Rattle.std.specs.Prelude.{slice_get}
-use Rattle.master.specs.lists.Lists.{In}
+use Rattle.lists.specs.Lists.{In}
 use Rattle.master.specs.Inside.{IsShort}
 use Rattle.master.proofs.Groups.{in_nothing, in_taken, in_whole}
 use Rattle.world_nodes.specs.Inside.{replicas_of}

@@ -1,6 +1,6 @@
 use Rattle.std.proofs.Common.{ℕ, ◌-◌, take}
 use Rattle.std.specs.Prelude.{slice_get}
-use Rattle.master.specs.lists.Lists.{In}
+use Rattle.lists.specs.Lists.{In}
 use Rattle.master.specs.Inside.{IsShort}
 use Rattle.world_nodes.specs.Inside.{replicas_of}
 use Rattle.world_nodes.proofs.nodes.Nodes.holder.Given as goal

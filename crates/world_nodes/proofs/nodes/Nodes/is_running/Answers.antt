@@ -1,5 +1,5 @@
 use Rattle.std.proofs.Common.{refl, ap}
-use Rattle.master.specs.ballot_base.declared.status.Status.{Status}
+use Rattle.ballot_base.specs.declared.status.Status.{Status}
 use Rattle.world_nodes.proofs.Stopped.{runs_exactly, runs_none}
 use Rattle.world_nodes.proofs.nodes.Nodes.is_running.Goals as goal
 

@@ -1,5 +1,5 @@
 use Rattle.std.proofs.Common.{◌≡◌}
-use Rattle.byte_world.specs.node_group.Group.{opening_cores}
+use Rattle.headline.specs.node_group.Group.{opening_cores}
 use Rattle.world_nodes.specs.Nodes.{cores_of}
 use Rattle.world_nodes.proofs.nodes.Nodes.opening.Given as goal
 

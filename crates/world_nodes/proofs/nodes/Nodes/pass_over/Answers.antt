@@ -1,7 +1,7 @@
 use Rattle.std.proofs.Common.{◌-◌, refl, ◌∙◌}
 use Rattle.master.proofs.Groups.{more_than}
-use Rattle.node_core.specs.declared.item.Item.TheVariants.{Peer}
-use Rattle.byte_world.specs.node_moves.Moves.NodeCall.{takes}
+use Rattle.world_base.specs.declared.node_core.item.Item.TheVariants.{Peer}
+use Rattle.headline.specs.node_moves.Moves.NodeCall.{takes}
 use Rattle.world_nodes.specs.Nodes.{NodesState}
 use Rattle.world_nodes.proofs.Acts.{after_turn_of, turn_takes}
 use Rattle.world_nodes.proofs.ActsLosing.{turn_loses}

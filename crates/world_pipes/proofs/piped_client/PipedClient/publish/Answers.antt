@@ -1,6 +1,6 @@
 use Rattle.std.proofs.Common.{Ok}
 use Rattle.client.specs.Core.{publication_with}
-use Rattle.client.specs.client_base.Steps.{Call, keeper_step}
+use Rattle.client_base.specs.Steps.{Call, keeper_step}
 use Rattle.world_pipes.specs.Piped.{piped}
 use Rattle.world_pipes.proofs.StaysOpen.{publishing_stays}
 use Rattle.world_pipes.proofs.CallingFollows.{publishing_follows}

@@ -1,5 +1,5 @@
 use Rattle.std.proofs.Common.{Ok}
-use Rattle.client.specs.client_base.Steps.{Call, keeper_step}
+use Rattle.client_base.specs.Steps.{Call, keeper_step}
 use Rattle.world_pipes.specs.Piped.{piped}
 use Rattle.world_pipes.proofs.StaysOpen.{subscribing_stays}
 use Rattle.world_pipes.proofs.CallingFollows.{subscribing_follows}

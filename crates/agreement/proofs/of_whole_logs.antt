@@ -1,0 +1,4 @@
+pub mod AppliesInOrder
+pub mod ChangeRows
+pub mod MessageRows
+pub mod StepRows

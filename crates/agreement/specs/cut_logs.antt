@@ -1,0 +1,11 @@
+pub mod Agreeing
+pub mod Giving
+pub mod Laws
+pub mod Masters
+pub mod Matches
+pub mod Orders
+pub mod Moments
+pub mod Proposals
+pub mod Steps
+pub mod Whole
+pub mod World

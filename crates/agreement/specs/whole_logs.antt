@@ -1,0 +1,9 @@
+pub mod Activating
+pub mod Applying
+pub mod Changing
+pub mod Losses
+pub mod Messages
+pub mod Protocol
+pub mod Replica
+pub mod Sending
+pub mod Serving

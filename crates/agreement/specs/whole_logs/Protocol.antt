@@ -1,0 +1,50 @@
+-- The step of a replica on a message, a proposal or a tick.
+use Rattle.std.specs.Prelude.{ℕ}
+use Rattle.machine.specs.Machine.{Rules}
+use Rattle.agreement.specs.whole_logs.Messages.{Message, Body}
+use Rattle.agreement.specs.whole_logs.Messages.Body.{NewBallot, Join, State, Install, Installed, Activate}
+use Rattle.agreement.specs.whole_logs.Messages.Body.{Activated, Superseded, Append, Held, Commit}
+use Rattle.ballot_base.specs.declared.status.Role.{Role}
+use Rattle.ballot_base.specs.declared.status.Role.TheVariants.{Backup, Fetching, Installing, Active}
+use Rattle.agreement.specs.whole_logs.Sending.{Outcome, nothing_done}
+use Rattle.agreement.specs.whole_logs.Serving.{proposed, on_append, on_held, on_commit, on_tick_active}
+use Rattle.agreement.specs.whole_logs.Changing.{on_new_ballot, on_join, on_state, on_install}
+use Rattle.agreement.specs.whole_logs.Changing.{on_tick_fetching, on_tick_installing}
+use Rattle.agreement.specs.whole_logs.Activating.{on_installed, on_activated, on_superseded}
+use Rattle.agreement.specs.whole_logs.Replica.{ReplicaState}
+
+-- the input of a replica in one step
+pub data Input (C : Type 0) : Type 0 where
+  Receives : Message C → Input C  -- a message comes
+  Proposes : C → Input C  -- a command is proposed
+  Ticks : Input C  -- time passes
+
+-- a message, by its kind
+abbrev pub received : {S C O : Type 0} → Rules S C O → ReplicaState S C → ℕ → Body C → Outcome S C O
+received {O = O} rules replica from (NewBallot ballot members previous previous_members) =
+    on_new_ballot O replica ballot members previous previous_members
+received {O = O} rules replica from (Join ballot previous) = on_join O replica from ballot previous
+received {O = O} rules replica from (State ballot log) = on_state O replica ballot log
+received {O = O} rules replica from (Install ballot log) = on_install O replica from ballot log
+received {O = O} rules replica from (Installed ballot held) = on_installed O replica from ballot
+received {O = O} rules replica from (Activate ballot) = nothing_done O replica
+received {O = O} rules replica from (Activated ballot) = on_activated rules replica ballot
+received {O = O} rules replica from (Superseded ballot) = on_superseded O replica ballot
+received {O = O} rules replica from (Append ballot place command) =
+    on_append O replica from ballot place command
+received {O = O} rules replica from (Held ballot held) = on_held rules replica from ballot held
+received rules replica from (Commit ballot held) = on_commit rules replica ballot held
+
+-- a tick: a backup does nothing, and every other role repeats what others may have missed
+abbrev pub ticked : {S C : Type 0} (O : Type 0) → ReplicaState S C → Role → Outcome S C O
+ticked O replica Backup = nothing_done O replica
+ticked O replica Fetching = on_tick_fetching O replica
+ticked O replica Installing = on_tick_installing O replica
+ticked O replica Active = on_tick_active O replica
+
+-- the step of a replica that has not stopped
+abbrev pub replica_step : {S C O : Type 0} →
+    Rules S C O → ReplicaState S C → Input C → Outcome S C O
+replica_step rules replica (Receives message) = received rules replica message.from message.body
+replica_step rules replica (Proposes command) = proposed rules replica command
+replica_step {O = O} rules replica Ticks = ticked O replica replica.role

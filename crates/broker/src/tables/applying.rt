@@ -1,0 +1,39 @@
+// One command of the log.
+
+ghost use Rattle.std.specs.Prelude.{OnOk};
+ghost use Rattle.broker.specs.tables.Tables.{DoesCommand, IsConsistent, IsTied};
+
+use crate::tables::tables::Tables;
+use broker_spec::{Command, Output};
+use machine::Halted;
+
+impl Tables {
+    /// Applies one command, and appends its outputs. `Halted` says that memory ran out: the tables
+    /// may then be half changed, and are not used again.
+    pub fn apply(&mut self, command: &Command, out: &mut Vec<Output>) -> Result<(), Halted>
+        requires { IsConsistent self.old }
+        ensures step { OnOk result
+            (DoesCommand self.old self.new out.old.items out.new.items command.now) }
+        ensures tied { OnOk result (IsTied self.new) }
+    {
+        match command {
+            Command::Connect(connection, client, clean) => {
+                self.connect(*connection, client, *clean, out)
+            }
+            Command::Packet(connection, packet) => self.handle_packet(
+                *connection,
+                packet.packet(),
+                out,
+            ),
+            Command::Lost(connection) => {
+                self.end_connection(*connection);
+                Ok(())
+            }
+            Command::Start(ballot) => {
+                self.start(*ballot);
+                Ok(())
+            }
+            Command::Expel(client) => self.expel(client, out),
+        }
+    }
+}

@@ -1,0 +1,9 @@
+pub mod Follows
+pub mod InRange
+pub mod RangeLaws
+pub mod Form
+pub mod FormLaws
+pub mod FormRows
+pub mod FullRow
+pub mod Writing
+pub mod BrokerRules

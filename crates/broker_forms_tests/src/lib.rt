@@ -1,6 +1,0 @@
-//! The broker as bytes: which bytes are refused, and that a broker continues from its own bytes. It
-//! has only tests.
-#![tactic(auto)]
-
-#[cfg(test)]
-mod tests;

@@ -1,5 +1,0 @@
-use Rattle.broker_rows.proofs.LeavingSteps.{leaving_step, further_connect_step, lost_step}
-use Rattle.broker_rows.proofs.packet_laws.leaving_steps.Goals as goal
-
-pub returns : goal.returns
-returns c = record { packet = leaving_step; connect = further_connect_step; lost = lost_step }

@@ -1,7 +1,0 @@
-use Rattle.std.proofs.Common.{◌≡◌, ◌≤◌, length}
-use Rattle.std.specs.Prelude.{take}
-use Rattle.broker_spec.specs.Entries.{queued}
-use Rattle.broker_session.proofs.retained_copies.queued_count.Given as goal
-
-abbrev pub invariant-loop-copy : goal.invariant-loop-copy
-invariant-loop-copy l = (l.many ≡ length (queued (take l.copy-index l.copies))) × (l.many ≤ l.copy-index)

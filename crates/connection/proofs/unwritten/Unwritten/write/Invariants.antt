@@ -1,9 +1,0 @@
-use Rattle.std.specs.Prelude.{◌≡◌}
-use Rattle.connection.specs.Writing.{Writes}
-use Rattle.connection.proofs.unwritten.Unwritten.write.Given as goal
-
-abbrev pub invariant-loop : goal.invariant-loop
-invariant-loop g l = record {
-  writes : Writes (g.W.Write.contents l.initial.device.device) (g.W.Write.contents l.device.device) l.initial.self l.self;
-  faults : l.device.faults ≡ l.initial.device.faults;
-}

@@ -1,7 +1,0 @@
-//! What the CONNACK at the end of a way out does to a client. No code runs here; the law is the
-//! contract of a call that does nothing.
-#![tactic(auto)]
-
-mod laws;
-
-pub use laws::connack_serves;

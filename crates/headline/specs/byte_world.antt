@@ -1,0 +1,12 @@
+pub mod World
+pub mod Carrying
+pub mod ClientSteps
+pub mod Steps
+pub mod Carried
+pub mod Published
+pub mod Accepted
+pub mod InPipes
+pub mod Apart
+pub mod AtNodes
+pub mod Kept
+pub mod NodeCalls

@@ -1,0 +1,9 @@
+pub mod Group
+pub mod Putting
+pub mod Losing
+pub mod Steps
+pub mod GroupMoments
+pub mod Ballots
+pub mod Order
+pub mod Streams
+pub mod Carried

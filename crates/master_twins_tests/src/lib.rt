@@ -1,5 +1,0 @@
-//! Tests of crate `master` on two groups with the same events. It has only tests.
-#![tactic(auto)]
-
-#[cfg(test)]
-mod tests;

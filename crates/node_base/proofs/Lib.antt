@@ -1,0 +1,2 @@
+pub mod of_connection
+pub mod of_devices

@@ -1,0 +1,20 @@
+-- The writing of a connection over its whole life: one call after another, each of which begins
+-- with what the one before left.
+use Rattle.std.specs.Prelude.{ℕ, List, [], ◌++◌, Option}
+use Rattle.world_base.specs.declared.node_core.Handed.{Handed}
+use Rattle.node_base.specs.declared.connection.flow.Flow.{Flow}
+use Rattle.node_base.specs.connection.Writing.{Flows}
+
+-- What a tap and a device lead to: the tap now, all that was handed over by it, the device's bytes
+-- now, and what is left.
+pub data Lives {T : Type 0}
+    (hands : T → List ℕ → Handed → T → Type 0) (first : T) (start : Option (List ℕ))
+    : T → List ℕ → Option (List ℕ) → List ℕ → Type 0 where
+  -- no call yet
+  begins : Lives hands first start first [] start []
+  -- one more call of the tap or the device
+  goes_on : {before : T} {handed left : List ℕ} {old : Option (List ℕ)}
+      (flow : Flow) (after : T) (new : Option (List ℕ)) (rest : List ℕ)
+      → Lives hands first start before handed old left
+      → (flows : Flows hands flow before after old new left rest)
+      → Lives hands first start after (handed ++ flows.bytes) new rest

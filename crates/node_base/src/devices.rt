@@ -1,0 +1,15 @@
+//! Reading from and writing to devices that may fail: streams, files, or bytes in memory. Each
+//! device is in a [`Counted`], which counts its failed calls, so that a fault is reported only if
+//! the device had one. Also the gate at which a test holds nodes before they take an item.
+
+mod counted;
+mod gate;
+mod one_read;
+mod one_write;
+mod whole_write;
+
+pub use counted::{Counted, PIECE_BYTES};
+pub use gate::{Gate, NoGate};
+pub use one_read::OneRead;
+pub use one_write::OneWrite;
+pub use whole_write::WholeWrite;

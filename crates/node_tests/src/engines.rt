@@ -1,0 +1,4 @@
+//! Connections over devices that fail. It has only tests.
+
+#[cfg(test)]
+mod tests;

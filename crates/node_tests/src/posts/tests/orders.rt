@@ -1,0 +1,163 @@
+// What an order answers, and what waits for the nodes then, by what they showed.
+
+use super::waking::two_nodes;
+use ballot_base::{Role, Status};
+use packet_base::ClientId;
+use post::{Cluster, Peer};
+use std::alloc::Global;
+use std::sync::Wait;
+use std::test::Fail;
+use std::time::Clock;
+use world_base::node_core::Item;
+
+// The active primary of ballot 1.
+const FIRST: Status = Status {
+    ballot: 1,
+    role: Role::Active,
+    held: 0,
+    committed: 0,
+    stopped: false,
+};
+
+// That of ballot 2.
+const SECOND: Status = Status {
+    ballot: 2,
+    role: Role::Active,
+    held: 0,
+    committed: 0,
+    stopped: false,
+};
+
+// A backup of ballot 1.
+const BACKUP: Status = Status {
+    ballot: 1,
+    role: Role::Backup,
+    held: 0,
+    committed: 0,
+    stopped: false,
+};
+
+// The primary of ballot 1 after its crash.
+const STOPPED: Status = Status {
+    ballot: 1,
+    role: Role::Active,
+    held: 0,
+    committed: 0,
+    stopped: true,
+};
+
+// An order that was queued.
+#[derive(Clone, Copy)]
+enum Order {
+    Crash,
+    // It ends the session of client `a`.
+    Expel,
+}
+
+// Says whether an item is this order.
+fn is_order(item: &Item, order: Order) -> bool {
+    match (item, order) {
+        (Item::Crash, Order::Crash) => true,
+        (Item::Expel(client), Order::Expel) => client.as_str() == "a",
+        _ => false,
+    }
+}
+
+// Takes what waits for a node. Returns how many times it is this order; none if anything else
+// waits.
+fn waiting<R: Wait>(rt: &R, alloc: Global, peer: &Peer, order: Order) -> Option<usize> {
+    let items = peer.take_waiting(rt, alloc);
+    if items.iter().all(|item| is_order(item, order)) {
+        Some(items.len())
+    } else {
+        None
+    }
+}
+
+// What two orders to crash answer, and how many of them wait for the node.
+type Crashed = (bool, bool, Option<usize>);
+
+// Has node 1 show a status, and orders it to crash twice.
+fn crash_twice<R>(rt: &R, alloc: Global, cluster: &Cluster, status: Status) -> Option<Crashed>
+where
+    R: Wait + Clock,
+{
+    let peer = cluster.node(1)?;
+    peer.show(rt, status);
+    let first = cluster.crash(rt, 1).ok()?;
+    let second = cluster.crash(rt, 1).ok()?;
+    Some((first, second, waiting(rt, alloc, peer, Order::Crash)))
+}
+
+// The order waits for the node, which has no thread here: so the call gives the node its 40 ms.
+#[test]
+fn a_node_that_runs_is_crashed_once(rt: HostRuntime) -> Result<(), Fail> {
+    let cluster = two_nodes(rt.alloc())?;
+    let came = crash_twice(&rt, rt.alloc(), &cluster, FIRST);
+    assert_eq!(rt; came, Some((true, false, Some(1))));
+    Ok(())
+}
+
+#[test]
+fn a_node_that_stopped_is_not_crashed(rt: HostRuntime) -> Result<(), Fail> {
+    let cluster = two_nodes(rt.alloc())?;
+    let came = crash_twice(&rt, rt.alloc(), &cluster, STOPPED);
+    assert_eq!(rt; came, Some((false, false, Some(0))));
+    Ok(())
+}
+
+// What an order to expel answers, and how many wait for nodes 1 and 2 then.
+type Expelled = (bool, Option<usize>, Option<usize>);
+
+// What a row shows, what nodes 1 and 2 showed, and the outcome.
+const EXPELS: &[(&str, Status, Status, Expelled)] = &[
+    ("node 1 serves", FIRST, BACKUP, (true, Some(1), Some(0))),
+    (
+        "node 2 serves, later",
+        FIRST,
+        SECOND,
+        (true, Some(0), Some(1)),
+    ),
+    ("node 1 stopped", STOPPED, SECOND, (true, Some(0), Some(1))),
+    ("no node serves", STOPPED, BACKUP, (false, Some(0), Some(0))),
+];
+
+// Orders to end the session of client `a`. Returns the answer; none if there was no memory.
+fn answer<R: Wait + Clock>(rt: &R, alloc: Global, cluster: &Cluster) -> Option<bool> {
+    match ClientId::new(alloc, "a") {
+        Ok(client) => cluster.expel(rt, &client).ok(),
+        Err(_) => None,
+    }
+}
+
+// Has nodes 1 and 2 show these, and orders to end the session of client `a`.
+fn expel<R>(
+    rt: &R,
+    alloc: Global,
+    cluster: &Cluster,
+    (first, second): (Status, Status),
+) -> Option<Expelled>
+where
+    R: Wait + Clock,
+{
+    let one = cluster.node(1)?;
+    let two = cluster.node(2)?;
+    one.show(rt, first);
+    two.show(rt, second);
+    let answered = answer(rt, alloc, cluster)?;
+    Some((
+        answered,
+        waiting(rt, alloc, one, Order::Expel),
+        waiting(rt, alloc, two, Order::Expel),
+    ))
+}
+
+#[test]
+fn an_expel_waits_for_the_primary_alone(rt: HostRuntime) -> Result<(), Fail> {
+    let cluster = two_nodes(rt.alloc())?;
+    for (words, first, second, outcome) in EXPELS {
+        let came = expel(&rt, rt.alloc(), &cluster, (*first, *second));
+        assert_eq!(rt; came, Some(*outcome), "{words}");
+    }
+    Ok(())
+}

@@ -1,8 +1,0 @@
-use Rattle.std.proofs.Common.{ap}
-use Rattle.mailbox.specs.Ends.{LaneView}
-use Rattle.node.specs.declared.Item.{Item}
-use Rattle.node_threads.proofs.OwnSendsJoin.{own_queued}
-use Rattle.node_threads.proofs.shared.Shared.send_queued.Goals as goal
-
-pub returns : goal.returns
-returns g c = own_queued _ c.args.item _ _ c.requires (ap (λ (lane : LaneView Item). lane.sent) c.send.ensures)

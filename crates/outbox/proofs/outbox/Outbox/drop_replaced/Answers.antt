@@ -1,9 +1,0 @@
-use Rattle.std.proofs.Common.{sym, subst}
-use Rattle.outbox.specs.Waiting.{Waits}
-use Rattle.outbox.proofs.OutboxKept.{waits_taken}
-use Rattle.outbox.proofs.outbox.Outbox.drop_replaced.Goals as goal
-
-pub invariant_of-self : goal.invariant_of-self
-invariant_of-self c =
-    subst (Waits c.self.inside.number) (sym c.truncate.ensures.items)
-    (waits_taken c.self.inside.number _ c.self.inside.items.items c.self.invariant)

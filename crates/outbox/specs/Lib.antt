@@ -1,9 +1,0 @@
-pub mod Given
-pub mod Laws
-pub mod Mastering
-pub mod Queued
-pub mod Refusals
-pub mod Replacing
-pub mod Waiting
-pub mod Waking
-pub use Rattle.node.specs.broker_spec as broker_spec

@@ -1,5 +1,0 @@
-//! Scripts that are played, against their transcripts. It has only tests.
-#![tactic(auto)]
-
-#[cfg(test)]
-mod tests;

@@ -1,0 +1,9 @@
+use Rattle.std.proofs.Common.{sym, subst}
+use Rattle.post.specs.outbox.Waiting.{Waits}
+use Rattle.post.proofs.of_outbox.OutboxKept.{waits_taken}
+use Rattle.post.proofs.outbox.outbox.Outbox.drop_replaced.Goals as goal
+
+pub invariant_of-self : goal.invariant_of-self
+invariant_of-self c =
+    subst (Waits c.self.inside.number) (sym c.truncate.ensures.items)
+    (waits_taken c.self.inside.number _ c.self.inside.items.items c.self.invariant)

@@ -1,0 +1,17 @@
+//! What waits for one node: messages of other nodes, answers of the master, and orders. It has the
+//! master, whose answers are messages, and the waker of the thread that takes what waits.
+
+mod laws;
+mod messaging_master;
+mod order_error;
+mod outbox;
+mod replacing;
+mod waker;
+mod waking;
+
+pub use laws::{later_commits_suffice, later_counts_suffice};
+pub use messaging_master::{Answer, MessagingMaster};
+pub use order_error::OrderError;
+pub use outbox::Outbox;
+pub use waker::Waker;
+pub use waking::is_urgent;

@@ -1,0 +1,239 @@
+// What waits for a node.
+
+ghost use Rattle.std.specs.Prelude.{◌≡◌, ◌↔◌, ◌+◌, ◌++◌, ◌∷◌, [], Some, true, false, IfOk, IsErrOf, OnErr, OnOk};
+ghost use Rattle.std.specs.List.{list_any};
+ghost use Rattle.agreement.specs.MasterState.{refusal};
+ghost use Rattle.agreement.specs.MasterState.AssignRefusal.{bad_members, ballots_spent};
+ghost use Rattle.broker_spec.specs.declared.command.Command.{Command};
+ghost use Rattle.lists.specs.Lists.{Each};
+ghost use Rattle.node.specs.declared.Item.TheVariants.{Peer};
+ghost use Rattle.agreement.specs.cut_logs.Masters.{assigned};
+ghost use Rattle.post.specs.outbox.Queued.{IsPosted, IsQueued};
+ghost use Rattle.post.specs.outbox.Mastering.{MayGet, message_of};
+ghost use Rattle.post.specs.outbox.Replacing.{newest_item, still_waiting, replaces_one};
+ghost use Rattle.post.specs.outbox.Waiting.{AreUnchanged, may_be_queued, is_of_node};
+ghost use Rattle.post.specs.outbox.Waking.{is_long, wakes};
+
+use crate::outbox::messaging_master::{Answer, MessagingMaster};
+use crate::outbox::order_error::OrderError;
+use crate::outbox::replacing::replaces;
+use crate::outbox::waking::is_any_urgent;
+use ballot_base::{Config, MASTER};
+use master::AssignError;
+use std::alloc::Global;
+use std::marker::Model;
+use std::mem;
+use world_base::node_core::Item;
+
+/// A message of another node is queued only while fewer items than this wait.
+const MAX_WAITING: usize = 524_288;
+
+/// A thread that queued something urgent takes what waits itself only if at most this many items
+/// wait; if more do, it wakes the node's own thread.
+const MAX_HELPED: usize = 16;
+
+/// What the other nodes and the master have for a node, in the order in which it was queued. It is
+/// under a lock, and what is under a lock is known by its type alone: no clause of a call that
+/// locks it says whose it is. So its type says where each item comes from, and how many messages of
+/// other nodes wait at most, and whoever locks it asks it for its number.
+#[derive(Drop)]
+pub struct Outbox {
+    // The number of the node.
+    number: u8,
+    // The oldest first; at most `MAX_WAITING` of them are messages of other nodes.
+    items: Vec<Item>,
+}
+
+impl Model for Outbox {
+    ghost use Rattle.post.specs.outbox.Waiting.{OutboxView, Waits};
+
+    ghost Value = { OutboxView };
+
+    ghost view = { λ outbox. record { number = outbox.number; items = outbox.items.items } };
+
+    ghost invariant = { λ outbox. Waits outbox.number outbox.items.items };
+}
+
+impl Outbox {
+    /// Returns the empty outbox of the node of this number.
+    pub fn new(alloc: Global, number: u8) -> Outbox
+        ensures { result ≡ record { number = number; items = [] } }
+    {
+        Outbox {
+            number,
+            items: Vec::new(alloc),
+        }
+    }
+
+    /// Returns the number of the node that it is for.
+    pub fn number(&self) -> u8
+        ensures { result ≡ self.now.number }
+    {
+        self.number
+    }
+
+    /// Says whether nothing waits.
+    pub fn is_empty(&self) -> bool
+        ensures { (result ≡ true) ↔ (self.now.items ≡ []) }
+    {
+        self.items.is_empty()
+    }
+
+    /// Says whether an item waits that wakes the node. Few of the other items come in a row, since
+    /// each replaces the one before it.
+    pub fn is_urgent(&self) -> bool
+        ensures { result ≡ list_any wakes self.now.items }
+    {
+        is_any_urgent(self.items.as_slice())
+    }
+
+    /// Says whether so much waits that the node's own thread should take it, in parallel to the
+    /// giver.
+    pub fn is_long(&self) -> bool
+        ensures { result ≡ is_long self.now.items }
+    {
+        self.items.len() > MAX_HELPED
+    }
+
+    /// Queues an item after all that waits, or in place of the newest if it replaces that one.
+    /// Returns whether there was room and memory for it. If not, it is lost, and so is the one that
+    /// it replaces.
+    pub fn queue(&mut self, item: Item) -> bool
+        requires { IsPosted self.old.number item }
+        ensures queued { result ≡ true →
+            self.new ≡ record self.old { items = still_waiting item self.old.items ++ item ∷ [] } }
+        ensures lost { result ≡ false →
+            self.new ≡ record self.old { items = still_waiting item self.old.items } }
+        ensures full { may_be_queued item (still_waiting item self.old.items) ≡ false →
+            result ≡ false }
+    {
+        self.push(item)
+    }
+
+    /// Queues an answer of the master after all that waits, as [`Outbox::queue`] does. Returns
+    /// whether there was memory for it; if not, it is lost.
+    pub fn queue_answer(&mut self, answer: Answer) -> bool
+        requires { answer.receiver ≡ self.old.number }
+        ensures queued { result ≡ true →
+            self.new ≡ record self.old {
+              items = still_waiting (Peer answer.message) self.old.items
+                  ++ Peer answer.message ∷ [];
+            } }
+        ensures lost { result ≡ false →
+            self.new ≡ record self.old {
+              items = still_waiting (Peer answer.message) self.old.items;
+            } }
+    {
+        self.push(Item::Peer(answer.into_message()))
+    }
+
+    /// Lets the master give the next ballot to a configuration whose primary is this node, and
+    /// queues its message for the node. Memory for the message is allocated first, so an order that
+    /// is answered is not dropped. Returns the ballot.
+    pub fn assign(
+        &mut self,
+        alloc: Global,
+        master: &mut MessagingMaster,
+        config: Config,
+    ) -> Result<u64, OrderError>
+        requires { config.primary ≡ self.old.number }
+        ensures ballot { IfOk result (λ ballot. ballot ≡ master.old.given + 1) }
+        ensures given { IfOk result (λ ballot. MayGet config ballot) }
+        ensures queued { OnOk result (self.new ≡ record self.old {
+          items = self.old.items
+              ++ Peer (message_of (assigned Command master.old config)).message ∷ [];
+        }) }
+        ensures state { OnOk result (master.new ≡ (assigned Command master.old config).state) }
+        ensures bad { IsErrOf result (OrderError.Refused AssignError.BadMembers)
+            → refusal master.old config ≡ Some bad_members }
+        ensures spent { IsErrOf result (OrderError.Refused AssignError.BallotsSpent)
+            → refusal master.old config ≡ Some ballots_spent }
+
+        // If it is refused, or memory runs out, nothing changes.
+        ensures same { OnErr result (AreUnchanged self.old self.new master.old master.new) }
+    {
+        if self.items.reserve(1).is_err() {
+            return Err(OrderError::Memory);
+        }
+        let (ballot, answer) = master.assign(alloc, config)?;
+        if self.items.push(Item::Peer(answer.into_message())).is_err() {
+            unreachable!()
+        }
+        Ok(ballot)
+    }
+
+    // Queues an item after all that waits, or in place of the newest if it replaces that one.
+    // Returns whether there was room and memory for it. The one that it replaces is dropped
+    // before that is known.
+    fn push(&mut self, item: Item) -> bool
+        requires { IsQueued self.old.number item }
+        ensures queued { result ≡ true →
+            self.new ≡ record self.old { items = still_waiting item self.old.items ++ item ∷ [] } }
+        ensures lost { result ≡ false →
+            self.new ≡ record self.old { items = still_waiting item self.old.items } }
+        ensures full { may_be_queued item (still_waiting item self.old.items) ≡ false →
+            result ≡ false }
+    {
+        self.drop_replaced(&item);
+        if !self.may_be_queued(&item) {
+            return false;
+        }
+        self.items.push(item).is_ok()
+    }
+
+    // Says whether an item may be queued after those that wait.
+    fn may_be_queued(&self, item: &Item) -> bool
+        ensures { result ≡ may_be_queued item.now self.now.items }
+    {
+        !is_of_node(item) || self.items.len() < MAX_WAITING
+    }
+
+    // Drops the newest of the items that wait, if this one replaces it.
+    fn drop_replaced(&mut self, item: &Item)
+        ensures { self.new ≡ record self.old { items = still_waiting item.now self.old.items } }
+    {
+        if self.is_newest_replaced(item) {
+            let kept = self.items.len().saturating_sub(1);
+            self.items.truncate(kept);
+        }
+    }
+
+    // Says whether this item replaces the newest that waits.
+    fn is_newest_replaced(&self, item: &Item) -> bool
+        ensures { result ≡ replaces_one item.now (newest_item self.now.items) }
+    {
+        match self.items.last() {
+            Some(newest) => replaces(item, newest),
+            None => false,
+        }
+    }
+
+    /// Takes all that waits, in order.
+    pub fn take(&mut self, alloc: Global) -> Vec<Item>
+        ensures all { result.items ≡ self.old.items }
+        ensures queued { Each (IsQueued self.old.number) result.items }
+        ensures empty { self.new ≡ record self.old { items = [] } }
+    {
+        mem::replace(&mut self.items, Vec::new(alloc))
+    }
+}
+
+impl Answer {
+    /// Loses the answer: `outbox` is not of its receiver.
+    pub fn lose_at(self, outbox: &Outbox)
+        requires { outbox.now.number ≡ self.receiver → ⊥ }
+    {
+        let _ = outbox;
+        let _lost = self.into_message();
+    }
+}
+
+// Says whether an item is a message of another node.
+fn is_of_node(item: &Item) -> bool
+    ensures { result ≡ is_of_node item.now }
+{
+    match item {
+        Item::Peer(message) => message.from > MASTER,
+        _ => false,
+    }
+}

@@ -1,5 +1,0 @@
-//! What wakes a node's own thread, and what it finds before it sleeps. It has only tests.
-#![tactic(auto)]
-
-#[cfg(test)]
-mod tests;

@@ -1,6 +1,0 @@
-//! How a publication is printed on one line, and a text by bytes that can be read.
-#![tactic(auto)]
-
-mod printing;
-
-pub use printing::{print_line, print_text};

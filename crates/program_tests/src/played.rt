@@ -1,0 +1,4 @@
+//! Scripts that are played, against their transcripts. It has only tests.
+
+#[cfg(test)]
+mod tests;

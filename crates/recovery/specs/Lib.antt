@@ -1,0 +1,3 @@
+pub mod one_client
+pub mod one_node
+pub mod replicas

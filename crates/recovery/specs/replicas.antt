@@ -1,0 +1,9 @@
+pub mod AnswerLaws
+pub mod Deliveries
+pub mod Following
+pub mod Inside
+pub mod Laws
+pub mod Lengths
+pub mod CutDeliveries
+pub mod CutLaws
+pub mod Answering

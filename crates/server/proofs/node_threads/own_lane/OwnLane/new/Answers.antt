@@ -1,0 +1,9 @@
+use Rattle.std.proofs.Common.{List, [], sym, subst}
+use Rattle.node.specs.declared.Item.{Item}
+use Rattle.server.specs.node_threads.Serving.{SendsOwn}
+use Rattle.server.specs.node_threads.Serving.SendsOwn.{starts}
+use Rattle.server.proofs.node_threads.own_lane.OwnLane.new.Goals as goal
+
+pub invariant_of-result : goal.invariant_of-result
+invariant_of-result g c =
+    subst (λ (items : List Item). SendsOwn c.args.number [] items) (sym c.requires) starts

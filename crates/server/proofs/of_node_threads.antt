@@ -1,0 +1,6 @@
+mod AllMet
+mod GivenBySteps
+mod OwnSendsJoin
+mod PortsApart
+mod StartedAlike
+mod TurnsEnd

@@ -1,0 +1,5 @@
+pub mod Laws
+pub mod Named
+pub mod Serving
+pub mod Turns
+pub mod Working

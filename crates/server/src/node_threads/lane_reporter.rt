@@ -1,0 +1,82 @@
+// A connection's lane, by which the connection is reported to the node.
+
+ghost use Rattle.std.specs.Prelude.{◌≡◌, ◌≤◌, min};
+ghost use Rattle.server.specs.node_threads.Serving.{client_bytes};
+
+use crate::node_threads::served_node::ServedNode;
+use mailbox::Lane;
+use node::{HasState, NodeNaming};
+use node_base::connection::Hearer;
+use node_base::devices::{Gate, PIECE_BYTES};
+use std::alloc::Global;
+use std::sync::{Arc, Wait};
+use std::time::Clock;
+use streams::Link;
+use world_base::node_connections::Standing;
+use world_base::node_core::Item;
+
+/// A connection's lane. What is reported to it is what the lane sent.
+#[derive(Drop)]
+pub(crate) struct LaneReporter<'e, 'a, J: NodeNaming, S: HasState<J>, G: Gate> {
+    /// The node to which the connection is reported.
+    pub(crate) served: &'e ServedNode<'a, J, S, G>,
+    /// All nodes of the program. Those for which something was queued have their turns.
+    pub(crate) all: &'e [ServedNode<'a, J, S, G>],
+    /// The connection.
+    pub(crate) link: &'e Arc<Link, Global>,
+    /// The lane. While the connection lasts, all that it sends is about that.
+    pub(crate) lane: Lane<Item, J>,
+}
+
+impl<'e, 'a, J: NodeNaming, S: HasState<J>, G: Gate> Hearer for LaneReporter<'e, 'a, J, S, G> {
+    ghost heard = { λ reporter. reporter.lane.sent };
+
+    // What decides is under a lock, of which no clause says anything.
+    ghost lets = { λ _ _. Unit {0} };
+
+    fn now<R: Clock>(&self, rt: &R) -> u64 {
+        let served = self.served;
+        served.shared.context.now(rt)
+    }
+
+    // Sends the item by the lane. Bytes are sent once the node takes more of them, and count as in
+    // transit until it has taken them. Then nodes for which something was queued have their turns.
+    // After that, what this node queued is written, to this connection first.
+    fn report<R: Wait + Clock>(&mut self, rt: &R, item: Item) {
+        let served = self.served;
+        let all = self.all;
+        let shared = &served.shared;
+        let index = self.link.index;
+        let admitted = shared.admit(rt, self.link.port, client_bytes_of(&item));
+        shared.send_and_take(rt, &mut self.lane, item);
+        shared.context.peer.count_taken(rt, admitted);
+        served.help(rt, all);
+        shared.writer().write_busy(rt, index, true);
+    }
+
+    // Lists the connection for writing, and says whether it may be read. A port that is not yet
+    // reported to the node counts as one that the node closed, so a link is listed after that. A
+    // connection that the node did not take, because it is no primary, is not read.
+    fn let_in<R: Wait>(&self, rt: &R) -> bool {
+        let Ok(link) = Arc::try_clone(self.link) else {
+            return false;
+        };
+        let served = self.served;
+        let shared = &served.shared;
+        let standing = shared.node.lock(rt).state().standing(self.link.port);
+        let listener = shared.context.listener;
+        listener.list(rt, link);
+        standing != Standing::Closed && !listener.is_closed(rt)
+    }
+}
+
+// Returns how many bytes of a client an item carries, at most as many as a read returns.
+fn client_bytes_of(item: &Item) -> u64
+    ensures size { result ≡ min (client_bytes item.now) PIECE_BYTES }
+    ensures most { result ≤ PIECE_BYTES }
+{
+    match item {
+        Item::Bytes(_, piece, _) => piece.as_slice().len().min(PIECE_BYTES) as u64,
+        _ => 0,
+    }
+}

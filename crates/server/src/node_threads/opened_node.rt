@@ -1,0 +1,15 @@
+// A node that is about to serve.
+
+use mailbox::Inbox;
+use world_base::node_core::{Item, NodeCore};
+
+/// A node that is about to serve, with its inbox, by which it receives everything.
+#[derive(Drop)]
+pub struct OpenedNode {
+    /// The node's number.
+    pub number: u8,
+    /// Its inbox, which has no lanes yet.
+    pub inbox: Inbox<Item>,
+    /// Its first state.
+    pub core: NodeCore,
+}

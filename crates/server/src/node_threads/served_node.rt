@@ -1,0 +1,199 @@
+// A node that serves, with the lanes of its threads.
+
+ghost use Rattle.std.specs.Prelude.{◌≡◌, [], IfOk, map};
+ghost use Rattle.lists.specs.Lists.{Each};
+ghost use Rattle.node.specs.State.{EachOpensAs};
+ghost use Rattle.server.specs.node_threads.Named.{AreNamed};
+
+use crate::node_threads::node_context::{NodeContext, NodeContexts};
+use crate::node_threads::opened_node::OpenedNode;
+use crate::node_threads::own_lane::OwnLane;
+use crate::node_threads::shared::Shared;
+use crate::node_threads::working::{LANES, LaneSlot, LaneSlots, THREADS, run};
+use ballot_base::Config;
+use machine::Memory;
+use mailbox::Lane;
+use node::{HasState, Node, NodeNaming, NodeState, Report};
+use node_base::devices::Gate;
+use std::alloc::Global;
+use std::mem;
+use std::net::{Net, TcpStream};
+use std::sync::{Mutex, Wait};
+use std::thread::Threads;
+use std::time::Clock;
+use streams::Closed;
+use streams::writer::BlockedLinks;
+use world_base::node_core::Item;
+
+/// A node that serves: what its threads share, and their lanes.
+#[derive(Drop)]
+pub struct ServedNode<'a, J: NodeNaming, S: HasState<J>, G: Gate> {
+    /// The node's number, which is that of its listener.
+    pub number: u8,
+    /// What its threads share.
+    pub(crate) shared: Shared<'a, J, S, G>,
+    /// The lane of everything that does not come from a client. The thread that holds it does the
+    /// node's turn with what was queued for the node: its own thread, or one that queued something.
+    /// It is this node's, but it is under a lock, so no clause says that (see [`OwnLane`]). Whoever
+    /// locks it compares the numbers, which are always equal.
+    pub(crate) own: Mutex<OwnLane<J>>,
+    // The lanes of its connections, while no thread works with them.
+    lane_slots: Mutex<LaneSlots<J>>,
+    /// Whether a gate is asked before each taking.
+    pub(crate) is_gated: bool,
+    pub(crate) ghost its: { number ≡ shared.context.listener.now.number },
+}
+
+/// What happened to the items that were sent to one of the nodes.
+#[derive(Drop)]
+pub struct NodeReport {
+    /// The node's number.
+    pub number: u8,
+    /// What it took and what it left.
+    pub report: Report,
+}
+
+impl<'a, J: NodeNaming, G: Gate> ServedNode<'a, J, NodeState<J>, G> {
+    /// Starts a node that opened. The only error is that memory ran out.
+    pub(crate) fn start<R: Wait>(
+        rt: &R,
+        alloc: Global,
+        context: NodeContext<'a>,
+        config: &'a Config,
+        opened: OpenedNode,
+        gate: Option<&'a G>,
+    ) -> Result<ServedNode<'a, J, NodeState<J>, G>, Memory>
+        requires context { context.listener.now.number ≡ opened.number }
+        requires named { opened.inbox ≡ J.inbox_of opened.number }
+        requires first { opened.core ≡ J.first_of opened.number }
+        requires opens { EachOpensAs config.now J.first_of }
+        ensures { IfOk result (λ node. node.number ≡ opened.number) }
+    {
+        let OpenedNode {
+            number,
+            inbox,
+            core,
+        } = opened;
+        context.peer.show(rt, core.status());
+        let (receiver, lanes) = inbox.named::<J>(number, LANES)?;
+        let (own, lane_slots) = lane_slots_of(alloc, number, lanes)?;
+        let node = Node::start(alloc, NodeState::new(receiver, core), gate)?;
+        let blocked = BlockedLinks::new(alloc)?;
+        Ok(ServedNode {
+            number,
+            shared: Shared {
+                alloc,
+                node,
+                context,
+                config,
+                blocked,
+            },
+            own: Mutex::new(own),
+            lane_slots: Mutex::new(lane_slots),
+            is_gated: gate.is_some(),
+        })
+    }
+
+    /// Ends the node, whose listener is closed and whose threads have returned. Reports what became
+    /// of the items that were sent to it. The error comes if not all its lanes came back. They were
+    /// under a lock, so the clause says only whose report it is.
+    pub fn close<R: Wait>(self, rt: &R, _closed: Closed) -> Result<NodeReport, Memory>
+        requires { _closed ≡ self.number }
+        ensures { IfOk result (λ report. report.number ≡ self.entry.number) }
+    {
+        let ServedNode {
+            number,
+            shared,
+            own,
+            lane_slots,
+            ..
+        } = self;
+        let mut lanes = lane_slots
+            .into_inner()
+            .into_lanes(own.into_inner().into_lane());
+        let report = shared.close(rt, lanes.as_mut_slice())?;
+        Ok(NodeReport { number, report })
+    }
+}
+
+impl<'a, J: NodeNaming, S: HasState<J>, G: Gate> ServedNode<'a, J, S, G> {
+    /// Ends all connections of the node, and admits no more: its threads return. Returns the
+    /// witness that its listener is closed. No clause says more than whose witness it is.
+    pub fn close_listener<R: Wait + Clock + Net<Stream = TcpStream>>(&self, rt: &R) -> Closed
+        ensures { result ≡ self.now.number }
+    {
+        self.shared.context.listener.close(rt)
+    }
+}
+
+impl<'a, J, S, G> ServedNode<'a, J, S, G>
+where
+    J: NodeNaming + Send + Sync,
+    S: HasState<J> + Send,
+    G: Gate + Sync,
+{
+    /// Works with each lane by a thread of its own, until the listener is closed. No clause says
+    /// so.
+    pub fn work<R>(&self, rt: &R, all: &[ServedNode<'a, J, S, G>])
+    where
+        R: Threads + Wait + Clock + Sync,
+    {
+        let mut slots = mem::replace(
+            &mut self.lane_slots.lock(rt).slots,
+            Vec::new(self.shared.alloc),
+        );
+        run(rt, all, self, slots.as_mut_slice());
+        self.lane_slots.lock(rt).slots = slots;
+    }
+}
+
+/// Returns the nodes that serve, made of those that opened, each with its listener's context. The
+/// error comes if memory ran out, or a node has no listener; no clause says when it comes.
+pub fn start_all<'a, J: NodeNaming, R: Wait, G: Gate>(
+    rt: &R,
+    alloc: Global,
+    contexts: NodeContexts<'a>,
+    config: &'a Config,
+    opened: Vec<OpenedNode>,
+    gate: Option<&'a G>,
+) -> Result<Vec<ServedNode<'a, J, NodeState<J>, G>>, Memory>
+    requires named { AreNamed J.inbox_of J.first_of opened.items }
+    requires opens { EachOpensAs config.now J.first_of }
+    ensures { IfOk result (λ nodes.
+        map (λ node. node.number) nodes.items ≡ map (λ one. one.number) opened.items) }
+{
+    let mut nodes = Vec::with_capacity(alloc, opened.len())?;
+    for one in opened {
+        // It was opened for a listener, and is one of the cluster's nodes. No clause says so.
+        let context = contexts.context_of(one.number).ok_or(Memory)?;
+        nodes.push(ServedNode::start(rt, alloc, context, config, one, gate)?)?;
+    }
+    Ok(nodes)
+}
+
+// Returns the node's own lane, the first of these lanes, and the slots of its threads. The error
+// comes if memory ran out, or if there is no lane.
+fn lane_slots_of<J: NodeNaming>(
+    alloc: Global,
+    number: u8,
+    lanes: Vec<Lane<Item, J>>,
+) -> Result<(OwnLane<J>, LaneSlots<J>), Memory>
+    requires { Each (λ lane. lane.sent ≡ []) lanes.items }
+    ensures { IfOk result (λ made. made.0.number ≡ number) }
+{
+    let back = Vec::with_capacity(alloc, lanes.len())?;
+    let mut slots = Vec::with_capacity(alloc, THREADS)?;
+    let mut lanes = lanes.into_iter();
+    let Some(own) = lanes.next() else {
+        // This does not come: an inbox has as many lanes as it was named with, `LANES`.
+        return Err(Memory);
+    };
+    // The slots of the node's own thread, and of the thread that continues with full sockets, have
+    // no lane.
+    slots.push(LaneSlot::new(None))?;
+    for lane in lanes {
+        slots.push(LaneSlot::new(Some(lane)))?;
+    }
+    slots.push(LaneSlot::new(None))?;
+    Ok((OwnLane::new(number, own), LaneSlots { slots, back }))
+}

@@ -1,0 +1,136 @@
+// A node's turn, which the thread that sent an item, or queued something for the node, does itself.
+
+ghost use Rattle.std.specs.Prelude.{◌≡◌, ◌++◌, ◌∷◌, [], true, false};
+ghost use Rattle.mailbox.specs.Ends.{all_met, unmet};
+ghost use Rattle.node.specs.Running.{IsNext};
+ghost use Rattle.post.specs.outbox.Queued.{EachOpens};
+ghost use Rattle.server.specs.node_threads.Turns.{Turns};
+
+use crate::node_threads::shared::Shared;
+use mailbox::Lane;
+use node::{HasState, NodeNaming, NodeState, Permit};
+use node_base::devices::Gate;
+use post::GivenEffects;
+use std::alloc::Global;
+use std::sync::Wait;
+use std::time::Clock;
+use world_base::node_core::Item;
+
+impl<'a, J: NodeNaming, S: HasState<J>, G: Gate> Shared<'a, J, S, G> {
+    /// Sends an item by a lane, and then takes what waits in the inbox, including that item. Once
+    /// it returns the node has taken all that the lane sent, and the lane knows it. What the node
+    /// queued for connections is not written yet.
+    pub(crate) fn send_and_take<R: Wait + Clock>(
+        &self,
+        rt: &R,
+        lane: &mut Lane<Item, J>,
+        item: Item,
+    )
+        ensures { lane.new ≡ all_met (record lane.old { sent = lane.old.sent ++ item ∷ [] }) }
+    {
+        self.send(rt, lane, item);
+        self.take_until_empty(rt, lane);
+    }
+
+    /// Sends an item by a lane. If the inbox is full, takes what waits there first.
+    pub(crate) fn send<R: Wait + Clock>(&self, rt: &R, lane: &mut Lane<Item, J>, item: Item)
+        ensures { unmet lane.new ≡ unmet (record lane.old { sent = lane.old.sent ++ item ∷ [] }) }
+    {
+        let mut unsent = item;
+        for _ in rt.forever() {
+            let receipt = lane.receipt();
+            match lane.send(rt, unsent, receipt) {
+                Ok(()) => return,
+                Err(back) => unsent = back,
+            }
+            self.take_until_empty(rt, lane);
+        }
+        unreachable!()
+    }
+
+    /// Takes items until the inbox is empty, with all that this lane sent.
+    pub(crate) fn take_until_empty<R: Wait + Clock>(&self, rt: &R, lane: &mut Lane<Item, J>)
+        ensures { lane.new ≡ all_met lane.old }
+    {
+        for _ in rt.forever() {
+            if !self.take_with_permit(rt, lane) {
+                return;
+            }
+        }
+        unreachable!()
+    }
+
+    // Takes at most as many items as one permit allows. Returns whether more may wait. The gate is
+    // asked for the permit before, while the node's state is not locked.
+    fn take_with_permit<R: Wait + Clock>(&self, rt: &R, lane: &mut Lane<Item, J>) -> bool
+        ensures more { result ≡ true → lane.new ≡ lane.old }
+
+        // If none waits, all was taken that the lane sent.
+        ensures none { result ≡ false → lane.new ≡ all_met lane.old }
+    {
+        let permit = self.node.begin_taking(rt);
+        let more = self.take_and_queue_given(rt, &permit, lane);
+        self.node.end_taking(rt, permit);
+        more
+    }
+
+    // Takes items under one lock, at most as many as the permit allows. Returns whether more may
+    // wait. What the node has for others is queued for them while the lock is held, so that it
+    // keeps the order of the node's steps. The status is shown then, too.
+    fn take_and_queue_given<R: Wait>(
+        &self,
+        rt: &R,
+        permit: &Permit<'_>,
+        lane: &mut Lane<Item, J>,
+    ) -> bool
+        ensures more { result ≡ true → lane.new ≡ lane.old }
+        ensures none { result ≡ false → lane.new ≡ all_met lane.old }
+    {
+        let mut node = self.node.lock(rt);
+        let state = node.state();
+        // The numbers are always equal: the lane is one of this node's inbox, and the permit is for
+        // its next taking. No clause says so, since the state is under a lock.
+        if state.inbox_number() != lane.inbox_number() || !permit.is_for(state) {
+            return true;
+        }
+        let (more, given) = take_as_permitted(rt, self.alloc, state, permit, lane);
+        self.context.peer.show(rt, state.status());
+        self.context.cluster.queue_given(rt, state, given);
+        // The node's own thread has the log cut.
+        if state.wants_cut() {
+            self.context.peer.wake(rt);
+        }
+        more
+    }
+}
+
+// Takes items until the inbox is empty, at most as many as the permit allows. Returns whether more
+// may wait, and what the node's steps gave.
+fn take_as_permitted<J: NodeNaming, R: Wait>(
+    rt: &R,
+    alloc: Global,
+    node: &mut NodeState<J>,
+    permit: &Permit<'_>,
+    lane: &mut Lane<Item, J>,
+) -> (bool, GivenEffects)
+    requires inbox { lane.old.inbox ≡ node.old.receiver.inbox }
+    requires opens { EachOpens J.first_of }
+    requires next { IsNext permit.now node.old }
+
+    // What the steps of the node gave, from the state before to the state after, and nothing else.
+    ensures given { Turns node.old node.new result.1 }
+    ensures more { result.0 ≡ true → lane.new ≡ lane.old }
+
+    // If none waits, all was taken that the lane sent: the node has its items in its history.
+    ensures none { result.0 ≡ false → lane.new ≡ all_met lane.old }
+{
+    let mut effects = Vec::new(alloc);
+    for _ in 0..permit.most() {
+        let receipt = lane.receipt();
+        if !node.take_one(rt, &mut effects, receipt) {
+            node.meet(lane);
+            return (false, GivenEffects::new(effects));
+        }
+    }
+    (true, GivenEffects::new(effects))
+}

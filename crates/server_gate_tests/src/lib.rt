@@ -1,5 +1,0 @@
-//! Nodes that are held at gates while clients send over real sockets. It has only tests.
-#![tactic(auto)]
-
-#[cfg(test)]
-mod tests;

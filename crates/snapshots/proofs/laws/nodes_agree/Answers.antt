@@ -1,6 +1,0 @@
-use Rattle.snapshots.proofs.MomentsAgree.{nodes_agree}
-use Rattle.snapshots.proofs.laws.nodes_agree.Goals as goal
-
-pub returns : goal.returns
-returns g c =
-    nodes_agree g.M.Machine.rules

@@ -1,0 +1,10 @@
+//! Writing to the connections of a node what it queued for them. A thread of the node does so after
+//! its turns. What a full socket does not take is left to the blocked writer, a thread of its own.
+
+mod blocked_links;
+mod blocked_writer;
+mod writer;
+mod writing;
+
+pub use blocked_links::BlockedLinks;
+pub use writer::{FIRST_INDEX, Writer};

@@ -1,0 +1,33 @@
+// The connections of a node whose sockets were full.
+
+use crate::{BlockedLink, MAX_CONNECTIONS};
+use std::alloc::{AllocError, Global};
+use std::sync::Mutex;
+use std::thread::Parker;
+
+/// The connections of a node whose sockets were full, each with its token. They are under a lock:
+/// no clause of a call says which there are.
+#[derive(Drop)]
+pub struct BlockedLinks {
+    /// Those connections. There is capacity for all that a node serves.
+    pub(crate) links: Mutex<Vec<BlockedLink>>,
+    /// The thread that continues with them sleeps on this.
+    pub(crate) waker: Parker,
+}
+
+impl BlockedLinks {
+    /// Returns a list without connections, with capacity for all that a node serves. The error is
+    /// that memory ran out.
+    pub fn new(alloc: Global) -> Result<BlockedLinks, AllocError> {
+        Ok(BlockedLinks {
+            links: Mutex::new(empty_list(alloc)?),
+            waker: Parker::new(),
+        })
+    }
+}
+
+/// Returns an empty list with capacity for all connections that a node serves. The error is that
+/// memory ran out.
+pub(crate) fn empty_list(alloc: Global) -> Result<Vec<BlockedLink>, AllocError> {
+    Vec::with_capacity(alloc, usize::from(MAX_CONNECTIONS))
+}

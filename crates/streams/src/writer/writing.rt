@@ -1,0 +1,113 @@
+// Writing what the node queued for a connection to its stream.
+
+ghost use Rattle.std.specs.Prelude.{IfSome};
+ghost use Rattle.std.specs.Arc.{arc_value};
+ghost use Rattle.streams.specs.WriteTokens.{HasWholeStream, IsTokenOf};
+
+use crate::writer::writer::Writer;
+use crate::{Link, PortTap, WriteToken};
+use machine::Memory;
+use node::{HasState, NodeNaming};
+use node_base::connection::{Flow, Outlet};
+use node_base::devices::Gate;
+use std::alloc::Global;
+use std::sync::{Arc, Wait};
+use world_base::node_connections::Handed;
+
+// The node under its lock, which queued bytes for its connections.
+#[derive(Drop)]
+struct Source<'e, 'a, J: NodeNaming, S: HasState<J>, G: Gate> {
+    // Has the node, and writes to its connections.
+    writer: &'e Writer<'e, 'a, J, S, G>,
+}
+
+impl<'e, 'a, J: NodeNaming, S: HasState<J>, G: Gate> Outlet<PortTap> for Source<'e, 'a, J, S, G> {
+    fn hand_over<R: Wait>(
+        &mut self,
+        rt: &R,
+        tap: &mut PortTap,
+        out: &mut Vec<u8>,
+    ) -> Result<Handed, Memory> {
+        let writer = self.writer;
+        tap.hand_over(writer.node.lock(rt).state(), out)
+    }
+}
+
+impl<'e, 'a, J: NodeNaming, S: HasState<J>, G: Gate> Writer<'e, 'a, J, S, G> {
+    /// Writes what the node queued for a connection, unless another thread writes there: then that
+    /// one will look again. What a full socket does not take is left to the blocked writer. `waits`
+    /// says whether this thread may sleep a moment for a full socket: the node's own one may not.
+    pub(crate) fn flush<R: Wait>(&self, rt: &R, link: &Arc<Link, Global>, waits: bool) {
+        let Some(token) = link.take_token(rt) else {
+            return;
+        };
+        match self.write_until_blocked(rt, link, token, waits) {
+            Some(token) => self.hand_blocked(rt, link, token),
+            None => {}
+        }
+    }
+
+    /// Writes what a full socket left over and what was queued, until nothing more is, and returns
+    /// the token to its connection. Returns the token to the caller if the socket is full. A stream
+    /// that takes no more is ended, and its token with it.
+    pub(crate) fn write_until_blocked<R: Wait>(
+        &self,
+        rt: &R,
+        link: &Arc<Link, Global>,
+        token: WriteToken,
+        waits: bool,
+    ) -> Option<WriteToken>
+        requires { IsTokenOf (arc_value link.now).port token }
+        ensures { IfSome result (λ blocked. IsTokenOf (arc_value link.now).port blocked) }
+    {
+        let mut token = token;
+        for _ in rt.forever() {
+            match self.write_waiting(rt, link, &mut token, waits) {
+                Flow::Open => match link.put_back(rt, token) {
+                    Some(kept) => token = kept,
+                    None => return None,
+                },
+                Flow::Blocked => return Some(token),
+                Flow::Closed | Flow::Stopped | Flow::Fault => {
+                    link.end(token);
+                    return None;
+                }
+            }
+        }
+        unreachable!()
+    }
+
+    // Writes once. `waits` says whether it waits for a full socket.
+    fn write_waiting<R: Wait>(
+        &self,
+        rt: &R,
+        link: &Arc<Link, Global>,
+        token: &mut WriteToken,
+        waits: bool,
+    ) -> Flow
+        ensures { IsTokenOf token.old.tap.port token.new }
+    {
+        if waits {
+            return self.write_once(rt, token);
+        }
+        if !link.set_waiting(false) {
+            return Flow::Stopped;
+        }
+        let flow = self.write_once(rt, token);
+        if link.set_waiting(true) {
+            flow
+        } else {
+            Flow::Stopped
+        }
+    }
+
+    // Writes what a full socket left over, followed by what the node hands over, as far as the
+    // socket takes it within its time.
+    fn write_once<R: Wait>(&self, rt: &R, token: &mut WriteToken) -> Flow
+        ensures whole { HasWholeStream token.new }
+        ensures port { IsTokenOf token.old.tap.port token.new }
+    {
+        let mut source = Source { writer: self };
+        token.write(rt, &mut source)
+    }
+}

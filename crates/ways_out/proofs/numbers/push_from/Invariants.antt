@@ -1,6 +1,0 @@
-use Rattle.std.proofs.Common.{◌≡◌, ◌++◌}
-use Rattle.ways_out.specs.Deliveries.{numbers_from}
-use Rattle.ways_out.proofs.numbers.push_from.Given as goal
-
-abbrev pub invariant-loop-step : goal.invariant-loop-step
-invariant-loop-step l = record { pushed : l.numbers.items ≡ l.initial.numbers.items ++ numbers_from l.from l.step }

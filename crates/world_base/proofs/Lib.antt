@@ -1,0 +1,2 @@
+pub mod of_node_connections
+pub mod of_node_core

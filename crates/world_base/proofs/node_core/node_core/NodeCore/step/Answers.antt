@@ -1,0 +1,17 @@
+use Rattle.std.proofs.Common.{Bool, if◌then◌else◌, ap, subst, ◌∙◌}
+use Rattle.ballot_base.specs.Losses.{one_more}
+use Rattle.world_base.specs.node_core.Core.{CountedCore}
+use Rattle.world_base.specs.node_core.Inside.{RunningStep}
+use Rattle.world_base.specs.node_core.Losses.{ItemStepOrLost}
+use Rattle.world_base.proofs.of_node_core.EndsRun.{core_of}
+use Rattle.world_base.proofs.of_node_core.ItemsRun.{stepped_by}
+use Rattle.world_base.proofs.node_core.node_core.NodeCore.step.Goals as goal
+
+pub returns : goal.returns
+returns c =
+    subst (λ (n : CountedCore). ItemStepOrLost n c.args.item (record { core = c.settle.new.self.core; losses = c.losses_after-self-inside.result })
+    c.args.effects.now.items c.act_on.new.effects.items) c.self.view_is
+    (stepped_by _ c.args.item c.begin_step.new.self c.act_on.new.self c.settle.new.self.core c.losses_after-self-inside.result _ _
+    (core_of _ _ c.begin_step.ensures) c.act_on.ensures.exact c.act_on.ensures.lossy (core_of _ _ c.settle.ensures)
+    (c.losses_after-self-inside.ensures ∙ ap (λ (w : Bool). if w then one_more c.self.inside.losses else c.self.inside.losses) c.has_lost.ensures)
+    (ap (λ (r : RunningStep). r.has_lost) c.begin_step.ensures) c.act_on.ensures.quiet)

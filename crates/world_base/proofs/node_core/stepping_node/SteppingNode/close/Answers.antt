@@ -1,0 +1,11 @@
+use Rattle.world_base.specs.node_connections.ConnectionChanges.{closed_connection}
+use Rattle.world_base.proofs.of_node_core.Changes.{changed_there, changed_nowhere}
+use Rattle.world_base.proofs.node_core.stepping_node.SteppingNode.close.Goals as goal
+
+pub returns-in-Some : goal.returns-in-Some
+returns-in-Some c =
+    rw (← c.self.view_is) (changed_there c.args.port closed_connection _ c.index_at.result c.in-Some.index c.index_mut.result.now _
+    (rw (← c.self.view_is) at c.index_at.ensures) c.in-Some.is c.index_mut.ensures.value c.close.ensures)
+
+pub returns-in_default : goal.returns-in_default
+returns-in_default c = changed_nowhere c.args.port closed_connection _ c.index_at.result c.index_at.ensures c.in_default.is

@@ -1,0 +1,15 @@
+pub mod Core
+pub mod Failing
+pub mod Going
+pub mod Handing
+pub mod Inside
+pub mod KeepAlive
+pub mod Losses
+pub mod Lossy
+pub mod LossyProposals
+pub mod LossyEndings
+pub mod LossyReading
+pub mod LossyStep
+pub mod Reading
+pub mod Step
+pub mod Effects

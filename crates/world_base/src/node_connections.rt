@@ -1,0 +1,20 @@
+//! The open connections of a node. Each has the bytes that came and are not read yet, and those
+//! that wait to be handed over. This says what happens to it when it is read, written to or closed.
+
+mod connection;
+mod front;
+mod handed;
+mod listing;
+mod piece;
+mod port;
+mod standing;
+mod unread;
+
+pub use connection::{Connection, ConnectionStage};
+pub use front::Front;
+pub use handed::Handed;
+pub use listing::{close_each, has_port, keep_listed, lowest_silent, push, push_idle};
+pub use piece::Piece;
+pub use port::Port;
+pub use standing::Standing;
+pub use unread::Unread;

@@ -1,0 +1,227 @@
+// A replica with its connections.
+
+ghost use Rattle.std.specs.Prelude.{◌≡◌, ◌≤◌, ◌↔◌, ◌++◌, false, not, [], if◌then◌else◌, IfOk, IsOk, IsErrOf, OnErr, OnOk};
+ghost use Rattle.std.specs.Option.{is_some};
+ghost use Rattle.ballot_base.specs.LawfulConfig.{is_lawful};
+ghost use Rattle.ballot_base.specs.Cutting.{can_cut};
+ghost use Rattle.ballot_base.specs.Logs.{places};
+ghost use Rattle.ballot_base.specs.Losses.{one_more};
+ghost use Rattle.ballot_base.specs.Replica.{status_of};
+ghost use Rattle.broker_spec.specs.Connection.{is_connection_name};
+ghost use Rattle.world_base.specs.node_core.Core.{opening_core};
+ghost use Rattle.world_base.specs.node_core.Step.{next_name};
+ghost use Rattle.lists.specs.Lists.{IsPrefixOf};
+ghost use Rattle.world_base.specs.node_connections.Pending.{handed_after, pending_bytes};
+ghost use Rattle.world_base.specs.node_core.Handing.{hands_over, idle_ports, listed_at};
+ghost use Rattle.world_base.specs.node_connections.Stands.{standing_of};
+ghost use Rattle.world_base.specs.node_core.Effects.{has_room};
+ghost use Rattle.world_base.specs.node_core.Losses.{DoesNothing, ItemStepOrLost};
+
+use crate::node_connections::{Handed, Port, Standing};
+use crate::node_core::item::Item;
+use crate::node_core::stepping_node::SteppingNode;
+use ballot_base::errors::OpeningError;
+use ballot_base::{Config, Effect, MAX_NODE, Message, Status};
+use broker_spec::{Command, Output};
+use machine::Memory;
+use std::alloc::Global;
+use std::marker::Model;
+
+/// A replica of the broker with its connections. It takes items, one by one, and hands over the
+/// bytes that it queues for each connection.
+pub struct NodeCore {
+    // The node itself, which does the steps.
+    stepping: SteppingNode,
+    // How many of its steps lost something, up to 2^64 - 1.
+    losses: u64,
+}
+
+impl Drop for NodeCore {
+    fn drop(self) {
+        let NodeCore {
+            stepping: _stepping,
+            losses: _,
+        } = self;
+    }
+}
+
+impl Model for NodeCore {
+    ghost use Rattle.world_base.specs.node_core.Core.{CountedCore};
+
+    ghost Value = { CountedCore };
+
+    ghost view = { λ node. record { core = node.stepping.core; losses = node.losses } };
+}
+
+impl NodeCore {
+    /// Opens node `id` in ballot 1, whose members and primary are given.
+    pub fn new(alloc: Global, id: u8, config: &Config) -> Result<NodeCore, OpeningError>
+        requires low { 1 ≤ id }
+        requires high { id ≤ MAX_NODE }
+        ensures ok { IfOk result (λ node.
+            node ≡ record { core = opening_core id config.now; losses = 0 }) }
+        ensures bad { IsErrOf result OpeningError.BadMembers
+            ↔ (is_lawful config.now.members config.now.primary ≡ false) }
+    {
+        Ok(NodeCore {
+            stepping: SteppingNode::new(alloc, id, config)?,
+            losses: 0,
+        })
+    }
+
+    /// Returns what the replica shows of itself.
+    pub fn status(&self) -> Status
+        ensures { result ≡ status_of self.now.core.replica.state }
+    {
+        self.stepping.status()
+    }
+
+    /// Returns the commands of the replica's log from its base on: those that are agreed, followed
+    /// by those that may still become so. [`NodeCore::snapshot`] returns the base; what is applied
+    /// lies within the log.
+    pub fn rest(&self) -> &[Command]
+        ensures rest { result.now ≡ self.now.core.replica.state.log.rest }
+        ensures within { self.now.core.replica.state.committed
+            ≤ places self.now.core.replica.state.log }
+    {
+        self.stepping.rest()
+    }
+
+    /// Returns the base of the replica's log, and the frozen machine at it: no bytes if the base is
+    /// 0.
+    pub fn snapshot(&self) -> (u64, &[u8])
+        ensures base { result.0 ≡ self.now.core.replica.state.log.base }
+        ensures bytes { result.1.now ≡ self.now.core.replica.state.log.snapshot }
+        ensures none { result.0 ≡ 0 → result.1.now ≡ [] }
+        ensures applied { result.0 ≤ self.now.core.replica.state.committed }
+    {
+        self.stepping.snapshot()
+    }
+
+    /// Says whether a proposal would be taken, such as that of an [`Item::Expel`]: the replica is
+    /// the running primary of an active ballot, and its log has room.
+    pub fn has_room(&self) -> bool
+        ensures { result ≡ has_room self.now.core }
+    {
+        self.stepping.has_room()
+    }
+
+    /// Says whether an [`Item::Cut`] has something to cut: the replica runs, and has applied
+    /// commands since it last cut its log.
+    pub fn can_cut(&self) -> bool
+        ensures { result ≡ can_cut self.now.core.replica.state }
+    {
+        self.stepping.can_cut()
+    }
+
+    /// Returns how many steps lost something, for want of memory or since a snapshot was not read
+    /// (saturates at 2^64 - 1).
+    pub fn losses(&self) -> u64
+        ensures { result ≡ self.now.losses }
+    {
+        self.losses
+    }
+
+    /// Says whether the node has a connection at a port: one that is open, or that is closed and
+    /// has bytes to hand over.
+    pub fn has_port(&self, port: Port) -> bool
+        ensures { result ≡ is_some (listed_at port self.now.core) }
+    {
+        self.stepping.has_port(port)
+    }
+
+    /// Returns the state of a port's connection.
+    pub fn standing(&self, port: Port) -> Standing
+        ensures { result ≡ standing_of (listed_at port self.now.core) }
+    {
+        self.stepping.standing(port)
+    }
+
+    /// Says whether the numbers of the ballot are used up, so that no further connection is
+    /// accepted in it.
+    pub fn has_no_name_left(&self) -> bool
+        ensures { result ≡ not (is_connection_name (next_name self.now.core)) }
+    {
+        self.stepping.has_no_name_left()
+    }
+
+    /// Says whether a message of another node has an effect on the node; one without effect is
+    /// ignored.
+    pub fn heeds(&self, message: &Message<Command>) -> bool
+        ensures { (result ≡ false) ↔ DoesNothing (Item.Peer message.now) self.now.core }
+    {
+        self.stepping.heeds(message)
+    }
+
+    /// Ignores a message that has no effect on the node: like [`NodeCore::step`] with it, but the
+    /// caller needs no copy of it.
+    pub fn pass_over(
+        &mut self,
+        message: &Message<Command>,
+        effects: &mut Vec<Effect<Command, Output>>,
+    )
+        requires { DoesNothing (Item.Peer message.now) self.old.core }
+        ensures { ItemStepOrLost self.old (Item.Peer message.now) self.new
+            effects.old.items effects.new.items }
+    {
+        self.stepping.begin_step();
+        self.stepping.pass_over(message, effects);
+        self.losses = losses_after(self.losses, self.stepping.has_lost());
+        self.stepping.settle();
+    }
+
+    /// Takes an item and appends the messages to other nodes that follow from it. If memory runs
+    /// out, a connection is closed or not accepted, a message, a cut or an Expel is lost, or the
+    /// replica stops; the step is counted. Each connection that stays open has everything that was
+    /// queued for it.
+    pub fn step(&mut self, item: Item, effects: &mut Vec<Effect<Command, Output>>)
+        ensures { ItemStepOrLost self.old item self.new effects.old.items effects.new.items }
+    {
+        self.stepping.begin_step();
+        self.stepping.act_on(item, effects);
+        self.losses = losses_after(self.losses, self.stepping.has_lost());
+        self.stepping.settle();
+    }
+
+    /// Appends what was queued for a port and not yet handed over, and says whether more may come:
+    /// [`Handed::Closed`] once the node has closed the connection and nothing is left, and for a
+    /// port that was never opened. If memory runs out, nothing changes; it does not run out if
+    /// nothing was queued.
+    pub fn outgoing(&mut self, port: Port, out: &mut Vec<u8>) -> Result<Handed, Memory>
+        ensures bytes { OnOk result
+            (out.new.items ≡ out.old.items ++ pending_bytes (listed_at port self.old.core)) }
+        ensures answer { IfOk result (λ handed.
+            handed ≡ handed_after (listed_at port self.old.core)) }
+        ensures left { OnOk result
+            (self.new ≡ record self.old { core = hands_over port self.old.core }) }
+        ensures nothing { pending_bytes (listed_at port self.old.core) ≡ [] → IsOk result }
+
+        // Running out of memory changes nothing.
+        ensures same { OnErr result (self.new ≡ self.old) }
+        ensures err { OnErr result (out.new.items ≡ out.old.items) }
+    {
+        self.stepping.outgoing(port, out)
+    }
+
+    /// Appends the ports of the connections that are open and have nothing to hand over: for each
+    /// other port [`NodeCore::outgoing`] hands over bytes, or answers [`Handed::Closed`]. If memory
+    /// runs out some of them may have been appended.
+    pub fn idle_ports(&self, ports: &mut Vec<Port>) -> Result<(), Memory>
+        ensures ok { OnOk result
+            (ports.new.items ≡ ports.old.items ++ idle_ports self.now.core) }
+        ensures err { OnErr result (IsPrefixOf ports.old.items ports.new.items) }
+    {
+        self.stepping.idle_ports(ports)
+    }
+}
+
+// Returns the count of steps in which something was lost, after one more step.
+fn losses_after(losses: u64, has_lost: bool) -> u64
+    ensures { result ≡ (if has_lost then one_more losses else losses) }
+{
+    if has_lost {
+        losses.saturating_add(1)
+    } else {
+        losses
+    }
+}

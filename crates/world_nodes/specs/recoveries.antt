@@ -1,0 +1,4 @@
+pub mod Coming
+pub mod Led
+pub mod Opened
+pub mod Answered

@@ -1,0 +1,99 @@
+-- PutsDown.antt: what a node hands over is put after what is in transit down.
+use Rattle.std.proofs.Common.{◌≡◌, inl, inr, ◌↔◌, ◌≤◌, ◌-◌, ℕ, Bool, List, ◌++◌, Option, Some, None, Result, Ok, Err, OnErr, slice_get, refl, sym, ap, ◌∙◌, subst}
+use Rattle.std.specs.Prelude.{IfSome, IfOk, IsErr}
+use Rattle.std.proofs.lemmas.List.{append-nil, set-set}
+use Rattle.lists.proofs.Places.{get_set}
+use Rattle.master.specs.declared.event.Idle.{Idle}
+use Rattle.world_base.specs.declared.node_core.Handed.{Handed}
+use Rattle.world_base.specs.declared.node_core.Port.{Port}
+use Rattle.world_base.specs.node_core.Core.{CountedCore}
+use Rattle.headline.specs.node_moves.Moves.NodeCall.{hands_out}
+use Rattle.world_nodes.specs.Running.{numbered_node}
+use Rattle.world_nodes.specs.Nodes.{NodesState}
+use Rattle.world_nodes.specs.HandingOver.{HandoverOrLost}
+use Rattle.world_nodes.proofs.Exactly.{gives_acts}
+use Rattle.world_pipes.specs.declared.way.Way.{Way}
+use Rattle.world_pipes.specs.Piped.{Piped}
+use Rattle.world_pipes.specs.clients.SlotsAreValid.{connection_targets}
+use Rattle.world_pipes.specs.clients.Handing.{with_down, HandsOverBytes, is_more, is_reported_open, bytes_put_out, BytesDownOrLost, MayHandDown, MayPutDown, PipeBytesDownOrLost, tells_open}
+use Rattle.world_pipes.specs.clients.NodesGoOn.{NodesGoOn}
+use Rattle.world_pipes.proofs.of_clients.NodesGoOn.{acts_go, nodes_forget, nodes_stay, staying_goes}
+use Rattle.world_pipes.proofs.of_clients.LeadsKept.{leads_set}
+
+-- ---- one call of a node
+
+abbrev HandsExactly : ℕ → Port → NodesState → List ℕ → NodesState → List ℕ → Bool → Option CountedCore → Type 0
+HandsExactly node port old before new after is_open o = HandsOverBytes o node port old new × (after ≡ before ++ bytes_put_out port o) × (is_open ≡ is_reported_open port o)
+
+pub handed_down : (r : Result Handed Idle) (is_open : Bool) (node : ℕ) (port : Port) (old new : NodesState) (before after : List ℕ) → is_open ≡ tells_open r
+    → IsErr r ↔ (numbered_node old.nodes node ≡ None) → IfOk r (λ handed. HandoverOrLost node port old new before after handed) → OnErr r ((new ≡ old) × (after ≡ before))
+    → BytesDownOrLost node port old before new after is_open
+handed_down r is_open node port old new before after eq idle does same = by r eq idle does same
+  where
+    one : (h : Handed) → is_open ≡ is_more h → HandoverOrLost node port old new before after h → BytesDownOrLost node port old before new after is_open
+    one h eq (inl hands) =
+        let there = hands.0.there in
+        inl (subst (HandsExactly node port old before new after is_open) (sym there) (hands.0.is, hands.1 hands.0.core there, eq ∙ ap is_more (hands.2 hands.0.core there)))
+    one h eq (inr rests) = inr (rests.0, rests.1, eq ∙ ap is_more rests.2)
+
+    by : (r : Result Handed Idle) → is_open ≡ tells_open r → IsErr r ↔ (numbered_node old.nodes node ≡ None) → IfOk r (λ handed. HandoverOrLost node port old new before after handed)
+        → OnErr r ((new ≡ old) × (after ≡ before)) → BytesDownOrLost node port old before new after is_open
+    by (Ok h) eq idle does same = one h eq does
+    by (Err x) eq idle does same = inl (subst (HandsExactly node port old before new after is_open) (sym (idle.0 refl)) (same.0, same.1 ∙ sym (append-nil before), eq))
+
+-- even if memory runs out
+pub may_hand_down : (r : Result Handed Idle) (node : ℕ) (port : Port) (old new : NodesState) (before after : List ℕ) → IfOk r (λ handed. HandoverOrLost node port old new before after handed)
+    → OnErr r ((new ≡ old) × (after ≡ before)) → MayHandDown node port old before new after
+may_hand_down (Ok h) node port old new before after does same = by does
+  where
+    by : HandoverOrLost node port old new before after h → MayHandDown node port old before new after
+    by (inl hands) = inr (gives_acts node port old new hands.0, hands.1)
+    by (inr rests) = inl (nodes_forget old new rests.0, rests.1)
+may_hand_down (Err e) node port old new before after does same = inl (nodes_stay old new same.0, same.1)
+
+-- and so the nodes continue
+pub handing_goes : (node : ℕ) (port : Port) (old new : NodesState) (before after : List ℕ) → old.losses ≤ new.losses → MayHandDown node port old before new after → NodesGoOn old new
+handing_goes node port old new before after rises (inl stays) = record { rises = rises; goes = staying_goes old new stays.0 }
+handing_goes node port old new before after rises (inr hands) = record { rises = rises; goes = acts_go (Some (node - 1, hands_out port)) old new hands.0 }
+
+-- ---- bytes that are exchanged twice
+
+of_some : {X : Type 0} (P : X → Type 0) (o : Option X) (x : X) → o ≡ Some x → IfSome o P → P x
+of_some P o x e i = subst (λ (z : Option _). IfSome z P) e i
+
+exchanged : (old mid later : Piped) (at : ℕ) (none handed : List ℕ) → IfSome (slice_get old.ways at) (λ way. mid ≡ with_down at way none old)
+    → IfSome (slice_get mid.ways at) (λ way. later ≡ with_down at way handed mid) → (way : Way) → slice_get old.ways at ≡ Some way → later ≡ with_down at way handed old
+exchanged old mid later at none handed first second way found =
+    let bare : Way = record way { down = none } in
+    let one : mid ≡ with_down at way none old = of_some (λ (w : Way). mid ≡ with_down at w none old) (slice_get old.ways at) way found first in
+    let there : slice_get mid.ways at ≡ Some bare = ap (λ (p : Piped). slice_get p.ways at) one ∙ get_set old.ways at way bare found in
+    let two : later ≡ with_down at bare handed mid = of_some (λ (w : Way). later ≡ with_down at w handed mid) (slice_get mid.ways at) bare there second in
+    two ∙ ap (λ (p : Piped). with_down at bare handed p) one
+    ∙ ap (λ (l : List Way). let p : Piped = record old { ways = l } in p) (set-set old.ways at bare (record way { down = handed }))
+
+pub puts : (node : ℕ) (port : Port) (nodes after : NodesState) (old mid later : Piped) (at : ℕ) (none moved handed : List ℕ) (is_open : Bool)
+    → IfSome (slice_get old.ways at) (λ way. mid ≡ with_down at way none old) → IfSome (slice_get old.ways at) (λ way. moved ≡ way.down)
+    → IfSome (slice_get mid.ways at) (λ way. later ≡ with_down at way handed mid) → BytesDownOrLost node port nodes moved after handed is_open
+    → PipeBytesDownOrLost at node port nodes old after later is_open
+puts node port nodes after old mid later at none moved handed is_open first given second hands way found = (
+  handed,
+  subst (λ (l : List ℕ). BytesDownOrLost node port nodes l after handed is_open) (of_some (λ (w : Way). moved ≡ w.down) (slice_get old.ways at) way found given) hands,
+  exchanged old mid later at none handed first second way found,
+)
+
+pub may_put : (node : ℕ) (port : Port) (nodes after : NodesState) (old mid later : Piped) (at : ℕ) (none moved handed : List ℕ)
+    → IfSome (slice_get old.ways at) (λ way. mid ≡ with_down at way none old) → IfSome (slice_get old.ways at) (λ way. moved ≡ way.down)
+    → IfSome (slice_get mid.ways at) (λ way. later ≡ with_down at way handed mid) → MayHandDown node port nodes moved after handed
+    → MayPutDown at node port nodes old after later
+may_put node port nodes after old mid later at none moved handed first given second hands way found = (
+  handed,
+  subst (λ (l : List ℕ). MayHandDown node port nodes l after handed) (of_some (λ (w : Way). moved ≡ w.down) (slice_get old.ways at) way found given) hands,
+  exchanged old mid later at none handed first second way found,
+)
+
+pub same_leads : (old mid later : Piped) (at : ℕ) (none handed : List ℕ) (way : Way) → slice_get old.ways at ≡ Some way
+    → IfSome (slice_get old.ways at) (λ way. mid ≡ with_down at way none old) → IfSome (slice_get mid.ways at) (λ way. later ≡ with_down at way handed mid)
+    → connection_targets later.ways ≡ connection_targets old.ways
+same_leads old mid later at none handed way found first second =
+    ap (λ (p : Piped). connection_targets p.ways) (exchanged old mid later at none handed first second way found)
+    ∙ leads_set old.ways at way (record way { down = handed }) found refl

@@ -1,0 +1,9 @@
+//! What may happen in a world of nodes and clients, and the events of a way out of it.
+
+mod escape_error;
+mod event;
+mod scheduling;
+
+pub use escape_error::EscapeError;
+pub use event::Event;
+pub use scheduling::{push_answers, push_client, push_group};

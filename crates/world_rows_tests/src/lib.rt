@@ -1,6 +1,0 @@
-//! Worlds tested by tables of rows: what happens, and what is seen then, byte by byte. It has only
-//! tests.
-#![tactic(auto)]
-
-#[cfg(test)]
-mod tests;

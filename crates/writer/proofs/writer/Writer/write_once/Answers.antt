@@ -1,5 +1,0 @@
-use Rattle.streams.proofs.KeepsItsPort.{keeps_its_port}
-use Rattle.writer.proofs.writer.Writer.write_once.Goals as goal
-
-pub returns-clause-port : goal.returns-clause-port
-returns-clause-port g c = keeps_its_port c.write.result c.args.token.now.tap c.write.new.self.tap c.write.ensures.flows.bytes c.write.ensures.flows.handed
