@@ -2,7 +2,7 @@
 pub mod AgreedExists
 pub mod AppliedAgreed
 pub mod Agreeing
-pub mod MaxTold
+pub mod MaxAcknowledged
 pub mod MomentsTell
 pub mod MomentsChosen
 pub mod MomentsAgree

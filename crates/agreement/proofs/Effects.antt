@@ -5,7 +5,7 @@ use Rattle.agreement.specs.whole_logs.Messages.Effect.{To, Out}
 use Rattle.ballot_base.specs.declared.status.Progress.{Progress}
 use Rattle.agreement.specs.whole_logs.Losses.{Thinned}
 use Rattle.agreement.specs.whole_logs.Losses.Thinned.{none, keeps, loses}
-use Rattle.agreement.specs.whole_logs.Sending.{message_to_followed}
+use Rattle.agreement.specs.whole_logs.StepOutcome.{message_to_followed}
 use Rattle.agreement.specs.World.{messages, outputs}
 use Rattle.lists.specs.Lists.{In}
 use Rattle.lists.specs.Lists.In.{here, there}

@@ -1,10 +1,10 @@
 pub mod cut_logs
 pub mod whole_logs
 pub mod Agreement
-pub mod Giving
+pub mod NodeOutputs
 pub mod Inside
-pub mod Laws
-pub mod Leaving
+pub mod Theorems
+pub mod LeftOutputs
 pub mod MasterState
 pub mod Moments
 pub mod Primaries

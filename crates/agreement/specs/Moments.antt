@@ -4,7 +4,7 @@ use Rattle.std.specs.Prelude.{take, Some}
 use Rattle.lists.specs.Lists.{In, IsPrefixOf}
 use Rattle.machine.specs.Machine.{Rules}
 use Rattle.agreement.specs.whole_logs.Messages.Body.{Held, Installed}
-use Rattle.agreement.specs.whole_logs.Applying.{applied_to}
+use Rattle.agreement.specs.whole_logs.Application.{applied_to}
 use Rattle.ballot_base.specs.declared.config.Config.{Config}
 use Rattle.agreement.specs.whole_logs.Replica.{ReplicaState}
 use Rattle.ballot_base.specs.Replica.{is_active}
@@ -81,8 +81,8 @@ WasActive {S} {C} {O} moments ballot =
     (moment : Moment S C O) × In moment moments × (moment.master.active ≡ ballot)
 
 -- a member acknowledged a length in a ballot
-abbrev pub ToldLength : {S C O : Type 0} → GroupWorld S C O → ℕ → ℕ → ℕ → Type 0
-ToldLength world member ballot held =
+abbrev pub AcknowledgedLength : {S C O : Type 0} → GroupWorld S C O → ℕ → ℕ → ℕ → Type 0
+AcknowledgedLength world member ballot held =
     (receiver : ℕ)
     × (In (receiver, record { from = member; body = Held ballot held }) world.sent
     ⊎ In (receiver, record { from = member; body = Installed ballot held }) world.sent)
@@ -90,19 +90,20 @@ ToldLength world member ballot held =
 -- The node at this index has acknowledged a list in a ballot: the primary by holding it as its log
 -- there, another member by a message with its length, from a log of which it is a prefix. While a
 -- node holds its log in one ballot the log only grows, so it had that prefix when it sent that.
-pub data HasTold {S C O : Type 0} (config : Config) (moments : List (Moment S C O))
+pub data HasAcknowledged {S C O : Type 0} (config : Config) (moments : List (Moment S C O))
     (ballot node : ℕ) (list : List C) : Type 0 where
   -- the primary holds the list as its log
   told_as_log : (moment : Moment S C O) (replica : ReplicaState S C) (configuration : Config) →
       In moment moments → slice_get moment.world.nodes node ≡ Some replica →
       replica.held_in ≡ ballot → HasConfig config moments ballot configuration →
       configuration.primary ≡ node + 1 → replica.log ≡ list →
-      HasTold config moments ballot node list
+      HasAcknowledged config moments ballot node list
   -- a member said how much of its log it holds
   told_by_message : (moment : Moment S C O) (replica : ReplicaState S C) → In moment moments →
       slice_get moment.world.nodes node ≡ Some replica → replica.held_in ≡ ballot →
-      ToldLength moment.world (node + 1) ballot (length list) → IsPrefixOf list replica.log →
-      HasTold config moments ballot node list
+      AcknowledgedLength moment.world (node + 1) ballot (length list) →
+      IsPrefixOf list replica.log →
+      HasAcknowledged config moments ballot node list
 
 -- each member of a ballot has acknowledged the list, or a list of which it is a prefix; a member
 -- that acknowledged nothing has not acknowledged the empty list
@@ -110,7 +111,7 @@ abbrev pub IsChosen : {S C O : Type 0} → Config → List (Moment S C O) → �
 IsChosen {S} {C} {O} config moments ballot list =
     (configuration : Config) × HasConfig config moments ballot configuration
     × ((node : ℕ) → In (node + 1) configuration.members →
-    (told : List C) × HasTold config moments ballot node told × IsPrefixOf list told)
+    (told : List C) × HasAcknowledged config moments ballot node told × IsPrefixOf list told)
 
 -- the agreed list: the longest that is chosen in a ballot that was active, or empty if none is
 pub record IsAgreed {S C O : Type 0} (config : Config) (moments : List (Moment S C O))

@@ -14,7 +14,7 @@ use Rattle.agreement.specs.World.{GroupWorld, moved}
 use Rattle.lists.specs.Lists.{In}
 use Rattle.agreement.specs.MasterState.{MasterState, assigned, activated, MasterOutcome}
 use Rattle.agreement.specs.MasterState.{AssignRefusal, refusal, master_after}
-use Rattle.ballot_base.specs.Sending.{master}
+use Rattle.ballot_base.specs.StepOutcome.{master}
 
 -- a node may take a message only if it was sent to it
 abbrev pub MayTake : {S C O : Type 0} → GroupWorld S C O → ℕ → Input C → Type 0

@@ -1,6 +1,6 @@
-pub mod Agreeing
-pub mod Giving
-pub mod Laws
+pub mod AgreedLists
+pub mod NodeOutputs
+pub mod Theorems
 pub mod Masters
 pub mod Matches
 pub mod Orders

@@ -1,9 +1,9 @@
-pub mod Activating
-pub mod Applying
-pub mod Changing
+pub mod Activation
+pub mod Application
+pub mod Transfer
 pub mod Losses
 pub mod Messages
 pub mod Protocol
 pub mod Replica
-pub mod Sending
-pub mod Serving
+pub mod StepOutcome
+pub mod Service

@@ -1,9 +1,9 @@
 //! Groups whose nodes cut their logs, and the proof that they agree. No code runs here; the laws
 //! are contracts of calls that do nothing.
 
-mod laws;
+mod theorems;
 
-pub use laws::{
+pub use theorems::{
     agreed_grows, answers_at_the_next_places, answers_while_it_leads, has_agreed, keeps_the_order,
     logs_are_cut_right, machines_replay, nodes_agree, one_node_takes_a_ballot,
     one_primary_a_ballot, sent_logs_are_right, snapshots_are_read, taken_stand_at_once,

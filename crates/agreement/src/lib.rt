@@ -3,10 +3,10 @@
 #![tactic(auto)]
 
 pub mod cut_logs;
-mod laws;
+mod theorems;
 pub mod whole_logs;
 
-pub use laws::{
+pub use theorems::{
     agreed_grows, answers_at_the_next_places, answers_while_it_leads, has_agreed, keeps_the_order,
     machines_replay, nodes_agree, one_node_takes_a_ballot, one_primary_a_ballot,
     taken_stand_at_once,

@@ -14,10 +14,10 @@ use Rattle.ballot_base.specs.Replica.{ReplicaState, CountedReplica, is_installin
 use Rattle.ballot_base.specs.Logs.{Log, places, popped, pushed}
 use Rattle.ballot_base.proofs.LongerLogs.{last_pushed, part_pushed, places_pushed, popped_pushed}
 use Rattle.ballot_base.specs.Losses.{SendsAndAddsNothing, halted, one_more}
-use Rattle.ballot_base.specs.Sending.{Outcome, message_to_followed}
-use Rattle.ballot_base.specs.Applying.{applied_to}
-use Rattle.ballot_base.specs.Serving.{commit, commit_at, least, max_places, added}
-use Rattle.ballot_base.specs.Activating.{may_begin, on_activated}
+use Rattle.ballot_base.specs.StepOutcome.{Outcome, message_to_followed}
+use Rattle.ballot_base.specs.Application.{applied_to}
+use Rattle.ballot_base.specs.Service.{commit, commit_at, least, max_places, added}
+use Rattle.ballot_base.specs.Activation.{may_begin, on_activated}
 use Rattle.ballot_base.proofs.ChangeRows.{on_activated-adds}
 use Rattle.ballot_base.proofs.StepRows.{added-commits, added-log, commit-stopped}
 use Rattle.ballot_base.specs.Sends.{Sends}

@@ -12,12 +12,12 @@ use Rattle.ballot_base.specs.declared.status.Role.TheVariants.{Backup, Fetching,
 use Rattle.ballot_base.specs.Replica.{ReplicaState, CountedReplica, is_installing, others}
 use Rattle.ballot_base.specs.Logs.{Log, places}
 use Rattle.ballot_base.specs.Losses.{SendsAndAddsNothing, one_more}
-use Rattle.ballot_base.specs.Taking.{taken}
+use Rattle.ballot_base.specs.TakenLog.{taken}
 use Rattle.ballot_base.specs.Unread.{reads_none}
 use Rattle.ballot.proofs.Heeding.{read_or_none}
-use Rattle.ballot_base.specs.Sending.{Outcome, message_to, message_to_each, master}
-use Rattle.ballot_base.specs.Changing.{waits_for, lacks, on_new_ballot, on_join, install_effects, on_state, on_install}
-use Rattle.ballot_base.specs.Activating.{activates, on_installed, on_superseded}
+use Rattle.ballot_base.specs.StepOutcome.{Outcome, message_to, message_to_each, master}
+use Rattle.ballot_base.specs.Transfer.{waits_for, lacks, on_new_ballot, on_join, install_effects, on_state, on_install}
+use Rattle.ballot_base.specs.Activation.{activates, on_installed, on_superseded}
 use Rattle.ballot_base.proofs.ChangeRows.{on_new_ballot-joins, on_join-answers, on_state-takes, on_install-takes, on_install-answers, on_installed-counts, on_superseded-leaves}
 use Rattle.ballot_base.specs.Sends.{Sends}
 use Rattle.ballot.specs.Inside.{MessagesOrLost, PlainStepOrLost, ReadingStepOrLost}

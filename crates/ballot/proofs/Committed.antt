@@ -7,9 +7,9 @@ use Rattle.ballot_base.specs.declared.status.Progress.{Progress}
 use Rattle.ballot_base.specs.Replica.{ReplicaState, CountedReplica}
 use Rattle.ballot_base.specs.Logs.{Log, part, places, pushed}
 use Rattle.ballot_base.specs.Losses.{StepMessagesOrLost, one_more}
-use Rattle.ballot_base.specs.Sending.{Outcome, message_to_followed}
-use Rattle.ballot_base.specs.Applying.{outputs_from, outputs_to}
-use Rattle.ballot_base.specs.Serving.{least, commit_at, added}
+use Rattle.ballot_base.specs.StepOutcome.{Outcome, message_to_followed}
+use Rattle.ballot_base.specs.Application.{outputs_from, outputs_to}
+use Rattle.ballot_base.specs.Service.{least, commit_at, added}
 use Rattle.ballot_base.proofs.StepRows.{commit_at-stays, commit_at-goes, added-is}
 use Rattle.ballot_base.proofs.ThinnedEffects.{Thinned-same}
 use Rattle.ballot_base.specs.Sends.{Sends}

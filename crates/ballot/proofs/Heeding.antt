@@ -12,21 +12,21 @@ use Rattle.ballot_base.specs.declared.status.Progress.{Progress}
 use Rattle.ballot_base.specs.declared.status.Role.{Role}
 use Rattle.ballot_base.specs.declared.status.Role.TheVariants.{Backup, Fetching, Installing, Active}
 use Rattle.ballot_base.specs.Replica.{ReplicaState, is_fetching, is_installing, others, progress_at}
-use Rattle.ballot_base.specs.Applying.{applied_to}
-use Rattle.ballot_base.specs.Sending.{Outcome, nothing_done, message_to_each, message_to_followed}
-use Rattle.ballot_base.specs.Serving.{least, raised, raised_progress, follows, leads, commit_at, on_append, on_held, on_commit, appends_after, on_tick_active}
+use Rattle.ballot_base.specs.Application.{applied_to}
+use Rattle.ballot_base.specs.StepOutcome.{Outcome, nothing_done, message_to_each, message_to_followed}
+use Rattle.ballot_base.specs.Service.{least, raised, raised_progress, follows, leads, commit_at, on_append, on_held, on_commit, appends_after, on_tick_active}
 use Rattle.ballot_base.specs.Logs.{Log, places}
-use Rattle.ballot_base.specs.Taking.{taken, with_places, with_snapshot}
+use Rattle.ballot_base.specs.TakenLog.{taken, with_places, with_snapshot}
 use Rattle.ballot_base.specs.Unread.{is_unread, reads_none}
 use Rattle.ballot_base.proofs.LogsTaken.{reads_none-is, reads_none-low, reads_none-not, taken-none, taken-places, taken-reads}
 use Rattle.ballot_base.proofs.LongerLogs.{places_pushed}
-use Rattle.ballot_base.specs.Changing.{waits_for, lacks, on_state, on_install, install_effects, on_tick_fetching}
-use Rattle.ballot_base.specs.Activating.{on_installed, on_activated, on_superseded}
+use Rattle.ballot_base.specs.Transfer.{waits_for, lacks, on_state, on_install, install_effects, on_tick_fetching}
+use Rattle.ballot_base.specs.Activation.{on_installed, on_activated, on_superseded}
 use Rattle.ballot_base.specs.Protocol.{received, ticked}
 use Rattle.ballot_base.proofs.StepRows.{added-log, commit_at-goes, commit_at-stays}
 use Rattle.ballot_base.proofs.ChangeRows.{on_new_ballot-joins, on_new_ballot-stays, on_join-stays, on_join-answers, on_state-stays, on_state-takes, on_install-takes, on_install-answers, on_install-stays, on_installed-stays, on_installed-counts, on_superseded-stays, on_superseded-leaves, on_activated-stays, on_activated-adds}
 use Rattle.ballot_base.proofs.MessageRows.{on_append-elsewhere, on_append-gap, on_append-takes, on_held-elsewhere, on_held-raises, on_commit-elsewhere, on_commit-past, on_commit-takes, on_tick_active-is}
-use Rattle.ballot.specs.Heeding.{rises, is_heeded, repeats}
+use Rattle.ballot.specs.Relevance.{rises, is_heeded, repeats}
 use Rattle.ballot.proofs.MessagesTaken.{commit_known}
 
 -- whatever sends does something, and so does whatever takes another role or ballot, or counts otherwise

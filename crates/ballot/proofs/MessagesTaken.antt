@@ -10,9 +10,9 @@ use Rattle.ballot_base.specs.Replica.{ReplicaState, CountedReplica}
 use Rattle.ballot_base.specs.Logs.{Log, part, places, pushed}
 use Rattle.ballot_base.proofs.LongerLogs.{places_pushed}
 use Rattle.ballot_base.specs.Losses.{AppendedStepOrLost, ReplicaStepOrLost, Loses, SendsAndAddsNothing, halted, one_more}
-use Rattle.ballot_base.specs.Sending.{Outcome, nothing_done, message_to}
-use Rattle.ballot_base.specs.Applying.{applied_to}
-use Rattle.ballot_base.specs.Serving.{least, raised, follows, leads, extended, commit_at, on_append, on_held, on_commit}
+use Rattle.ballot_base.specs.StepOutcome.{Outcome, nothing_done, message_to}
+use Rattle.ballot_base.specs.Application.{applied_to}
+use Rattle.ballot_base.specs.Service.{least, raised, follows, leads, extended, commit_at, on_append, on_held, on_commit}
 use Rattle.ballot_base.proofs.AppliesInOrder.{part_none}
 use Rattle.ballot_base.proofs.StepRows.{commit_at-goes}
 use Rattle.ballot_base.proofs.MessageRows.{commit_at-raised, progress_raised, on_append-takes, on_held-raises, on_commit-takes}

@@ -7,8 +7,8 @@ use Rattle.machine.specs.Machine.{Rules}
 use Rattle.ballot_base.specs.Replica.{ReplicaState, CountedReplica, is_active}
 use Rattle.ballot_base.specs.Logs.{places}
 use Rattle.ballot_base.specs.Losses.{AppendedStepOrLost, ReplicaStepOrLost, StepMessagesOrLost, one_more}
-use Rattle.ballot_base.specs.Sending.{Outcome, nothing_done}
-use Rattle.ballot_base.specs.Serving.{added, max_places, proposed}
+use Rattle.ballot_base.specs.StepOutcome.{Outcome, nothing_done}
+use Rattle.ballot_base.specs.Service.{added, max_places, proposed}
 use Rattle.ballot_base.proofs.StepRows.{proposed-adds}
 use Rattle.ballot_base.specs.declared.errors.error.ProposeError.{ProposeError}
 use Rattle.ballot_base.specs.declared.errors.error.ProposeError.TheVariants.{NotActive, LogFull, Memory, Halted}

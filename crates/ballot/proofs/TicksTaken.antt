@@ -9,8 +9,8 @@ use Rattle.ballot_base.specs.declared.status.Role.TheVariants.{Backup, Fetching,
 use Rattle.ballot_base.specs.Replica.{ReplicaState, CountedReplica}
 use Rattle.ballot_base.specs.Logs.{Log}
 use Rattle.ballot_base.specs.Losses.{SendsAndAddsNothing, one_more}
-use Rattle.ballot_base.specs.Sending.{Outcome, message_to_followed}
-use Rattle.ballot_base.specs.Serving.{appends_after}
+use Rattle.ballot_base.specs.StepOutcome.{Outcome, message_to_followed}
+use Rattle.ballot_base.specs.Service.{appends_after}
 use Rattle.ballot_base.specs.Protocol.{replica_step, ticked}
 use Rattle.ballot_base.specs.Protocol.Input.{Ticks}
 use Rattle.ballot_base.proofs.MessageRows.{on_tick_active-is}

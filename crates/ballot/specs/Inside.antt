@@ -5,9 +5,9 @@ use Rattle.ballot_base.specs.declared.message.Effect.{Effect}
 use Rattle.ballot_base.specs.Logs.{Log, places, pushed}
 use Rattle.ballot_base.specs.Losses.{Loses, SendsAndAddsNothing, halted, one_more}
 use Rattle.ballot_base.specs.Replica.{CountedReplica}
-use Rattle.ballot_base.specs.Sending.{Outcome, message_to_followed}
+use Rattle.ballot_base.specs.StepOutcome.{Outcome, message_to_followed}
 use Rattle.ballot_base.specs.Sends.{Sends}
-use Rattle.ballot_base.specs.Serving.{commit}
+use Rattle.ballot_base.specs.Service.{commit}
 use Rattle.ballot_base.specs.declared.message.Body.TheVariants.{Append}
 use Rattle.ballot_base.specs.declared.errors.error.ProposeError.{ProposeError}
 use Rattle.ballot_base.specs.declared.errors.error.ProposeError.TheVariants.{NotActive, LogFull, Memory, Halted}

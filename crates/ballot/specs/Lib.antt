@@ -1,2 +1,2 @@
-pub mod Heeding
+pub mod Relevance
 pub mod Inside

@@ -10,8 +10,8 @@ ghost use Rattle.ballot_base.specs.Logs.{places};
 ghost use Rattle.ballot_base.specs.Losses.{AppendedStepOrLost, StepMessagesOrLost, halted, one_more};
 ghost use Rattle.ballot_base.specs.Replica.{is_active, opening, opening_member, others};
 ghost use Rattle.ballot_base.specs.Replica.{progress_at, status_of};
-ghost use Rattle.ballot_base.specs.Sending.{message_to_followed};
-ghost use Rattle.ballot_base.specs.Serving.{added, commit_at, max_places, proposed};
+ghost use Rattle.ballot_base.specs.StepOutcome.{message_to_followed};
+ghost use Rattle.ballot_base.specs.Service.{added, commit_at, max_places, proposed};
 
 use ballot_base::errors::{OpeningError, ProposeError};
 use ballot_base::{
@@ -22,13 +22,13 @@ use machine::{Halted, Machine, Memory};
 use std::alloc::Global;
 use std::marker::Model;
 
-mod activating;
-mod changing;
-mod cutting;
-mod heeding;
-mod installing;
+mod activation;
+mod compaction;
+mod installation;
 mod messages;
-mod ticking;
+mod relevance;
+mod ticks;
+mod transfer;
 
 /// A log, the machine that it drives and a role in a ballot. It reaches other nodes only by the
 /// messages that its calls return. Its calls also return the machine's outputs, with their places.

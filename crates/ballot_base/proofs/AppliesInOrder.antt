@@ -4,7 +4,7 @@ use Rattle.std.proofs.lemmas.List.{take_more, take-take, take-append-drop, drop-
 use Rattle.machine.specs.Machine.{Rules, replay, replay_from}
 use Rattle.ballot_base.specs.declared.message.Effect.{Effect}
 use Rattle.ballot_base.specs.declared.message.Effect.TheVariants.{Out}
-use Rattle.ballot_base.specs.Applying.{outputs_from}
+use Rattle.ballot_base.specs.Application.{outputs_from}
 use Rattle.ballot_base.specs.Logs.{Log, part, places}
 
 -- commands after others are done in the state that those leave

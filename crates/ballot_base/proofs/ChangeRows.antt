@@ -4,18 +4,18 @@ use Rattle.std.specs.Prelude.{nat_lt, nat_le, ◌&&◌, ◌==◌}
 use Rattle.std.specs.List.{list_any}
 use Rattle.std.proofs.lemmas.Bool.{lt-ltb, le-ltb}
 use Rattle.machine.specs.Machine.{Rules}
-use Rattle.ballot_base.specs.Applying.{applied_to}
+use Rattle.ballot_base.specs.Application.{applied_to}
 use Rattle.ballot_base.specs.Logs.{Log, places}
-use Rattle.ballot_base.specs.Taking.{taken}
+use Rattle.ballot_base.specs.TakenLog.{taken}
 use Rattle.ballot_base.specs.declared.message.Body.TheVariants.{Join, State, Install, Installed}
 use Rattle.ballot_base.specs.declared.status.Role.TheVariants.{Backup, Fetching, Installing, Active}
 use Rattle.ballot_base.specs.declared.status.Role.{Role}
 use Rattle.ballot_base.specs.Protocol.{ticked}
 use Rattle.ballot_base.specs.Replica.{ReplicaState, is_backup, is_fetching, is_installing, others, progress_at}
-use Rattle.ballot_base.specs.Sending.{nothing_done, message_to, message_to_each}
-use Rattle.ballot_base.specs.Serving.{max_places, added}
-use Rattle.ballot_base.specs.Changing.{waits_for, lacks, installs_taken, answers_installed, on_new_ballot, on_join, on_install, install_effects, on_state, on_tick_fetching, on_tick_installing}
-use Rattle.ballot_base.specs.Activating.{on_superseded, activates, on_installed, on_activated}
+use Rattle.ballot_base.specs.StepOutcome.{nothing_done, message_to, message_to_each}
+use Rattle.ballot_base.specs.Service.{max_places, added}
+use Rattle.ballot_base.specs.Transfer.{waits_for, lacks, installs_taken, answers_installed, on_new_ballot, on_join, on_install, install_effects, on_state, on_tick_fetching, on_tick_installing}
+use Rattle.ballot_base.specs.Activation.{on_superseded, activates, on_installed, on_activated}
 
 -- NewBallot
 pub on_new_ballot-joins : {S C : Type 0} (O : Type 0) (r : ReplicaState S C) (b : ℕ) (members : List ℕ) (a : ℕ) (old : List ℕ) →

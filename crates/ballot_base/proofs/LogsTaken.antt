@@ -5,7 +5,7 @@ use Rattle.std.proofs.lemmas.Bool.{cases_lt, lt-ltb, le-ltb}
 use Rattle.machine.specs.Machine.{Rules}
 use Rattle.ballot_base.specs.Logs.{Log}
 use Rattle.ballot_base.specs.Replica.{ReplicaState}
-use Rattle.ballot_base.specs.Taking.{read_into, taken, with_places, with_snapshot}
+use Rattle.ballot_base.specs.TakenLog.{read_into, taken, with_places, with_snapshot}
 use Rattle.ballot_base.specs.Unread.{reads_none, stands_for_none}
 
 -- a log whose base is not over the replica's

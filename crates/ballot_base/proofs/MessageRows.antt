@@ -10,10 +10,10 @@ use Rattle.ballot_base.specs.declared.status.Progress.{Progress}
 use Rattle.ballot_base.specs.declared.status.Role.{Role}
 use Rattle.ballot_base.specs.declared.status.Role.TheVariants.{Backup, Fetching, Installing, Active}
 use Rattle.ballot_base.specs.Replica.{ReplicaState, is_active}
-use Rattle.ballot_base.specs.Sending.{Outcome, nothing_done, message_to, message_to_followed}
-use Rattle.ballot_base.specs.Applying.{outputs_to, applied_to}
+use Rattle.ballot_base.specs.StepOutcome.{Outcome, nothing_done, message_to, message_to_followed}
+use Rattle.ballot_base.specs.Application.{outputs_to, applied_to}
 use Rattle.ballot_base.specs.Logs.{places}
-use Rattle.ballot_base.specs.Serving.{least, raised, raised_progress, follows, leads, extended, commit_at, commit, on_append, on_held, on_commit, appends_after, on_tick_active}
+use Rattle.ballot_base.specs.Service.{least, raised, raised_progress, follows, leads, extended, commit_at, commit, on_append, on_held, on_commit, appends_after, on_tick_active}
 use Rattle.ballot_base.specs.Protocol.{ticked}
 use Rattle.ballot_base.proofs.StepRows.{commit_at-goes, commit_at-stays}
 

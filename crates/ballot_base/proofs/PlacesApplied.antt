@@ -4,7 +4,7 @@ use Rattle.machine.specs.Machine.{Rules, replay_from}
 use Rattle.ballot_base.specs.declared.message.Effect.{Effect}
 use Rattle.ballot_base.specs.declared.message.Effect.TheVariants.{Out}
 use Rattle.ballot_base.specs.Logs.{Log, part, places}
-use Rattle.ballot_base.specs.Applying.{outputs_from}
+use Rattle.ballot_base.specs.Application.{outputs_from}
 use Rattle.ballot_base.proofs.AppliesInOrder.{replay_part-more, outputs_part-more}
 
 -- what holds anyway holds on an error

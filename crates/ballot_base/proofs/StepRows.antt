@@ -5,10 +5,10 @@ use Rattle.machine.specs.Machine.{Rules}
 use Rattle.ballot_base.specs.declared.message.Body.TheVariants.{Append, Commit}
 use Rattle.ballot_base.specs.declared.status.Progress.{Progress}
 use Rattle.ballot_base.specs.Replica.{ReplicaState, is_active}
-use Rattle.ballot_base.specs.Sending.{Outcome, nothing_done, message_to_followed, sent_first}
-use Rattle.ballot_base.specs.Applying.{outputs_to, applied_to}
+use Rattle.ballot_base.specs.StepOutcome.{Outcome, nothing_done, message_to_followed, sent_first}
+use Rattle.ballot_base.specs.Application.{outputs_to, applied_to}
 use Rattle.ballot_base.specs.Logs.{places, pushed}
-use Rattle.ballot_base.specs.Serving.{least, commit_at, commit, max_places, added, proposed}
+use Rattle.ballot_base.specs.Service.{least, commit_at, commit, max_places, added, proposed}
 
 -- nothing new is committed
 pub commit_at-stays : {S C O : Type 0} (rules : Rules S C O) (r : ReplicaState S C) (held : ℕ) →

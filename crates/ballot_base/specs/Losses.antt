@@ -6,7 +6,7 @@ use Rattle.ballot_base.specs.declared.message.Message.{Message}
 use Rattle.ballot_base.specs.declared.message.Effect.{Effect}
 use Rattle.ballot_base.specs.declared.message.Effect.TheVariants.{To}
 use Rattle.ballot_base.specs.Replica.{ReplicaState, CountedReplica}
-use Rattle.ballot_base.specs.Sending.{Outcome}
+use Rattle.ballot_base.specs.StepOutcome.{Outcome}
 
 -- the first list is the second with some messages missing; no output is missing
 pub data Thinned {C O : Type 0} : List (Effect C O) → List (Effect C O) → Type 0 where

@@ -8,11 +8,11 @@ use Rattle.ballot_base.specs.declared.message.Body.TheVariants.{Installed, Activ
 use Rattle.ballot_base.specs.declared.message.Body.TheVariants.{Superseded, Append, Held, Commit}
 use Rattle.ballot_base.specs.declared.status.Role.{Role}
 use Rattle.ballot_base.specs.declared.status.Role.TheVariants.{Backup, Fetching, Installing, Active}
-use Rattle.ballot_base.specs.Sending.{Outcome, nothing_done}
-use Rattle.ballot_base.specs.Serving.{proposed, on_append, on_held, on_commit, on_tick_active}
-use Rattle.ballot_base.specs.Changing.{on_new_ballot, on_join, on_state, on_install}
-use Rattle.ballot_base.specs.Changing.{on_tick_fetching, on_tick_installing}
-use Rattle.ballot_base.specs.Activating.{on_installed, on_activated, on_superseded}
+use Rattle.ballot_base.specs.StepOutcome.{Outcome, nothing_done}
+use Rattle.ballot_base.specs.Service.{proposed, on_append, on_held, on_commit, on_tick_active}
+use Rattle.ballot_base.specs.Transfer.{on_new_ballot, on_join, on_state, on_install}
+use Rattle.ballot_base.specs.Transfer.{on_tick_fetching, on_tick_installing}
+use Rattle.ballot_base.specs.Activation.{on_installed, on_activated, on_superseded}
 use Rattle.ballot_base.specs.Replica.{ReplicaState}
 
 -- the input of a replica in one step

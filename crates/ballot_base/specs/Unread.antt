@@ -5,7 +5,7 @@ use Rattle.ballot_base.specs.declared.message.Body.{Body}
 use Rattle.ballot_base.specs.declared.message.Body.TheVariants.{NewBallot, Join, State, Install}
 use Rattle.ballot_base.specs.declared.message.Body.TheVariants.{Installed, Activate, Activated}
 use Rattle.ballot_base.specs.declared.message.Body.TheVariants.{Superseded, Append, Held, Commit}
-use Rattle.ballot_base.specs.Changing.{waits_for, lacks}
+use Rattle.ballot_base.specs.Transfer.{waits_for, lacks}
 use Rattle.ballot_base.specs.Logs.{Log, places}
 use Rattle.ballot_base.specs.Replica.{ReplicaState}
 

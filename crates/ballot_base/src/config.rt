@@ -69,7 +69,7 @@ pub struct Config {
 }
 
 impl Config {
-    /// Says whether these may be the members and the primary of a ballot.
+    /// Returns true if these may be the members and the primary of a ballot.
     pub fn is_lawful(&self) -> bool
         ensures { result ≡ is_lawful self.now.members self.now.primary }
     {

@@ -3,29 +3,29 @@
 //! follow.
 #![tactic(auto)]
 
-mod applying;
+mod additions;
+mod application;
 mod config;
-mod copying;
+mod copies;
 pub mod errors;
-mod following;
 mod limits;
 mod log;
+mod members;
 mod message;
+mod messages_sent;
 mod rows;
-mod sending;
 mod status;
-mod taking;
 
-pub use applying::{apply_dropping, apply_places};
+pub use additions::{append_next, counted};
+pub use application::{apply_dropping, apply_places};
 pub use config::{Config, MAX_MEMBERS, MAX_NODE, Members};
-pub use copying::copy_log;
-pub use following::{forget, least_held, least_raised, others_of, progress_of_others, raise};
+pub use copies::copy_log;
 pub use limits::MAX_PLACES;
 pub use log::Log;
+pub use members::{forget, least_held, least_raised, others_of, progress_of_others, raise};
 pub use message::{Body, Effect, Message};
-pub use rows::a_log_ends_at_its_limit;
-pub use sending::{
+pub use messages_sent::{
     MASTER, send, send_after, send_appends, send_commits, send_installs, send_joins, send_state,
 };
+pub use rows::a_log_ends_at_its_limit;
 pub use status::{Progress, Role, Status};
-pub use taking::{append_next, counted};

@@ -1,7 +1,7 @@
 // A worked example of a limit.
 
 ghost use Rattle.std.specs.Prelude.{◌≡◌};
-ghost use Rattle.ballot_base.specs.Serving.{max_places};
+ghost use Rattle.ballot_base.specs.Service.{max_places};
 
 /// Shows how many places a log has at most, 2^40.
 pub fn a_log_ends_at_its_limit()

@@ -17,7 +17,7 @@ pub enum Role {
 }
 
 impl Role {
-    /// Says whether this is the active primary.
+    /// Returns true if this is the active primary.
     pub fn is_active(self) -> bool
         ensures { result ≡ is_active self }
     {
@@ -27,7 +27,7 @@ impl Role {
         }
     }
 
-    /// Says whether this is a new primary that asks for a log.
+    /// Returns true if this is a new primary that asks for a log.
     pub fn is_fetching(self) -> bool
         ensures { result ≡ is_fetching self }
     {
@@ -37,7 +37,7 @@ impl Role {
         }
     }
 
-    /// Says whether this is a new primary that sends its log to the members.
+    /// Returns true if this is a new primary that sends its log to the members.
     pub fn is_installing(self) -> bool
         ensures { result ≡ is_installing self }
     {
@@ -47,7 +47,7 @@ impl Role {
         }
     }
 
-    /// Says whether this is a backup.
+    /// Returns true if this is a backup.
     pub fn is_backup(self) -> bool
         ensures { result ≡ is_backup self }
     {
@@ -83,7 +83,8 @@ pub struct Status {
 }
 
 impl Status {
-    /// Says whether it serves clients: it is the active primary of its ballot, and has not stopped.
+    /// Returns true if it serves clients: it is the active primary of its ballot, and has not
+    /// stopped.
     pub fn serves(self) -> bool
         ensures { result ≡ serves_in_role self.role self.stopped }
     {

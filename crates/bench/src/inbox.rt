@@ -63,7 +63,7 @@ fn print<R: Print>(rt: &R, lanes: u8, elapsed: Duration, busy: Duration) -> Resu
     Ok(())
 }
 
-// Sends on all lanes at once, each from a thread of its own. Says whether all came, in order.
+// Sends on all lanes at once, each from a thread of its own. Returns true if all came, in order.
 fn pour_all<J: Naming + Send, R: Threads + Wait + Sync>(
     rt: &R,
     receiver: &mut Receiver<u64, J>,
@@ -96,7 +96,7 @@ fn pour<J: Naming, R: Wait>(rt: &R, mut lane: Lane<u64, J>, each: u64) {
     }
 }
 
-// Says whether this many numbers come from each lane, from 0 on and with none left out.
+// Returns true if this many numbers come from each lane, from 0 on and with none left out.
 fn come_in_order<J: Naming, R: Wait>(rt: &R, receiver: &mut Receiver<u64, J>, each: u64) -> bool {
     let mut next = [0u64; MAX_LANES as usize];
     let mut missing = receiver.lanes();

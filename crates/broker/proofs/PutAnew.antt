@@ -6,11 +6,11 @@ use Rattle.std.specs.List.Sorted.{IsStrictlySortedBy}
 use Rattle.std.specs.Cmp.Lexicographic.{bytes_decides}
 use Rattle.packet_base.specs.declared.qos.QoS.{QoS}
 use Rattle.session_base.specs.Subscriptions.{GrantedSubscription}
-use Rattle.session_base.specs.KeepingLaws.{AreFiltersApart}
+use Rattle.session_base.specs.KeepingTheorems.{AreFiltersApart}
 use Rattle.broker_spec.specs.Place.{Client, same_client}
 use Rattle.broker_base.specs.ClientSession.{ClientSession}
 use Rattle.broker_base.specs.State.{Sessions, session_in}
-use Rattle.broker_base.specs.StateLaws.{AllSound, AreByClient}
+use Rattle.broker_base.specs.StateTheorems.{AllSound, AreByClient}
 use Rattle.broker_spec.proofs.ClientsInOrder.{same_is}
 use Rattle.broker_base.proofs.SessionsStayByClient.{ComesBefore}
 use Rattle.subs_base.specs.Content.{Content, last_qos_in, no_subscriptions, with_client_filters}

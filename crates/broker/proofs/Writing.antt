@@ -5,7 +5,7 @@ use Rattle.retained.specs.Retained.{RetainedTopics}
 use Rattle.session_base.proofs.Writable.{has_length}
 use Rattle.broker_spec.specs.Commands.{usual_limits}
 use Rattle.broker_base.specs.State.{Sessions, State}
-use Rattle.broker_base.specs.StateLaws.{AllSound}
+use Rattle.broker_base.specs.StateTheorems.{AllSound}
 use Rattle.broker_base.specs.form.InRange.{IsBrokerState, IsRetained, IsSession, as_publication}
 use Rattle.broker_base.proofs.of_form.RowsAgain.{has_form}
 use Rattle.broker.specs.Inside.{AreRows, ArePayloads}

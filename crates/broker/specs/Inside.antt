@@ -3,7 +3,7 @@ use Rattle.std.specs.Prelude.{◌≡◌, ℕ, ◌^◌, ◌<◌, length, List, []
 use Rattle.std.specs.List.{AllByRecursion}
 use Rattle.retained.specs.Retained.{RetainedTopics}
 use Rattle.subs_base.specs.Content.{Content, last_qos_in, with_client_filters}
-use Rattle.session_base.specs.FormLaws.{HasForm}
+use Rattle.session_base.specs.FormTheorems.{HasForm}
 use Rattle.broker_spec.specs.Connection.{ConnectionName}
 use Rattle.broker_base.specs.State.{Sessions, State}
 use Rattle.broker_base.specs.rows.Owners.{owners_in}

@@ -7,8 +7,8 @@ use Rattle.broker_spec.specs.declared.command.Command.{Command}
 use Rattle.broker_base.specs.State.{State, state_of, empty_state}
 use Rattle.broker_base.specs.form.BrokerRules.{after, answers}
 use Rattle.broker_base.specs.form.Form.{thawed}
-use Rattle.broker_base.specs.form.Writing.{frozen_before}
-use Rattle.broker_base.specs.form.FormLaws.{IsUsualState}
+use Rattle.broker_base.specs.form.Bytes.{frozen_before}
+use Rattle.broker_base.specs.form.FormTheorems.{IsUsualState}
 
 -- the state is the one that this list of commands means, if the window was this one at first
 abbrev pub StateStandsFor : ℕ → State → List Command → Type 0

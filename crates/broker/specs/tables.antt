@@ -1,3 +1,3 @@
 pub mod Inside
 pub mod Tables
-pub mod Connecting
+pub mod Connect

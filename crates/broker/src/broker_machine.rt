@@ -1,8 +1,8 @@
 // The machine that a replica drives.
 
-use crate::freezing::freeze_tables;
+use crate::form_writers::freeze_tables;
+use crate::table_readers::thawed_tables;
 use crate::tables::Tables;
-use crate::thawing::thawed_tables;
 use broker_base::form::thawed_is_in_range;
 use broker_spec::{Command, Output};
 use machine::{Halted, Machine, Memory, ThawFault};
@@ -26,7 +26,7 @@ impl Drop for BrokerMachine {
 
 impl Model for BrokerMachine {
     ghost use Rattle.broker_base.specs.State.{State};
-    ghost use Rattle.broker_base.specs.form.FormLaws.{IsUsualState};
+    ghost use Rattle.broker_base.specs.form.FormTheorems.{IsUsualState};
     ghost use Rattle.broker.specs.tables.Tables.{IsTied, state_in};
 
     ghost Value = { State };
@@ -40,7 +40,7 @@ impl Model for BrokerMachine {
 // It is frozen to form 2, and thawed from form 1 too.
 impl Machine for BrokerMachine {
     ghost use Rattle.broker_spec.specs.Logged.{IsBrokerCommand};
-    ghost use Rattle.broker_base.specs.form.FormLaws.{IsUsualState};
+    ghost use Rattle.broker_base.specs.form.FormTheorems.{IsUsualState};
     ghost use Rattle.broker_base.proofs.of_form.Thawing.{frozen_is_thawed};
     ghost use Rattle.broker_base.specs.form.BrokerRules.{broker_rules};
     ghost use Rattle.broker_base.proofs.of_form.UsualStates.{empty_is_usual, stays_usual};

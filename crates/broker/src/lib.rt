@@ -3,14 +3,14 @@
 #![tactic(auto)]
 
 mod broker_machine;
-mod freezing;
-mod laws;
+mod form_writers;
 pub mod one_session;
-mod reading;
+mod row_readers;
 mod rows;
+mod table_readers;
 pub mod tables;
-mod thawing;
+mod theorems;
 
 pub use broker_machine::BrokerMachine;
 pub use broker_spec::{Command, ConnectionName, Output, SizedPacket, Unspellable};
-pub use laws::broker_stands_for;
+pub use theorems::broker_stands_for;

@@ -2,14 +2,14 @@
 //! 3.1.1).
 
 mod client_row;
-mod delivering;
-mod granting;
+mod delivery;
+mod grants;
 mod handshakes;
+mod outputs;
 mod retained_copies;
-mod sending;
 
 pub use client_row::ClientRow;
-pub use delivering::{deliver, publication_of};
-pub use granting::grant_all;
+pub use delivery::{deliver, publication_of};
+pub use grants::grant_all;
 pub use handshakes::{do_handshake, is_handshake};
-pub use sending::send_all;
+pub use outputs::send_all;

@@ -2,7 +2,7 @@
 
 ghost use Rattle.std.specs.Prelude.{◌≡◌, false, true, [], ◌∷◌, ◌++◌, IfOk, OnOk};
 ghost use Rattle.packet_base.specs.Outcome.{Reads};
-ghost use Rattle.packet_base.specs.Reading.{number_at};
+ghost use Rattle.packet_base.specs.Readers.{number_at};
 ghost use Rattle.session_base.specs.Counted.{counted_items_at, items_after, last_of, AddsItem};
 ghost use Rattle.broker_spec.specs.Connection.{ConnectionName as SpecName};
 ghost use Rattle.broker_base.specs.rows.Owners.{owned_by};
@@ -12,7 +12,7 @@ ghost use Rattle.broker.specs.tables.Tables.{owners_at};
 ghost use Rattle.broker.specs.Inside.{AreOwned};
 
 use crate::one_session::ClientRow;
-use crate::reading::read_row;
+use crate::row_readers::read_row;
 use broker_spec::{ConnectionName, MAX_SESSIONS, Window};
 use packet_base::{ClientId, OUT_OF_MEMORY, Reader, Stop};
 use session_base::check_form;
@@ -68,7 +68,7 @@ impl Rows {
         }
     }
 
-    // Says whether a client may come after the others.
+    // Returns true if a client may come after the others.
     fn may_follow(&self, client: &ClientId, row: &ClientRow) -> bool
         requires { AreOwned self.now }
         ensures { result ≡ row_follows self.now.sessions.entries (client.now, row.now) }
@@ -76,7 +76,7 @@ impl Rows {
         self.is_after(client) && !self.is_owned(row.connection)
     }
 
-    // Says whether the client is after the last.
+    // Returns true if the client is after the last.
     fn is_after(&self, client: &ClientId) -> bool
         ensures { result ≡ is_after (last_of self.now.sessions.entries) client.now }
     {
@@ -86,7 +86,7 @@ impl Rows {
         }
     }
 
-    // Says whether one of them has the connection.
+    // Returns true if one of them has the connection.
     fn is_owned(&self, connection: Option<ConnectionName>) -> bool
         requires { AreOwned self.now }
         ensures { result ≡ is_owned self.now.sessions.entries connection }

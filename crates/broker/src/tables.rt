@@ -1,15 +1,15 @@
 //! The tables of a broker, and what each command does to them: the steps of MQTT 3.1.1.
 
-mod applying;
-mod connecting;
-mod expelling;
-mod handling;
-mod handshaking;
-mod leaving;
-mod publishing;
-mod starting;
-mod subscribing;
+mod client_packets;
+mod connect;
+mod disconnect;
+mod expel;
+mod handshake;
+mod log_command;
+mod publish;
+mod start;
+mod subscribe;
 mod tables;
-mod unsubscribing;
+mod unsubscribe;
 
 pub use tables::Tables;

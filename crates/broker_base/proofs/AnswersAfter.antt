@@ -1,7 +1,7 @@
 -- What is sent after a client's answer, as what is kept of its session says.
 use Rattle.std.proofs.Common.{◌≡◌, ℕ, ◌<◌, suc, Bool, false, ◌==◌, Option, Some, None, List, [], ◌∷◌, ◌++◌, length, map, refl, ap, ap₂, ◌∙◌, sym, arith}
 use Rattle.packet.specs.declared.packet.Packet.{Packet}
-use Rattle.session_base.specs.Sending.{fill_sends}
+use Rattle.session_base.specs.EntryPackets.{fill_sends}
 use Rattle.broker_spec.specs.Connection.{ConnectionName}
 use Rattle.broker_spec.specs.Place.{Client, Mark, Place, Past, Limits}
 use Rattle.broker_spec.specs.Sessions.{accepts, ends_any, current_connection, clean_session_of}
@@ -29,17 +29,17 @@ use Rattle.broker_base.proofs.QuietPasts.{entries_next, entries_none}
 
 nothing_started : (x : ConnectionName) (n : ℕ) (es : List Entry) → StartedBefore n es → all_started x n es ≡ []
 nothing_started x n [] h = refl
-nothing_started x n (Entry.Waits made p ∷ es) h = nothing_started x n es h
-nothing_started x n (Entry.Started made p id start ∷ es) h = rw (earlier start n h.0) (nothing_started x n es h.1)
+nothing_started x n (Entry.Queued made p ∷ es) h = nothing_started x n es h
+nothing_started x n (Entry.Sent made p id start ∷ es) h = rw (earlier start n h.0) (nothing_started x n es h.1)
   where
     earlier : (start n : ℕ) → start < n → (start == n) ≡ false
     earlier start n h = grind arith
 nothing_started x n (Entry.Released made p id start release ∷ es) h = nothing_started x n es h
-nothing_started x n (Entry.Finished made p id start release finish ∷ es) h = nothing_started x n es h
+nothing_started x n (Entry.Done made p id start release finish ∷ es) h = nothing_started x n es h
 
 -- what starts after a client's answer, by its connection
 started_after : (x : ConnectionName) (w n : ℕ) (command : Command) (mark : Mark) (c : Client) (connection : Option ConnectionName) (es : List Entry) → Sound n es →
-    all_started x n (started w n connection (answered_by command mark n c es ++ map (Entry.Waits n) []))
+    all_started x n (started w n connection (answered_by command mark n c es ++ map (Entry.Queued n) []))
     ≡ map (Send x) (while_connected connection (fill_sends w (answered_flights command mark c (flights_below n es)) (waiting_of es)))
 started_after x w n command mark c connection es s =
     ap (λ others. all_started x n (started w n connection others)) (append_none (answered_by command mark n c es))
@@ -73,7 +73,7 @@ started_by_kept limits place past c x None is_session not_opened not_ended no_co
 started_by_kept limits place past c x (Some clean) is_session not_opened not_ended no_copies =
     ap (all_started x (length past))
     (entries_next limits place past c clean not_opened not_ended is_session
-    ∙ ap (λ ps. started (window_at limits (place ∷ past)) (length past) (current_connection past c) (answered_by place.command place.mark (length past) c (entries_of limits past c) ++ map (Entry.Waits (length past)) (queued ps))) no_copies)
+    ∙ ap (λ ps. started (window_at limits (place ∷ past)) (length past) (current_connection past c) (answered_by place.command place.mark (length past) c (entries_of limits past c) ++ map (Entry.Queued (length past)) (queued ps))) no_copies)
     ∙ started_after x (window_at limits (place ∷ past)) (length past) place.command place.mark c (current_connection past c) (entries_of limits past c) (sound_entries limits past c)
 
 pub starts_are : (limits : Limits) (place : Place) (past : Past) (c : Client) (x : ConnectionName) →

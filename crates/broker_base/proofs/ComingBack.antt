@@ -2,7 +2,7 @@
 use Rattle.std.proofs.Common.{◌≡◌, ℕ, Bool, true, false, ◌||◌, if◌then◌else◌, Option, Some, None, List, [], ◌∷◌, ◌++◌, length, map, refl, ap, ap₂, ◌∙◌}
 use Rattle.session_base.specs.Subscriptions.{GrantedSubscription}
 use Rattle.packet.specs.declared.packet.Packet.TheVariants as packets
-use Rattle.session_base.specs.Sending.{fill_sends, resend}
+use Rattle.session_base.specs.EntryPackets.{fill_sends, resend}
 use Rattle.broker_spec.specs.Connection.{ConnectionName}
 use Rattle.broker_spec.specs.Place.{Client, Place, Past, Limits}
 use Rattle.broker_spec.specs.Sessions.{accepts, expels, ends_any, current_connection, clean_session_of, newest_clean_session, newest_connection, is_beginning, in_session}
@@ -36,13 +36,13 @@ closed_is limits past c = by (clean_session_of past c) refl
 
 resumed_by : (x : ConnectionName) (w n : ℕ) (clean expelled over : Bool) (session : Option Bool) (connection : Option ConnectionName) (held : List GrantedSubscription) (ids : List ℕ) (es : List Entry) → Sound n es →
     resent_outputs x n (in_session (newest_clean_session (Some (x, clean)) expelled over session) (is_beginning (Some (x, clean)) session) []
-    (started w n (newest_connection (Some (x, clean)) over connection) (es ++ map (Entry.Waits n) [])))
+    (started w n (newest_connection (Some (x, clean)) over connection) (es ++ map (Entry.Queued n) [])))
     ≡ map (Send x) (resumed w clean (kept_with n session connection held ids es))
 resumed_by x w n clean expelled over None connection held ids es s = ap (λ ids. map (λ id. Send x (packets.Pubrel id)) ids ++ [] ++ []) (none_released_ever n)
 resumed_by x w n clean expelled over (Some old) connection held ids es s = by (clean || old)
   where
     by : (b : Bool) →
-        resent_outputs x n (in_session (Some clean) b [] (start_all w n [] (es ++ map (Entry.Waits n) [])))
+        resent_outputs x n (in_session (Some clean) b [] (start_all w n [] (es ++ map (Entry.Queued n) [])))
         ≡ map (Send x) (if b then [] else resend (flights_below n es) ++ fill_sends w (flights_below n es) (waiting_of es))
     by true = ap (λ ids. map (λ id. Send x (packets.Pubrel id)) ids ++ [] ++ []) (none_released_ever n)
     by false = ap (λ others. resent_outputs x n (start_all w n [] others)) (append_none es) ∙ resent_is x w n es s.below s.in_order
@@ -55,8 +55,8 @@ unfolding entries_of clean_session_of current_connection
 resumed_is limits past c x clean place opens no_copies no_answer =
     ap (λ opened. resent_outputs x (length past) (in_session (newest_clean_session opened (expels place.command c) (ends_any place c (current_connection past c)) (clean_session_of past c)) (is_beginning opened (clean_session_of past c)) []
     (started (window_at limits (place ∷ past)) (length past) (newest_connection opened (ends_any place c (current_connection past c)) (current_connection past c))
-    (answered_by place.command place.mark (length past) c (entries_of limits past c) ++ map (Entry.Waits (length past)) (queued (copies_at place past c)))))) opens
+    (answered_by place.command place.mark (length past) c (entries_of limits past c) ++ map (Entry.Queued (length past)) (queued (copies_at place past c)))))) opens
     ∙ ap₂ (λ es ps. resent_outputs x (length past) (in_session (newest_clean_session (Some (x, clean)) (expels place.command c) (ends_any place c (current_connection past c)) (clean_session_of past c)) (is_beginning (Some (x, clean)) (clean_session_of past c)) []
-    (started (window_at limits (place ∷ past)) (length past) (newest_connection (Some (x, clean)) (ends_any place c (current_connection past c)) (current_connection past c)) (es ++ map (Entry.Waits (length past)) (queued ps))))) no_answer no_copies
+    (started (window_at limits (place ∷ past)) (length past) (newest_connection (Some (x, clean)) (ends_any place c (current_connection past c)) (current_connection past c)) (es ++ map (Entry.Queued (length past)) (queued ps))))) no_answer no_copies
     ∙ resumed_by x (window_at limits (place ∷ past)) (length past) clean (expels place.command c) (ends_any place c (current_connection past c)) (clean_session_of past c) (current_connection past c)
     (subscriptions_of past c) (received_of past c) (entries_of limits past c) (sound_entries limits past c)

@@ -11,7 +11,7 @@ use Rattle.broker_base.specs.ClientSession.{ClientSession}
 use Rattle.broker_base.specs.SessionStep.{session_anew, session_resumed, session_connected, session_by, session_touched}
 use Rattle.broker_base.specs.State.{Sessions, keyed, put_session}
 use Rattle.broker_base.specs.Step.{touches, session_after, sessions_left}
-use Rattle.broker_base.specs.StateLaws.{IsNobodys, ConnectionsAreApart}
+use Rattle.broker_base.specs.StateTheorems.{IsNobodys, ConnectionsAreApart}
 
 -- ---- connections without a client
 

@@ -12,7 +12,7 @@ use Rattle.broker_base.specs.SessionStep.{session_anew, session_resumed, session
 use Rattle.broker_base.specs.State.{Sessions, State, keyed, session_in, put_session, owner_in}
 use Rattle.broker_base.specs.Decisions.{connect_mark_in, mark_in}
 use Rattle.broker_base.specs.Step.{session_after, sessions_left, sessions_with}
-use Rattle.broker_base.specs.StateLaws.{AreByClient, IsNobodys, ConnectionsAreApart}
+use Rattle.broker_base.specs.StateTheorems.{AreByClient, IsNobodys, ConnectionsAreApart}
 use Rattle.broker_spec.specs.declared.command.Command.{Command}
 use Rattle.broker_spec.specs.declared.command.Command.TheVariants as commands
 use Rattle.std.specs.List.Sorted.{IsStrictlySortedBy}

@@ -2,7 +2,7 @@
 use Rattle.std.proofs.Common.{◌≡◌, ℕ, ◌≤◌, Bool, false, ◌⊎◌, inl, inr, Option, Some, None, List, [], ◌∷◌, ◌++◌, length, map, refl, ap, ap₂, ◌∙◌, sym, subst, arith}
 use Rattle.session_base.specs.declared.publication.Publication.{Publication}
 use Rattle.session_base.specs.Queue.{ids_of}
-use Rattle.session_base.specs.Sending.{copies_sent}
+use Rattle.session_base.specs.EntryPackets.{copies_sent}
 use Rattle.broker_spec.specs.Connection.{ConnectionName}
 use Rattle.broker_spec.specs.Place.{Client, Place, Past, Limits}
 use Rattle.broker_spec.specs.Sessions.{accepts, ends_any, current_connection, clean_session_of}
@@ -28,7 +28,7 @@ use Rattle.broker_base.proofs.QuietPasts.{QuietEntries, quiet_entries, quiet_que
 -- ---- copies
 
 pub delivered : (x : ConnectionName) (w n : ℕ) (es : List Entry) (copies : List Publication) → Sound n es → QuietEntries w es → Quiet w (flights_below n es) (waiting_of es) →
-    copy_outputs x n copies (made_at n (start_all w n [] (es ++ map (Entry.Waits n) (queued copies)))) ≡ map (Send x) (copies_sent w copies (queue_of n es))
+    copy_outputs x n copies (made_at n (start_all w n [] (es ++ map (Entry.Queued n) (queued copies)))) ≡ map (Send x) (copies_sent w copies (queue_of n es))
 delivered x w n es copies s quiet quiet_flights =
     ap (copy_outputs x n copies) (made_here w n [] es (queued copies) s.below s.in_order (by quiet))
     ∙ handed_is x w n (busy_from [] es) (flights_below n es) (waiting_of es) copies same quiet_flights
@@ -59,7 +59,7 @@ copies_by_kept limits place past c (Some clean) None is_session is_connection no
 copies_by_kept limits place past c (Some clean) (Some x) is_session is_connection not_opened not_ended no_answer same_window =
     ap (λ es. copy_outputs x (length past) (copies_at place past c) (made_at (length past) es))
     (entries_next limits place past c clean not_opened not_ended is_session
-    ∙ ap₂ (λ connection es. started (window_at limits (place ∷ past)) (length past) connection (es ++ map (Entry.Waits (length past)) (queued (copies_at place past c)))) is_connection no_answer)
+    ∙ ap₂ (λ connection es. started (window_at limits (place ∷ past)) (length past) connection (es ++ map (Entry.Queued (length past)) (queued (copies_at place past c)))) is_connection no_answer)
     ∙ delivered x (window_at limits (place ∷ past)) (length past) (entries_of limits past c) (copies_at place past c) (sound_entries limits past c)
     (subst (λ (w : ℕ). QuietEntries w (entries_of limits past c)) (sym same_window) (quiet_entries limits past c x is_connection))
     (subst (λ (w : ℕ). Quiet w (flights_below (length past) (entries_of limits past c)) (waiting_of (entries_of limits past c))) (sym same_window) (quiet_queue limits past c x is_connection))

@@ -19,7 +19,7 @@ use Rattle.broker_base.specs.SessionStep.{copies_with, filled_on, answered_queue
 use Rattle.broker_base.specs.State.{Sessions, State}
 use Rattle.broker_base.specs.Decisions.{place_in}
 use Rattle.broker_base.specs.Step.{touches, session_after, window_after, step}
-use Rattle.broker_base.specs.StateLaws.{IsSoundSession, FitsWindow, AllSound, AllInWindow}
+use Rattle.broker_base.specs.StateTheorems.{IsSoundSession, FitsWindow, AllSound, AllInWindow}
 use Rattle.broker_spec.specs.declared.command.Command.{Command}
 use Rattle.broker_spec.specs.declared.command.Command.TheVariants as commands
 use Rattle.broker_base.proofs.RowsKeep.{If, AllRows, all_left, all_with}

@@ -54,7 +54,7 @@ kept_next w place n c opened session connection held ids es ps =
     (in_session (newest_clean_session opened (expels place.command c) (ends_any place c connection) session) (is_beginning opened session) [] (subscriptions_after place.command place.mark c held))
     (in_session (newest_clean_session opened (expels place.command c) (ends_any place c connection) session) (is_beginning opened session) [] (received_by place.command place.mark c ids))
     (in_session (newest_clean_session opened (expels place.command c) (ends_any place c connection) session) (is_beginning opened session) []
-    (started w n (newest_connection opened (ends_any place c connection) connection) (answered_by place.command place.mark n c es ++ map (Entry.Waits n) ps)))
+    (started w n (newest_connection opened (ends_any place c connection) connection) (answered_by place.command place.mark n c es ++ map (Entry.Queued n) ps)))
 
 next_is : (w : ℕ) (place : Place) (content : RetainedTopics) (n : ℕ) (c : Client) (opened : Option (ConnectionName × Bool)) (session : Option Bool) (connection : Option ConnectionName)
     (held : List GrantedSubscription) (ids : List ℕ) (es : List Entry) → Sound n es →
@@ -68,7 +68,7 @@ next_is w place content n c None (Some clean) connection held ids es s = by (exp
         (in_session (only_if (not b) (Some clean)) false [] (subscriptions_after place.command place.mark c held))
         (in_session (only_if (not b) (Some clean)) false [] (received_by place.command place.mark c ids))
         (in_session (only_if (not b) (Some clean)) false []
-        (started w n (only_if (not (ends_any place c connection)) connection) (answered_by place.command place.mark n c es ++ map (Entry.Waits n) (queued (copies_with place.command place.mark content c held)))))
+        (started w n (only_if (not (ends_any place c connection)) connection) (answered_by place.command place.mark n c es ++ map (Entry.Queued n) (queued (copies_with place.command place.mark content c held)))))
         ≡ only_if (not b) (Some (filled_kept w place content c clean (only_if (not (ends_any place c connection)) connection)
         (record { clean = clean; connection = connection; state = record { subscriptions = held; received = ids; queue = queue_of n es } })))
     by true = refl
@@ -82,7 +82,7 @@ next_is w place content n c (Some opened) (Some clean) connection held ids es s 
         (in_session (Some opened.1) b [] (subscriptions_after place.command place.mark c held))
         (in_session (Some opened.1) b [] (received_by place.command place.mark c ids))
         (in_session (Some opened.1) b []
-        (started w n (Some opened.0) (answered_by place.command place.mark n c es ++ map (Entry.Waits n) (queued (copies_with place.command place.mark content c held)))))
+        (started w n (Some opened.0) (answered_by place.command place.mark n c es ++ map (Entry.Queued n) (queued (copies_with place.command place.mark content c held)))))
         ≡ Some (if b then session_anew opened else filled_kept w place content c opened.1 (Some opened.0)
         (record { clean = clean; connection = connection; state = record { subscriptions = held; received = ids; queue = queue_of n es } }))
     by true = anew (suc n) opened

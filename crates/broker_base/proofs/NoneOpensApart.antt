@@ -6,7 +6,7 @@ use Rattle.broker_spec.specs.Place.{Place}
 use Rattle.broker_spec.specs.Sessions.{accepts}
 use Rattle.broker_base.specs.State.{Sessions}
 use Rattle.broker_base.specs.Step.{session_after, sessions_left}
-use Rattle.broker_base.specs.StateLaws.{IsNobodys, ConnectionsAreApart}
+use Rattle.broker_base.specs.StateTheorems.{IsNobodys, ConnectionsAreApart}
 use Rattle.broker_base.proofs.ConnectionsOfSessions.{not_after, nobodys_keyed, old_after, apart_keyed}
 
 -- ---- if none of these opens a connection

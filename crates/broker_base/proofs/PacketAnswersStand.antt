@@ -5,7 +5,7 @@ use Rattle.packet.specs.declared.packet.Packet.{Packet}
 use Rattle.packet.specs.declared.packet.Packet.TheVariants as packets
 use Rattle.packet.specs.declared.publish.Publish.{Publish}
 use Rattle.session_base.specs.Queue.{on_puback, on_pubcomp}
-use Rattle.session_base.specs.Sending.{fill_sends}
+use Rattle.session_base.specs.EntryPackets.{fill_sends}
 use Rattle.broker_spec.specs.Connection.{ConnectionName, same_connection}
 use Rattle.broker_spec.specs.Place.{Client, Mark, Place, Past, Limits}
 use Rattle.broker_spec.specs.Sessions.{any_connection, current_connection, clean_session_of}

@@ -78,43 +78,43 @@ waiting_answered (commands.Packet x (packets.Pubrec i)) (Mark.Handled d) n c es 
 waiting_answered (commands.Packet x (packets.Pubcomp i)) (Mark.Handled d) n c es = waiting_if (same_client d c) _ _ _ (waiting_pubcomp n i es) refl
 waiting_answered _ _ n c es = refl
 
-waiting_new : (n : ℕ) (es : List Entry) (ps : List Publication) → waiting_of (es ++ map (Entry.Waits n) ps) ≡ waiting_of es ++ ps
+waiting_new : (n : ℕ) (es : List Entry) (ps : List Publication) → waiting_of (es ++ map (Entry.Queued n) ps) ≡ waiting_of es ++ ps
 waiting_new n [] [] = refl
 waiting_new n [] (p ∷ ps) = ap (λ qs. p ∷ qs) (waiting_new n [] ps)
-waiting_new n (Entry.Waits made p ∷ es) ps = ap (λ qs. p ∷ qs) (waiting_new n es ps)
-waiting_new n (Entry.Started made p id start ∷ es) ps = waiting_new n es ps
+waiting_new n (Entry.Queued made p ∷ es) ps = ap (λ qs. p ∷ qs) (waiting_new n es ps)
+waiting_new n (Entry.Sent made p id start ∷ es) ps = waiting_new n es ps
 waiting_new n (Entry.Released made p id start release ∷ es) ps = waiting_new n es ps
-waiting_new n (Entry.Finished made p id start release finish ∷ es) ps = waiting_new n es ps
+waiting_new n (Entry.Done made p id start release finish ∷ es) ps = waiting_new n es ps
 
-pub sent_new : (n : ℕ) (es : List Entry) (ps : List Publication) → sent_flights (es ++ map (Entry.Waits n) ps) ≡ sent_flights es
+pub sent_new : (n : ℕ) (es : List Entry) (ps : List Publication) → sent_flights (es ++ map (Entry.Queued n) ps) ≡ sent_flights es
 sent_new n [] [] = refl
 sent_new n [] (p ∷ ps) = sent_new n [] ps
-sent_new n (Entry.Waits made p ∷ es) ps = sent_new n es ps
-sent_new n (Entry.Started made p id start ∷ es) ps = ap (λ fs. (id, awaited p) ∷ fs) (sent_new n es ps)
+sent_new n (Entry.Queued made p ∷ es) ps = sent_new n es ps
+sent_new n (Entry.Sent made p id start ∷ es) ps = ap (λ fs. (id, awaited p) ∷ fs) (sent_new n es ps)
 sent_new n (Entry.Released made p id start release ∷ es) ps = sent_new n es ps
-sent_new n (Entry.Finished made p id start release finish ∷ es) ps = sent_new n es ps
+sent_new n (Entry.Done made p id start release finish ∷ es) ps = sent_new n es ps
 
-released_at_new : (t n : ℕ) (es : List Entry) (ps : List Publication) → released_at t (es ++ map (Entry.Waits n) ps) ≡ released_at t es
+released_at_new : (t n : ℕ) (es : List Entry) (ps : List Publication) → released_at t (es ++ map (Entry.Queued n) ps) ≡ released_at t es
 released_at_new t n [] [] = refl
 released_at_new t n [] (p ∷ ps) = released_at_new t n [] ps
-released_at_new t n (Entry.Waits made p ∷ es) ps = released_at_new t n es ps
-released_at_new t n (Entry.Started made p id start ∷ es) ps = released_at_new t n es ps
+released_at_new t n (Entry.Queued made p ∷ es) ps = released_at_new t n es ps
+released_at_new t n (Entry.Sent made p id start ∷ es) ps = released_at_new t n es ps
 released_at_new t n (Entry.Released made p id start release ∷ es) ps = ap (λ ids. if release == t then id ∷ ids else ids) (released_at_new t n es ps)
-released_at_new t n (Entry.Finished made p id start release finish ∷ es) ps = released_at_new t n es ps
+released_at_new t n (Entry.Done made p id start release finish ∷ es) ps = released_at_new t n es ps
 
-pub released_new : (t n : ℕ) (es : List Entry) (ps : List Publication) → released_below t (es ++ map (Entry.Waits n) ps) ≡ released_below t es
+pub released_new : (t n : ℕ) (es : List Entry) (ps : List Publication) → released_below t (es ++ map (Entry.Queued n) ps) ≡ released_below t es
 released_new zero n es ps = refl
 released_new (suc t) n es ps = ap₂ (λ xs ys. xs ++ ys) (released_new t n es ps) (released_at_new t n es ps)
 
-pub flights_new : (t n : ℕ) (es : List Entry) (ps : List Publication) → flights_below t (es ++ map (Entry.Waits n) ps) ≡ flights_below t es
+pub flights_new : (t n : ℕ) (es : List Entry) (ps : List Publication) → flights_below t (es ++ map (Entry.Queued n) ps) ≡ flights_below t es
 flights_new t n es ps = ap₂ (λ ids fs. map released_flight ids ++ fs) (released_new t n es ps) (sent_new n es ps)
 
 pub queue_after : (w : ℕ) (command : Command) (mark : Mark) (n : ℕ) (c : Client) (connection : Option ConnectionName) (es : List Entry) (ps : List Publication) → Sound n es →
-    queue_of (suc n) (started w n connection (answered_by command mark n c es ++ map (Entry.Waits n) ps))
+    queue_of (suc n) (started w n connection (answered_by command mark n c es ++ map (Entry.Queued n) ps))
     ≡ filled_on connection w (answered_flights command mark c (flights_below n es)) (waiting_of es ++ ps)
 queue_after w command mark n c connection es ps s =
-    let t : Sound (suc n) (answered_by command mark n c es ++ map (Entry.Waits n) ps) = sound_new n (answered_by command mark n c es) ps (sound_answered command mark n c es s) in
-    queue_started w n connection (answered_by command mark n c es ++ map (Entry.Waits n) ps) t.below t.in_order
+    let t : Sound (suc n) (answered_by command mark n c es ++ map (Entry.Queued n) ps) = sound_new n (answered_by command mark n c es) ps (sound_answered command mark n c es s) in
+    queue_started w n connection (answered_by command mark n c es ++ map (Entry.Queued n) ps) t.below t.in_order
     ∙ ap₂ (λ fs qs. filled_on connection w fs qs)
     (flights_new (suc n) n (answered_by command mark n c es) ps ∙ flights_answered command mark n c es s)
     (waiting_new n (answered_by command mark n c es) ps ∙ ap (λ qs. qs ++ ps) (waiting_answered command mark n c es))

@@ -7,7 +7,7 @@ use Rattle.retained.specs.Retained.{RetainedTopics}
 use Rattle.session_base.specs.declared.publication.Publication.{Publication}
 use Rattle.session_base.specs.Publication.{is_answered}
 use Rattle.lists.specs.Lists.{IsDistinct}
-use Rattle.session_base.specs.Laws.{IsFilledQueue}
+use Rattle.session_base.specs.Theorems.{IsFilledQueue}
 use Rattle.session_base.specs.Queue.{Queue, ids_of, on_puback, on_pubrec, on_pubcomp, enqueue, filled}
 use Rattle.session_base.specs.Copies.{copies_left}
 use Rattle.session_base.proofs.FillsOfQueues.{fill_done}
@@ -21,7 +21,7 @@ use Rattle.broker_base.specs.SessionStep.{copies_with, answered_queue, session_o
 use Rattle.broker_base.specs.State.{Sessions, State}
 use Rattle.broker_base.specs.Decisions.{place_in}
 use Rattle.broker_base.specs.Step.{is_about, touches, session_after, window_after, step}
-use Rattle.broker_base.specs.StateLaws.{IsSoundSession, HasFilledQueue, AllSound, AllFilled}
+use Rattle.broker_base.specs.StateTheorems.{IsSoundSession, HasFilledQueue, AllSound, AllFilled}
 use Rattle.broker_spec.specs.declared.command.Command.{Command}
 use Rattle.broker_spec.specs.declared.command.Command.TheVariants as commands
 use Rattle.broker_base.proofs.UntouchedStays.{no_start}

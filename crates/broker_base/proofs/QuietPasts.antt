@@ -30,20 +30,20 @@ full_now k w e = grind arith
 quiet_started : (w n : ℕ) (ids : List ℕ) (es : List Entry) → InOrder es →
     (waiting_of (start_all w n ids es) ≡ []) ⊎ (w ≤ length (busy_ids (start_all w n ids es)) + length ids)
 quiet_started w n ids [] h = inl refl
-quiet_started w n ids (Entry.Waits made p ∷ es) h = by (nat_lt (length ids) w) refl (quiet_started w n (least_free ids ∷ ids) es (order_waits es h))
+quiet_started w n ids (Entry.Queued made p ∷ es) h = by (nat_lt (length ids) w) refl (quiet_started w n (least_free ids ∷ ids) es (order_waits es h))
   where
     by : (b : Bool) → nat_lt (length ids) w ≡ b →
         (waiting_of (start_all w n (least_free ids ∷ ids) es) ≡ []) ⊎ (w ≤ length (busy_ids (start_all w n (least_free ids ∷ ids) es)) + suc (length ids)) →
-        (waiting_of (if b then Entry.Started made p (least_free ids) n ∷ start_all w n (least_free ids ∷ ids) es else Entry.Waits made p ∷ es) ≡ [])
-        ⊎ (w ≤ length (busy_ids (if b then Entry.Started made p (least_free ids) n ∷ start_all w n (least_free ids ∷ ids) es else Entry.Waits made p ∷ es)) + length ids)
+        (waiting_of (if b then Entry.Sent made p (least_free ids) n ∷ start_all w n (least_free ids ∷ ids) es else Entry.Queued made p ∷ es) ≡ [])
+        ⊎ (w ≤ length (busy_ids (if b then Entry.Sent made p (least_free ids) n ∷ start_all w n (least_free ids ∷ ids) es else Entry.Queued made p ∷ es)) + length ids)
     by true e (inl k) = inl k
     by true e (inr k) = inr (omega (arith, k))
     by false e k = inr (omega (arith, full_now (length ids) w e))
-quiet_started w n ids (Entry.Started made p id start ∷ es) h =
+quiet_started w n ids (Entry.Sent made p id start ∷ es) h =
     elim (quiet_started w n (id ∷ ids) es h) [ inl k ↦ inl k | inr k ↦ inr (omega (arith, k)) ]
 quiet_started w n ids (Entry.Released made p id start release ∷ es) h =
     elim (quiet_started w n (id ∷ ids) es h) [ inl k ↦ inl k | inr k ↦ inr (omega (arith, k)) ]
-quiet_started w n ids (Entry.Finished made p id start release finish ∷ es) h = quiet_started w n ids es h
+quiet_started w n ids (Entry.Done made p id start release finish ∷ es) h = quiet_started w n ids es h
 
 quiet_in : (w n : ℕ) (session : Option Bool) (beginning : Bool) (connection : Option ConnectionName) (x : ConnectionName) (es : List Entry) → InOrder es → connection ≡ Some x →
     QuietEntries w (in_session session beginning [] (started w n connection es))
@@ -56,11 +56,11 @@ pub quiet_entries : (limits : Limits) (past : Past) (c : Client) (x : Connection
 unfolding entries_of
 quiet_entries limits [] c x e = inl refl
 quiet_entries limits (place ∷ past) c x e =
-    let s : Sound (suc (length past)) (answered_by place.command place.mark (length past) c (entries_of limits past c) ++ map (Entry.Waits (length past)) (queued (copies_at place past c)))
+    let s : Sound (suc (length past)) (answered_by place.command place.mark (length past) c (entries_of limits past c) ++ map (Entry.Queued (length past)) (queued (copies_at place past c)))
     = sound_new (length past) (answered_by place.command place.mark (length past) c (entries_of limits past c)) (queued (copies_at place past c))
     (sound_answered place.command place.mark (length past) c (entries_of limits past c) (sound_entries limits past c)) in
     quiet_in (window_at limits (place ∷ past)) (length past) (clean_session_of (place ∷ past) c) (begins place past c) (current_connection (place ∷ past) c) x
-    (answered_by place.command place.mark (length past) c (entries_of limits past c) ++ map (Entry.Waits (length past)) (queued (copies_at place past c))) s.in_order e
+    (answered_by place.command place.mark (length past) c (entries_of limits past c) ++ map (Entry.Queued (length past)) (queued (copies_at place past c))) s.in_order e
 
 pub quiet_queue : (limits : Limits) (past : Past) (c : Client) (x : ConnectionName) → current_connection past c ≡ Some x →
     Quiet (window_at limits past) (flights_below (length past) (entries_of limits past c)) (waiting_of (entries_of limits past c))
@@ -116,11 +116,11 @@ entries_by w n clean es None false false (Some false) connection a b c = refl
 
 pub entries_next : (limits : Limits) (place : Place) (past : Past) (c : Client) (clean : Bool) → accepts place.command place.mark c ≡ None → ends_any place c (current_connection past c) ≡ false → clean_session_of past c ≡ Some clean →
     entries_of limits (place ∷ past) c
-    ≡ started (window_at limits (place ∷ past)) (length past) (current_connection past c) (answered_by place.command place.mark (length past) c (entries_of limits past c) ++ map (Entry.Waits (length past)) (queued (copies_at place past c)))
+    ≡ started (window_at limits (place ∷ past)) (length past) (current_connection past c) (answered_by place.command place.mark (length past) c (entries_of limits past c) ++ map (Entry.Queued (length past)) (queued (copies_at place past c)))
 unfolding entries_of clean_session_of current_connection
 entries_next limits place past c clean a b e =
     entries_by (window_at limits (place ∷ past)) (length past) clean
-    (answered_by place.command place.mark (length past) c (entries_of limits past c) ++ map (Entry.Waits (length past)) (queued (copies_at place past c)))
+    (answered_by place.command place.mark (length past) c (entries_of limits past c) ++ map (Entry.Queued (length past)) (queued (copies_at place past c)))
     (accepts place.command place.mark c) (expels place.command c) (any_connection (ends place.command place.mark) (current_connection past c)) (clean_session_of past c) (current_connection past c) a b e
 
 none_by : (es : List Entry) (opened : Option (ConnectionName × Bool)) (expelled over : Bool) (session : Option Bool) → opened ≡ None → session ≡ None →
@@ -133,5 +133,5 @@ pub entries_none : (limits : Limits) (place : Place) (past : Past) (c : Client) 
 unfolding entries_of clean_session_of current_connection
 entries_none limits place past c a e =
     none_by (started (window_at limits (place ∷ past)) (length past) (newest_connection (accepts place.command place.mark c) (ends_any place c (current_connection past c)) (current_connection past c))
-    (answered_by place.command place.mark (length past) c (entries_of limits past c) ++ map (Entry.Waits (length past)) (queued (copies_at place past c))))
+    (answered_by place.command place.mark (length past) c (entries_of limits past c) ++ map (Entry.Queued (length past)) (queued (copies_at place past c))))
     (accepts place.command place.mark c) (expels place.command c) (ends_any place c (current_connection past c)) (clean_session_of past c) a e

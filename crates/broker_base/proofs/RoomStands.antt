@@ -30,10 +30,10 @@ use Rattle.broker_base.proofs.QueueAfter.{sound_entries}
 
 all_put : (es : List Entry) → length (busy_ids es) + length (waiting_of es) ≡ length (filter is_unfinished es)
 all_put [] = refl
-all_put (Entry.Waits made p ∷ es) = omega (arith, all_put es)
-all_put (Entry.Started made p id start ∷ es) = omega (arith, all_put es)
+all_put (Entry.Queued made p ∷ es) = omega (arith, all_put es)
+all_put (Entry.Sent made p id start ∷ es) = omega (arith, all_put es)
 all_put (Entry.Released made p id start release ∷ es) = omega (arith, all_put es)
-all_put (Entry.Finished made p id start release finish ∷ es) = all_put es
+all_put (Entry.Done made p id start release finish ∷ es) = all_put es
 
 held_is : (n : ℕ) (es : List Entry) → Sound n es → length (flights_below n es) + length (waiting_of es) ≡ length (filter is_unfinished es)
 held_is n es s =

@@ -13,7 +13,7 @@ use Rattle.broker_base.specs.ClientSession.{ClientSession}
 use Rattle.broker_base.specs.SessionStep.{session_connected}
 use Rattle.broker_base.specs.State.{Sessions, keyed, session_in, put_session}
 use Rattle.broker_base.specs.Step.{session_after, sessions_left, sessions_with}
-use Rattle.broker_base.specs.StateLaws.{AreByClient}
+use Rattle.broker_base.specs.StateTheorems.{AreByClient}
 use Rattle.broker_spec.specs.declared.command.Command.{Command}
 use Rattle.broker_spec.specs.declared.command.Command.TheVariants as commands
 use Rattle.broker_spec.proofs.ClientsInOrder.{greater_turned}

@@ -9,7 +9,7 @@ use Rattle.packet.specs.declared.delivery.Delivery.TheVariants as deliveries
 use Rattle.packet.specs.declared.packet.Packet.TheVariants as packets
 use Rattle.session_base.specs.Identifiers.{without_id}
 use Rattle.session_base.specs.Subscriptions.{GrantedSubscription, with_subscription, with_subscriptions, without_filter, without_filters}
-use Rattle.session_base.specs.KeepingLaws.{AreFiltersApart}
+use Rattle.session_base.specs.KeepingTheorems.{AreFiltersApart}
 use Rattle.session_base.proofs.FiltersApart.{filters_stay_apart}
 use Rattle.session_base.proofs.ReceivedRise.{received_rise}
 use Rattle.broker_spec.specs.Subscriptions.{as_granted, granted_of, subscriptions_after}
@@ -18,7 +18,7 @@ use Rattle.retained.specs.Retained.{RetainedTopics}
 use Rattle.session_base.specs.declared.publication.Publication.{Publication}
 use Rattle.session_base.specs.Publication.{is_answered}
 use Rattle.lists.specs.Lists.{IsDistinct}
-use Rattle.session_base.specs.OrderLaws.{IsReleasedFirst}
+use Rattle.session_base.specs.OrderTheorems.{IsReleasedFirst}
 use Rattle.session_base.specs.Queue.{Flight, Queue, ids_of, on_puback, on_pubrec, on_pubcomp, enqueue, fill, filled}
 use Rattle.session_base.specs.Copies.{copies_left}
 use Rattle.session_base.proofs.IdentifiersOfFills.{fill_apart}
@@ -32,7 +32,7 @@ use Rattle.broker_base.specs.SessionStep.{copies_with, filled_on, answered_queue
 use Rattle.broker_base.specs.State.{State}
 use Rattle.broker_base.specs.Decisions.{place_in}
 use Rattle.broker_base.specs.Step.{touches, session_after, window_after, step}
-use Rattle.broker_base.specs.StateLaws.{IsSoundSession, AllSound}
+use Rattle.broker_base.specs.StateTheorems.{IsSoundSession, AllSound}
 use Rattle.broker_spec.specs.declared.command.Command.{Command}
 use Rattle.broker_spec.specs.declared.command.Command.TheVariants as commands
 use Rattle.broker_base.proofs.RowsKeep.{If, all_left, all_with}

@@ -5,7 +5,7 @@ use Rattle.broker_spec.specs.Place.{Limits}
 use Rattle.broker_base.specs.State.{State, empty_state}
 use Rattle.broker_base.specs.Decisions.{place_in, mark_in}
 use Rattle.broker_base.specs.Step.{window_after, step, state_from}
-use Rattle.broker_base.specs.StateLaws.{AllFilled, IsSound, StaysSound, StaysFilled, StaysInWindow, ListsAreSound}
+use Rattle.broker_base.specs.StateTheorems.{AllFilled, IsSound, StaysSound, StaysFilled, StaysInWindow, ListsAreSound}
 use Rattle.broker_spec.specs.declared.command.Command.{Command}
 use Rattle.broker_base.proofs.FlightsStayInWindow as flights
 use Rattle.broker_base.proofs.QueuesStayFilled as queues

@@ -13,7 +13,7 @@ use Rattle.broker_base.specs.ClientSession.{ClientSession, client_session}
 use Rattle.broker_base.specs.SessionStep.{session_touched}
 use Rattle.broker_base.specs.State.{State, empty_state, state_of}
 use Rattle.broker_base.specs.Step.{touches, step, step_at, state_from, steps_from, IsWindow}
-use Rattle.broker_base.specs.StepLaws.{OthersStay, NoneBegins, StepStandsFor, ListStandsFor, UsualListStandsFor, GrowingListStandsFor}
+use Rattle.broker_base.specs.StepTheorems.{OthersStay, NoneBegins, StepStandsFor, ListStandsFor, UsualListStandsFor, GrowingListStandsFor}
 use Rattle.broker_spec.specs.declared.command.Command.{Command}
 use Rattle.broker_spec.specs.declared.command.Output.{Output}
 use Rattle.broker_base.proofs.KeptAfter.{kept_with, kept_now, filled_step}

@@ -22,7 +22,7 @@ pub record ClientSession : Type 0 where
 
 -- the entries that are sent and neither released nor finished, in flight
 abbrev pub sent_flights : List Entry → List Flight
-sent_flights (Entry.Started made publication id start ∷ entries) =
+sent_flights (Entry.Sent made publication id start ∷ entries) =
     (id, awaited publication) ∷ sent_flights entries
 sent_flights (_ ∷ entries) = sent_flights entries
 sent_flights [] = []

@@ -1,7 +1,7 @@
 pub mod form
 pub mod rows
-pub mod StateLaws
-pub mod StepLaws
+pub mod StateTheorems
+pub mod StepTheorems
 pub mod StepRows
 pub mod State
 pub mod Decisions

@@ -5,7 +5,7 @@ use Rattle.packet.specs.declared.packet.Packet.{Packet}
 use Rattle.packet.specs.declared.packet.Packet.TheVariants as packets
 use Rattle.retained.specs.Retained.{RetainedTopics}
 use Rattle.session_base.specs.Queue.{on_puback, on_pubrec, on_pubcomp}
-use Rattle.session_base.specs.Sending.{fill_sends, resend, pubrec_sends, copies_sent}
+use Rattle.session_base.specs.EntryPackets.{fill_sends, resend, pubrec_sends, copies_sent}
 use Rattle.broker_spec.specs.Connection.{ConnectionName}
 use Rattle.broker_spec.specs.Place.{Client, Mark, Place}
 use Rattle.broker_spec.specs.Sessions.{begins_session}

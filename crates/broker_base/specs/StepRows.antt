@@ -1,7 +1,7 @@
 -- Worked examples, computed by the step: a full queue, the order on a later connection, a window
 -- that grows, and which answers start what waits.
 use Rattle.std.specs.Prelude.{◌≡◌, ℕ, true, false, List, [], ◌∷◌, ◌++◌, Some, codes}
-use Rattle.packet_base.specs.declared.qos.QoS.TheVariants as qualities
+use Rattle.packet_base.specs.declared.qos.QoS.TheVariants as qos_levels
 use Rattle.packet.specs.declared.delivery.Delivery.TheVariants as deliveries
 use Rattle.packet.specs.declared.packet.Packet.TheVariants as packets
 use Rattle.session_base.specs.declared.publication.Publication.{Publication}
@@ -60,7 +60,12 @@ StepsWidenTheWindow =
 -- the publication o at QoS 1, which waits in these rows
 abbrev pub waits_o : Publication
 waits_o =
-    record { retain = false; qos = qualities.AtLeastOnce; topic = codes "t/1"; payload = codes "o" }
+    record {
+      retain = false;
+      qos = qos_levels.AtLeastOnce;
+      topic = codes "t/1";
+      payload = codes "o";
+    }
 
 -- b is served on connection 1, with this queue
 abbrev pub serves_b : Queue → State

@@ -1,9 +1,9 @@
 pub mod Follows
 pub mod InRange
-pub mod RangeLaws
+pub mod RangeTheorems
 pub mod Form
-pub mod FormLaws
+pub mod FormTheorems
 pub mod FormRows
 pub mod FullRow
-pub mod Writing
+pub mod Bytes
 pub mod BrokerRules

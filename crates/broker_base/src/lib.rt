@@ -4,9 +4,9 @@
 
 pub mod form;
 pub mod rows;
-mod step_laws;
+mod step_theorems;
 
-pub use step_laws::{
+pub use step_theorems::{
     decisions_stand_for, entries_start_where_they_are_sent, list_stands_for, others_stay,
     rows_step_by_step, session_step, states_stay_sound, step_stands_for,
 };

@@ -20,7 +20,7 @@ use Rattle.broker_spec.specs.Marks.{mark_of}
 use Rattle.broker_spec.specs.Commands.{place_of}
 use Rattle.broker_spec.specs.Sends.{publish_output, first_output, repeated_output, all_started, resent_outputs, copy_outputs, handed_to, deliveries_to}
 use Rattle.broker_spec.specs.Answers.{close_outputs, welcome, acknowledged, other_answers, packet_answers, connect_answers}
-use Rattle.broker_spec.specs.AnswerLaws.{goes_to, named_in, is_unasked, IsAddressed, AnswersAreAddressed}
+use Rattle.broker_spec.specs.AnswerTheorems.{goes_to, named_in, is_unasked, IsAddressed, AnswersAreAddressed}
 use Rattle.broker_spec.specs.declared.command.Command.{Command}
 use Rattle.broker_spec.specs.declared.command.Command.TheVariants as commands
 use Rattle.broker_spec.specs.declared.command.Output.{Output}
@@ -48,7 +48,7 @@ weaker P Q h (x ∷ xs) a = (h x a.0, weaker P Q h xs a.1)
 abbrev pub Unasked : ConnectionName → Output → Type 0
 Unasked x answer = (goes_to answer ≡ x) × (is_unasked answer ≡ true)
 
-first-by : (x : ConnectionName) (n id : ℕ) (p : Publication) (made start : ℕ) → Each (Unasked x) (first_output x n (Entry.Started made p id start))
+first-by : (x : ConnectionName) (n id : ℕ) (p : Publication) (made start : ℕ) → Each (Unasked x) (first_output x n (Entry.Sent made p id start))
 first-by x n id p made start = by (start == n)
   where
     by : (b : Bool) → Each (Unasked x) (if b then publish_output x false id p ∷ [] else [])
@@ -56,10 +56,10 @@ first-by x n id p made start = by (start == n)
     by false = tt
 
 first-unasked : (x : ConnectionName) (n : ℕ) (e : Entry) → Each (Unasked x) (first_output x n e)
-first-unasked x n (Entry.Waits made p) = tt
-first-unasked x n (Entry.Started made p id start) = first-by x n id p made start
+first-unasked x n (Entry.Queued made p) = tt
+first-unasked x n (Entry.Sent made p id start) = first-by x n id p made start
 first-unasked x n (Entry.Released made p id start release) = tt
-first-unasked x n (Entry.Finished made p id start release finish) = tt
+first-unasked x n (Entry.Done made p id start release finish) = tt
 
 started-unasked : (x : ConnectionName) (n : ℕ) (es : List Entry) → Each (Unasked x) (all_started x n es)
 started-unasked x n es = of-each (Unasked x) (first_output x n) es (first-unasked x n)
@@ -83,14 +83,14 @@ to-them : (x : ConnectionName) (xs : List Output) → Each (Unasked x) xs → Ea
 to-them x xs a = weaker (Unasked x) (To x) (λ answer h. h.0) xs a
 
 again-to : (x : ConnectionName) (n : ℕ) (e : Entry) → Each (To x) (repeated_output x n e)
-again-to x n (Entry.Waits made p) = tt
-again-to x n (Entry.Started made p id start) = by (start == n)
+again-to x n (Entry.Queued made p) = tt
+again-to x n (Entry.Sent made p id start) = by (start == n)
   where
     by : (b : Bool) → Each (To x) (if b then [] else publish_output x true id p ∷ [])
     by true = tt
     by false = (refl, tt)
 again-to x n (Entry.Released made p id start release) = tt
-again-to x n (Entry.Finished made p id start release finish) = tt
+again-to x n (Entry.Done made p id start release finish) = tt
 
 pubrels-to : (x : ConnectionName) (ids : List ℕ) → Each (To x) (map (λ id. Send x (packets.Pubrel id)) ids)
 pubrels-to x [] = tt

@@ -9,7 +9,7 @@ use Rattle.broker_spec.specs.Entries.{copies_at}
 use Rattle.broker_spec.specs.Readings.{made_at}
 use Rattle.broker_spec.specs.Times.{entries_of}
 use Rattle.broker_spec.specs.Sends.{copy_outputs, handed_to, deliveries_to}
-use Rattle.broker_spec.specs.AnswerLaws.{is_unasked}
+use Rattle.broker_spec.specs.AnswerTheorems.{is_unasked}
 use Rattle.broker_spec.specs.declared.command.Output.{Output}
 use Rattle.broker_spec.proofs.AnswersAreAddressed.{Unasked, weaker, of-each, handed-unasked}
 

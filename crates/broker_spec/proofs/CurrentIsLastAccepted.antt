@@ -4,7 +4,7 @@ use Rattle.std.specs.List.{AllByRecursion}
 use Rattle.broker_spec.specs.Connection.{ConnectionName}
 use Rattle.broker_spec.specs.Place.{Client, Place, Past, only_if}
 use Rattle.broker_spec.specs.Sessions.{accepts, ends_any, newest_connection, current_connection}
-use Rattle.broker_spec.specs.Laws.{KeepsConnection, WasOpened, CurrentIsLastAccepted}
+use Rattle.broker_spec.specs.Theorems.{KeepsConnection, WasOpened, CurrentIsLastAccepted}
 
 -- either this place opened it, or it was current before and was kept
 abbrev pub Comes : Option (ConnectionName × Bool) → (Option ConnectionName → Bool) → Option ConnectionName → ConnectionName → Type 0

@@ -16,7 +16,7 @@ use Rattle.broker_spec.specs.Entries.{Entry, copy_of, retained_copy, copies_for,
 use Rattle.broker_spec.specs.Readings.{made_of, publication_in}
 use Rattle.session_base.specs.Identifiers.{least_free}
 use Rattle.broker_spec.specs.Times.{entries_of, window_at, start_all, started}
-use Rattle.broker_spec.specs.OriginLaws.{is_from_publish, EntersOnce}
+use Rattle.broker_spec.specs.OriginTheorems.{is_from_publish, EntersOnce}
 use Rattle.broker_spec.specs.declared.command.Command.{Command}
 use Rattle.broker_spec.specs.declared.command.Command.TheVariants as commands
 use Rattle.broker_spec.proofs.EntriesGrow.{Answered, Answering, answers-by}
@@ -33,10 +33,10 @@ times n (e ∷ es) = one_if (is_from_publish n e) + times n es
 -- ---- answers and starts change none of it
 
 same-kind : (n m : ℕ) (f : Entry → Entry) → Answering m f → (e : Entry) → is_from_publish n (f e) ≡ is_from_publish n e
-same-kind n m f a (Entry.Waits made p) = ap (is_from_publish n) (a (Entry.Waits made p))
-same-kind n m f a (Entry.Started made p id start) = by (a (Entry.Started made p id start))
+same-kind n m f a (Entry.Queued made p) = ap (is_from_publish n) (a (Entry.Queued made p))
+same-kind n m f a (Entry.Sent made p id start) = by (a (Entry.Sent made p id start))
   where
-    by : Answered m (Entry.Started made p id start) (f (Entry.Started made p id start)) → is_from_publish n (f (Entry.Started made p id start)) ≡ is_from_publish n (Entry.Started made p id start)
+    by : Answered m (Entry.Sent made p id start) (f (Entry.Sent made p id start)) → is_from_publish n (f (Entry.Sent made p id start)) ≡ is_from_publish n (Entry.Sent made p id start)
     by (inl e) = ap (is_from_publish n) e
     by (inr (inl e)) = ap (is_from_publish n) e
     by (inr (inr e)) = ap (is_from_publish n) e
@@ -45,7 +45,7 @@ same-kind n m f a (Entry.Released made p id start release) = by (a (Entry.Releas
     by : Answered m (Entry.Released made p id start release) (f (Entry.Released made p id start release)) → is_from_publish n (f (Entry.Released made p id start release)) ≡ is_from_publish n (Entry.Released made p id start release)
     by (inl e) = ap (is_from_publish n) e
     by (inr e) = ap (is_from_publish n) e
-same-kind n m f a (Entry.Finished made p id start release finish) = ap (is_from_publish n) (a (Entry.Finished made p id start release finish))
+same-kind n m f a (Entry.Done made p id start release finish) = ap (is_from_publish n) (a (Entry.Done made p id start release finish))
 
 pub times-answered : (n m : ℕ) (f : Entry → Entry) → Answering m f → (es : List Entry) → times n (map f es) ≡ times n es
 times-answered n m f a [] = refl
@@ -57,16 +57,16 @@ times-more n (e ∷ es) more = let h = times-more n es more in omega (arith, h)
 
 start-by : (n w m : ℕ) (busy : List ℕ) (made : ℕ) (p : Publication) (es : List Entry) → times n (start_all w m (least_free busy ∷ busy) es) ≡ times n es
     → (b : Bool)
-    → times n (if b then Entry.Started made p (least_free busy) m ∷ start_all w m (least_free busy ∷ busy) es else Entry.Waits made p ∷ es) ≡ times n (Entry.Waits made p ∷ es)
-start-by n w m busy made p es ih true = ap (λ z. one_if (is_from_publish n (Entry.Waits made p)) + z) ih
+    → times n (if b then Entry.Sent made p (least_free busy) m ∷ start_all w m (least_free busy ∷ busy) es else Entry.Queued made p ∷ es) ≡ times n (Entry.Queued made p ∷ es)
+start-by n w m busy made p es ih true = ap (λ z. one_if (is_from_publish n (Entry.Queued made p)) + z) ih
 start-by n w m busy made p es ih false = refl
 
 times-start : (n w m : ℕ) (busy : List ℕ) (es : List Entry) → times n (start_all w m busy es) ≡ times n es
 times-start n w m busy [] = refl
-times-start n w m busy (Entry.Waits made p ∷ es) = start-by n w m busy made p es (times-start n w m (least_free busy ∷ busy) es) (nat_lt (length busy) w)
-times-start n w m busy (Entry.Started made p id start ∷ es) = ap (λ z. one_if (is_from_publish n (Entry.Waits made p)) + z) (times-start n w m (id ∷ busy) es)
-times-start n w m busy (Entry.Released made p id start release ∷ es) = ap (λ z. one_if (is_from_publish n (Entry.Waits made p)) + z) (times-start n w m (id ∷ busy) es)
-times-start n w m busy (Entry.Finished made p id start release finish ∷ es) = ap (λ z. one_if (is_from_publish n (Entry.Waits made p)) + z) (times-start n w m busy es)
+times-start n w m busy (Entry.Queued made p ∷ es) = start-by n w m busy made p es (times-start n w m (least_free busy ∷ busy) es) (nat_lt (length busy) w)
+times-start n w m busy (Entry.Sent made p id start ∷ es) = ap (λ z. one_if (is_from_publish n (Entry.Queued made p)) + z) (times-start n w m (id ∷ busy) es)
+times-start n w m busy (Entry.Released made p id start release ∷ es) = ap (λ z. one_if (is_from_publish n (Entry.Queued made p)) + z) (times-start n w m (id ∷ busy) es)
+times-start n w m busy (Entry.Done made p id start release finish ∷ es) = ap (λ z. one_if (is_from_publish n (Entry.Queued made p)) + z) (times-start n w m busy es)
 
 pub times-started : (n w m : ℕ) (current : Option ConnectionName) (es : List Entry) → times n (started w m current es) ≡ times n es
 times-started n w m None es = refl
@@ -84,7 +84,7 @@ and-less true b = omega arith
 and-less false true = omega arith
 and-less false false = omega arith
 
-pub times-new : (n m : ℕ) (ps : List Publication) → times n (map (Entry.Waits m) ps) ≤ fresh ps
+pub times-new : (n m : ℕ) (ps : List Publication) → times n (map (Entry.Queued m) ps) ≤ fresh ps
 times-new n m [] = omega arith
 times-new n m (p ∷ ps) = let h = times-new n m ps in let g = and-less (m == n) (not p.retain) in omega (arith, h, g)
 
@@ -92,7 +92,7 @@ other-place : (a b : Bool) → a ≡ false → one_if (a && b) ≡ 0
 other-place false b e = refl
 other-place true b e = cc
 
-pub times-elsewhere : (n m : ℕ) (ps : List Publication) → (m == n) ≡ false → times n (map (Entry.Waits m) ps) ≡ 0
+pub times-elsewhere : (n m : ℕ) (ps : List Publication) → (m == n) ≡ false → times n (map (Entry.Queued m) ps) ≡ 0
 times-elsewhere n m [] e = refl
 times-elsewhere n m (p ∷ ps) e = let h = times-elsewhere n m ps e in let g = other-place (m == n) (not p.retain) e in omega (arith, h, g)
 
@@ -175,10 +175,10 @@ none-yet n (e ∷ es) h =
     let i = none-yet n es h.1 in omega (arith, g, i)
 
 same-place : (m : ℕ) (f : Entry → Entry) → Answering m f → (e : Entry) → made_of (f e) ≡ made_of e
-same-place m f a (Entry.Waits made p) = ap made_of (a (Entry.Waits made p))
-same-place m f a (Entry.Started made p id start) = by (a (Entry.Started made p id start))
+same-place m f a (Entry.Queued made p) = ap made_of (a (Entry.Queued made p))
+same-place m f a (Entry.Sent made p id start) = by (a (Entry.Sent made p id start))
   where
-    by : Answered m (Entry.Started made p id start) (f (Entry.Started made p id start)) → made_of (f (Entry.Started made p id start)) ≡ made
+    by : Answered m (Entry.Sent made p id start) (f (Entry.Sent made p id start)) → made_of (f (Entry.Sent made p id start)) ≡ made
     by (inl e) = ap made_of e
     by (inr (inl e)) = ap made_of e
     by (inr (inr e)) = ap made_of e
@@ -187,13 +187,13 @@ same-place m f a (Entry.Released made p id start release) = by (a (Entry.Release
     by : Answered m (Entry.Released made p id start release) (f (Entry.Released made p id start release)) → made_of (f (Entry.Released made p id start release)) ≡ made
     by (inl e) = ap made_of e
     by (inr e) = ap made_of e
-same-place m f a (Entry.Finished made p id start release finish) = ap made_of (a (Entry.Finished made p id start release finish))
+same-place m f a (Entry.Done made p id start release finish) = ap made_of (a (Entry.Done made p id start release finish))
 
 below-answered : (n m : ℕ) (f : Entry → Entry) → Answering m f → (es : List Entry) → MadeBelow n es → MadeBelow n (map f es)
 below-answered n m f a [] h = tt
 below-answered n m f a (e ∷ es) h = (rw (same-place m f a e) h.0, below-answered n m f a es h.1)
 
-below-new : (n : ℕ) (ps : List Publication) → MadeBelow (suc n) (map (Entry.Waits n) ps)
+below-new : (n : ℕ) (ps : List Publication) → MadeBelow (suc n) (map (Entry.Queued n) ps)
 below-new n [] = tt
 below-new n (p ∷ ps) = (omega arith, below-new n ps)
 
@@ -202,16 +202,16 @@ below-more n [] more h m = m
 below-more n (e ∷ es) more h m = ((let l = h.0 in omega (arith, l)), below-more n es more h.1 m)
 
 below-by : (n w m : ℕ) (busy : List ℕ) (made : ℕ) (p : Publication) (es : List Entry) → (made < n) × MadeBelow n es → MadeBelow n (start_all w m (least_free busy ∷ busy) es)
-    → (b : Bool) → MadeBelow n (if b then Entry.Started made p (least_free busy) m ∷ start_all w m (least_free busy ∷ busy) es else Entry.Waits made p ∷ es)
+    → (b : Bool) → MadeBelow n (if b then Entry.Sent made p (least_free busy) m ∷ start_all w m (least_free busy ∷ busy) es else Entry.Queued made p ∷ es)
 below-by n w m busy made p es h ih true = (h.0, ih)
 below-by n w m busy made p es h ih false = h
 
 below-start : (n w m : ℕ) (busy : List ℕ) (es : List Entry) → MadeBelow n es → MadeBelow n (start_all w m busy es)
 below-start n w m busy [] h = tt
-below-start n w m busy (Entry.Waits made p ∷ es) h = below-by n w m busy made p es h (below-start n w m (least_free busy ∷ busy) es h.1) (nat_lt (length busy) w)
-below-start n w m busy (Entry.Started made p id start ∷ es) h = (h.0, below-start n w m (id ∷ busy) es h.1)
+below-start n w m busy (Entry.Queued made p ∷ es) h = below-by n w m busy made p es h (below-start n w m (least_free busy ∷ busy) es h.1) (nat_lt (length busy) w)
+below-start n w m busy (Entry.Sent made p id start ∷ es) h = (h.0, below-start n w m (id ∷ busy) es h.1)
 below-start n w m busy (Entry.Released made p id start release ∷ es) h = (h.0, below-start n w m (id ∷ busy) es h.1)
-below-start n w m busy (Entry.Finished made p id start release finish ∷ es) h = (h.0, below-start n w m busy es h.1)
+below-start n w m busy (Entry.Done made p id start release finish ∷ es) h = (h.0, below-start n w m busy es h.1)
 
 below-started : (n w m : ℕ) (current : Option ConnectionName) (es : List Entry) → MadeBelow n es → MadeBelow n (started w m current es)
 below-started n w m None es h = h
@@ -230,15 +230,15 @@ made-below limits (place ∷ past) c =
     below-kept (suc (length past)) (clean_session_of (place ∷ past) c) (begins place past c) _
     (rw (by.done_is (entries_of limits past c))
     (below-started (suc (length past)) (window_at limits (place ∷ past)) (length past) (current_connection (place ∷ past) c)
-    (map by.on_each (entries_of limits past c) ++ map (Entry.Waits (length past)) (queued (copies_at place past c)))
-    (below-more (length past) (map by.on_each (entries_of limits past c)) (map (Entry.Waits (length past)) (queued (copies_at place past c)))
+    (map by.on_each (entries_of limits past c) ++ map (Entry.Queued (length past)) (queued (copies_at place past c)))
+    (below-more (length past) (map by.on_each (entries_of limits past c)) (map (Entry.Queued (length past)) (queued (copies_at place past c)))
     (below-answered (length past) (length past) by.on_each by.answering (entries_of limits past c) (made-below limits past c))
     (below-new (length past) (queued (copies_at place past c))))))
 
 -- ---- at most once
 
 once-by : (n m : ℕ) (es : List Entry) (ps : List Publication) → MadeBelow m es → times n es ≤ 1 → fresh ps ≤ 1 → (b : Bool) → (m == n) ≡ b
-    → times n es + times n (map (Entry.Waits m) ps) ≤ 1
+    → times n es + times n (map (Entry.Queued m) ps) ≤ 1
 once-by n m es ps below before made true e =
     let s : m ≡ n = grind (arith, e) in let z = none-yet m es below in let t = ap (λ k. times k es) s in
     let h = times-new n m ps in omega (arith, z, t, h, made)
@@ -257,8 +257,8 @@ once limits (place ∷ past) c n =
     times-kept n (clean_session_of (place ∷ past) c) (begins place past c) _
     (rw (
       by.done_is (entries_of limits past c),
-      times-started n (window_at limits (place ∷ past)) (length past) (current_connection (place ∷ past) c) (map by.on_each (entries_of limits past c) ++ map (Entry.Waits (length past)) (queued (copies_at place past c))),
-      times-more n (map by.on_each (entries_of limits past c)) (map (Entry.Waits (length past)) (queued (copies_at place past c))),
+      times-started n (window_at limits (place ∷ past)) (length past) (current_connection (place ∷ past) c) (map by.on_each (entries_of limits past c) ++ map (Entry.Queued (length past)) (queued (copies_at place past c))),
+      times-more n (map by.on_each (entries_of limits past c)) (map (Entry.Queued (length past)) (queued (copies_at place past c))),
       times-answered n (length past) by.on_each by.answering (entries_of limits past c),
     )
     (once-by n (length past) (entries_of limits past c) (queued (copies_at place past c)) (made-below limits past c) (once limits past c n)

@@ -9,7 +9,7 @@ use Rattle.broker_spec.specs.Subscriptions.{granted_of}
 use Rattle.broker_spec.specs.Retained.{retained_publications}
 use Rattle.broker_spec.specs.Entries.{Entry, copies_for_all, copies_by, copies_at, queued}
 use Rattle.broker_spec.specs.Times.{entries_of, window_at}
-use Rattle.broker_spec.specs.TakenLaws.{takes_publication, EntersWhereTaken}
+use Rattle.broker_spec.specs.TakenTheorems.{takes_publication, EntersWhereTaken}
 use Rattle.broker_spec.specs.declared.command.Command.{Command}
 use Rattle.broker_spec.specs.declared.command.Command.TheVariants as commands
 use Rattle.broker_spec.proofs.EntriesGrow.{answers-by}
@@ -65,12 +65,12 @@ none_kept n None beginning es e = refl
 
 -- it adds what its copies are
 one_more : (limits : Limits) (place : Place) (past : Past) (c : Client) (n : ℕ) → times n (entries_of limits past c) ≡ 0
-    → times n (map (Entry.Waits (length past)) (queued (copies_at place past c))) ≡ 0 → times n (entries_of limits (place ∷ past) c) ≡ 0
+    → times n (map (Entry.Queued (length past)) (queued (copies_at place past c))) ≡ 0 → times n (entries_of limits (place ∷ past) c) ≡ 0
 unfolding entries_of
 one_more limits place past c n before new =
     let by = answers-by place.command place.mark (length past) c in
     let old = entries_of limits past c in
-    let more = map (Entry.Waits (length past)) (queued (copies_at place past c)) in
+    let more = map (Entry.Queued (length past)) (queued (copies_at place past c)) in
     none_kept n (clean_session_of (place ∷ past) c) (begins place past c) _
     (rw (
       by.done_is old,

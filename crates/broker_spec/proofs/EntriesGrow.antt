@@ -11,7 +11,7 @@ use Rattle.session_base.specs.Publication.{is_qos1}
 use Rattle.broker_spec.specs.Entries.{Entry, copies_at, queued}
 use Rattle.session_base.specs.Identifiers.{least_free}
 use Rattle.broker_spec.specs.Times.{entries_of, window_at, start_all, started, answered_by, at_puback, at_pubrec, at_pubcomp}
-use Rattle.broker_spec.specs.EntryLaws.{EntryGoesOn, GrowsTo, IsMadeAt, EntriesOnlyGrow}
+use Rattle.broker_spec.specs.EntryTheorems.{EntryGoesOn, GrowsTo, IsMadeAt, EntriesOnlyGrow}
 use Rattle.broker_spec.specs.declared.command.Command.{Command}
 use Rattle.broker_spec.specs.declared.command.Command.TheVariants as commands
 
@@ -19,47 +19,47 @@ use Rattle.broker_spec.specs.declared.command.Command.TheVariants as commands
 
 -- the same as going on, but nothing starts
 abbrev pub Answered : ℕ → Entry → Entry → Type 0
-Answered n (Entry.Waits made p) later = later ≡ Entry.Waits made p
+Answered n (Entry.Queued made p) later = later ≡ Entry.Queued made p
 Answered n entry later = EntryGoesOn n entry later
 
 abbrev pub Answering : ℕ → (Entry → Entry) → Type 0
 Answering n f = (entry : Entry) → Answered n entry (f entry)
 
 nothing-answers : (n : ℕ) → Answering n (λ entry. entry)
-nothing-answers n (Entry.Waits made p) = refl
-nothing-answers n (Entry.Started made p id start) = inl refl
+nothing-answers n (Entry.Queued made p) = refl
+nothing-answers n (Entry.Sent made p id start) = inl refl
 nothing-answers n (Entry.Released made p id start release) = inl refl
-nothing-answers n (Entry.Finished made p id start release finish) = refl
+nothing-answers n (Entry.Done made p id start release finish) = refl
 
 puback-answers : (n i : ℕ) → Answering n (at_puback n i)
-puback-answers n i (Entry.Waits made p) = refl
-puback-answers n i (Entry.Started made p id start) = by ((i == id) && is_qos1 p.qos)
+puback-answers n i (Entry.Queued made p) = refl
+puback-answers n i (Entry.Sent made p id start) = by ((i == id) && is_qos1 p.qos)
   where
-    by : (b : Bool) → Answered n (Entry.Started made p id start) (if b then Entry.Finished made p id start None n else Entry.Started made p id start)
+    by : (b : Bool) → Answered n (Entry.Sent made p id start) (if b then Entry.Done made p id start None n else Entry.Sent made p id start)
     by true = inr (inr refl)
     by false = inl refl
 puback-answers n i (Entry.Released made p id start release) = inl refl
-puback-answers n i (Entry.Finished made p id start release finish) = refl
+puback-answers n i (Entry.Done made p id start release finish) = refl
 
 pubrec-answers : (n i : ℕ) → Answering n (at_pubrec n i)
-pubrec-answers n i (Entry.Waits made p) = refl
-pubrec-answers n i (Entry.Started made p id start) = by ((i == id) && not (is_qos1 p.qos))
+pubrec-answers n i (Entry.Queued made p) = refl
+pubrec-answers n i (Entry.Sent made p id start) = by ((i == id) && not (is_qos1 p.qos))
   where
-    by : (b : Bool) → Answered n (Entry.Started made p id start) (if b then Entry.Released made p id start n else Entry.Started made p id start)
+    by : (b : Bool) → Answered n (Entry.Sent made p id start) (if b then Entry.Released made p id start n else Entry.Sent made p id start)
     by true = inr (inl refl)
     by false = inl refl
 pubrec-answers n i (Entry.Released made p id start release) = inl refl
-pubrec-answers n i (Entry.Finished made p id start release finish) = refl
+pubrec-answers n i (Entry.Done made p id start release finish) = refl
 
 pubcomp-answers : (n i : ℕ) → Answering n (at_pubcomp n i)
-pubcomp-answers n i (Entry.Waits made p) = refl
-pubcomp-answers n i (Entry.Started made p id start) = inl refl
+pubcomp-answers n i (Entry.Queued made p) = refl
+pubcomp-answers n i (Entry.Sent made p id start) = inl refl
 pubcomp-answers n i (Entry.Released made p id start release) = by (i == id)
   where
-    by : (b : Bool) → Answered n (Entry.Released made p id start release) (if b then Entry.Finished made p id start (Some release) n else Entry.Released made p id start release)
+    by : (b : Bool) → Answered n (Entry.Released made p id start release) (if b then Entry.Done made p id start (Some release) n else Entry.Released made p id start release)
     by true = inr refl
     by false = inl refl
-pubcomp-answers n i (Entry.Finished made p id start release finish) = refl
+pubcomp-answers n i (Entry.Done made p id start release finish) = refl
 
 -- what a command does to the entries of a client is one of these, on each of them
 pub record AnswersBy (n : ℕ) (done : List Entry → List Entry) : Type 0 where
@@ -124,47 +124,47 @@ answers-by (commands.Expel d) m n c = no-answer n
 
 -- ---- growing
 
-new-wait : (n : ℕ) (ps : List Publication) → AllByRecursion (IsMadeAt n) (map (Entry.Waits n) ps)
+new-wait : (n : ℕ) (ps : List Publication) → AllByRecursion (IsMadeAt n) (map (Entry.Queued n) ps)
 new-wait n [] = tt
 new-wait n (p ∷ ps) = (refl, new-wait n ps)
 
-new-start : (w n : ℕ) (busy : List ℕ) (ps : List Publication) → AllByRecursion (IsMadeAt n) (start_all w n busy (map (Entry.Waits n) ps))
+new-start : (w n : ℕ) (busy : List ℕ) (ps : List Publication) → AllByRecursion (IsMadeAt n) (start_all w n busy (map (Entry.Queued n) ps))
 new-start w n busy [] = tt
 new-start w n busy (p ∷ ps) = by (nat_lt (length busy) w) (new-start w n (least_free busy ∷ busy) ps)
   where
-    by : (b : Bool) → AllByRecursion (IsMadeAt n) (start_all w n (least_free busy ∷ busy) (map (Entry.Waits n) ps))
-        → AllByRecursion (IsMadeAt n) (if b then Entry.Started n p (least_free busy) n ∷ start_all w n (least_free busy ∷ busy) (map (Entry.Waits n) ps) else Entry.Waits n p ∷ map (Entry.Waits n) ps)
+    by : (b : Bool) → AllByRecursion (IsMadeAt n) (start_all w n (least_free busy ∷ busy) (map (Entry.Queued n) ps))
+        → AllByRecursion (IsMadeAt n) (if b then Entry.Sent n p (least_free busy) n ∷ start_all w n (least_free busy ∷ busy) (map (Entry.Queued n) ps) else Entry.Queued n p ∷ map (Entry.Queued n) ps)
     by true ih = ((refl, refl), ih)
     by false ih = (refl, new-wait n ps)
 
 goes-on : (n : ℕ) (entry later : Entry) → Answered n entry later → EntryGoesOn n entry later
-goes-on n (Entry.Waits made p) later a = inl a
-goes-on n (Entry.Started made p id start) later a = a
+goes-on n (Entry.Queued made p) later a = inl a
+goes-on n (Entry.Sent made p id start) later a = a
 goes-on n (Entry.Released made p id start release) later a = a
-goes-on n (Entry.Finished made p id start release finish) later a = a
+goes-on n (Entry.Done made p id start release finish) later a = a
 
 -- without a start
-grows-offline : (n : ℕ) (f : Entry → Entry) → Answering n f → (es : List Entry) (ps : List Publication) → GrowsTo n es (map f es ++ map (Entry.Waits n) ps)
+grows-offline : (n : ℕ) (f : Entry → Entry) → Answering n f → (es : List Entry) (ps : List Publication) → GrowsTo n es (map f es ++ map (Entry.Queued n) ps)
 grows-offline n f a [] ps = new-wait n ps
 grows-offline n f a (e ∷ es) ps = (goes-on n e (f e) (a e), grows-offline n f a es ps)
 
 -- with what starts
 pub grows-online : (w n : ℕ) (busy : List ℕ) (f : Entry → Entry) → Answering n f → (es : List Entry) (ps : List Publication)
-    → GrowsTo n es (start_all w n busy (map f es ++ map (Entry.Waits n) ps))
+    → GrowsTo n es (start_all w n busy (map f es ++ map (Entry.Queued n) ps))
 grows-online w n busy f a [] ps = new-start w n busy ps
-grows-online w n busy f a (Entry.Waits made p ∷ es) ps =
-    rw (a (Entry.Waits made p)) (by (nat_lt (length busy) w) (grows-online w n (least_free busy ∷ busy) f a es ps))
+grows-online w n busy f a (Entry.Queued made p ∷ es) ps =
+    rw (a (Entry.Queued made p)) (by (nat_lt (length busy) w) (grows-online w n (least_free busy ∷ busy) f a es ps))
   where
-    by : (b : Bool) → GrowsTo n es (start_all w n (least_free busy ∷ busy) (map f es ++ map (Entry.Waits n) ps))
-        → GrowsTo n (Entry.Waits made p ∷ es) (if b then Entry.Started made p (least_free busy) n ∷ start_all w n (least_free busy ∷ busy) (map f es ++ map (Entry.Waits n) ps) else Entry.Waits made p ∷ (map f es ++ map (Entry.Waits n) ps))
+    by : (b : Bool) → GrowsTo n es (start_all w n (least_free busy ∷ busy) (map f es ++ map (Entry.Queued n) ps))
+        → GrowsTo n (Entry.Queued made p ∷ es) (if b then Entry.Sent made p (least_free busy) n ∷ start_all w n (least_free busy ∷ busy) (map f es ++ map (Entry.Queued n) ps) else Entry.Queued made p ∷ (map f es ++ map (Entry.Queued n) ps))
     by true ih = (inr (least_free busy, refl), ih)
     by false ih = (inl refl, grows-offline n f a es ps)
-grows-online w n busy f a (Entry.Started made p id start ∷ es) ps =
-    by (a (Entry.Started made p id start)) (λ ids. grows-online w n ids f a es ps)
+grows-online w n busy f a (Entry.Sent made p id start ∷ es) ps =
+    by (a (Entry.Sent made p id start)) (λ ids. grows-online w n ids f a es ps)
   where
-    by : Answered n (Entry.Started made p id start) (f (Entry.Started made p id start))
-        → ((ids : List ℕ) → GrowsTo n es (start_all w n ids (map f es ++ map (Entry.Waits n) ps)))
-        → GrowsTo n (Entry.Started made p id start ∷ es) (start_all w n busy (f (Entry.Started made p id start) ∷ (map f es ++ map (Entry.Waits n) ps)))
+    by : Answered n (Entry.Sent made p id start) (f (Entry.Sent made p id start))
+        → ((ids : List ℕ) → GrowsTo n es (start_all w n ids (map f es ++ map (Entry.Queued n) ps)))
+        → GrowsTo n (Entry.Sent made p id start ∷ es) (start_all w n busy (f (Entry.Sent made p id start) ∷ (map f es ++ map (Entry.Queued n) ps)))
     by (inl e) ih = rw e (inl refl, ih (id ∷ busy))
     by (inr (inl e)) ih = rw e (inr (inl refl), ih (id ∷ busy))
     by (inr (inr e)) ih = rw e (inr (inr refl), ih busy)
@@ -172,15 +172,15 @@ grows-online w n busy f a (Entry.Released made p id start release ∷ es) ps =
     by (a (Entry.Released made p id start release)) (λ ids. grows-online w n ids f a es ps)
   where
     by : Answered n (Entry.Released made p id start release) (f (Entry.Released made p id start release))
-        → ((ids : List ℕ) → GrowsTo n es (start_all w n ids (map f es ++ map (Entry.Waits n) ps)))
-        → GrowsTo n (Entry.Released made p id start release ∷ es) (start_all w n busy (f (Entry.Released made p id start release) ∷ (map f es ++ map (Entry.Waits n) ps)))
+        → ((ids : List ℕ) → GrowsTo n es (start_all w n ids (map f es ++ map (Entry.Queued n) ps)))
+        → GrowsTo n (Entry.Released made p id start release ∷ es) (start_all w n busy (f (Entry.Released made p id start release) ∷ (map f es ++ map (Entry.Queued n) ps)))
     by (inl e) ih = rw e (inl refl, ih (id ∷ busy))
     by (inr e) ih = rw e (inr refl, ih busy)
-grows-online w n busy f a (Entry.Finished made p id start release finish ∷ es) ps =
-    rw (a (Entry.Finished made p id start release finish)) (refl, grows-online w n busy f a es ps)
+grows-online w n busy f a (Entry.Done made p id start release finish ∷ es) ps =
+    rw (a (Entry.Done made p id start release finish)) (refl, grows-online w n busy f a es ps)
 
 grows : (w n : ℕ) (current : Option ConnectionName) (f : Entry → Entry) → Answering n f → (es : List Entry) (ps : List Publication)
-    → GrowsTo n es (started w n current (map f es ++ map (Entry.Waits n) ps))
+    → GrowsTo n es (started w n current (map f es ++ map (Entry.Queued n) ps))
 grows w n None f a es ps = grows-offline n f a es ps
 grows w n (Some x) f a es ps = grows-online w n [] f a es ps
 

@@ -10,7 +10,7 @@ use Rattle.broker_spec.specs.Place.{Client, same_client, Mark}
 use Rattle.broker_spec.specs.Sessions.{clean_session_of, begins, in_session}
 use Rattle.broker_spec.specs.Subscriptions.{as_granted, granted_of, subscriptions_after, subscriptions_of, qos_asked}
 use Rattle.session_base.specs.Subscriptions.{GrantedSubscription, with_subscription, with_subscriptions, without_filter, without_filters}
-use Rattle.broker_spec.specs.Laws.{newer_of_two, either, last_qos, word_on, last_granting, FilterHasLastGranting}
+use Rattle.broker_spec.specs.Theorems.{newer_of_two, either, last_qos, word_on, last_granting, FilterHasLastGranting}
 use Rattle.broker_spec.specs.declared.command.Command.{Command}
 use Rattle.broker_spec.specs.declared.command.Command.TheVariants as commands
 

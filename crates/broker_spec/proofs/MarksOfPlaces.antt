@@ -3,7 +3,7 @@ use Rattle.std.proofs.Common.{◌≡◌, List, [], ◌∷◌, ◌++◌, refl, ap
 use Rattle.broker_spec.specs.Place.{Place, Past, Limits}
 use Rattle.broker_spec.specs.Marks.{mark_of}
 use Rattle.broker_spec.specs.Commands.{place_of, past_from, past_of}
-use Rattle.broker_spec.specs.EndingLaws.{StandsAt}
+use Rattle.broker_spec.specs.EndingTheorems.{StandsAt}
 use Rattle.broker_spec.specs.declared.command.Command.{Command}
 
 -- each place has the mark that the places below it decide

@@ -8,8 +8,8 @@ use Rattle.broker_spec.specs.Place.{Client, Mark, Place, Past, Limits, only_if, 
 use Rattle.broker_spec.specs.Sessions.{accepts, ends, expels, ends_any, any_connection, newest_clean_session, is_beginning, current_connection, clean_session_of, session_start}
 use Rattle.broker_spec.specs.Commands.{place_of}
 use Rattle.broker_spec.specs.AnswersInOrder.{answers_at}
-use Rattle.broker_spec.specs.Laws.{KeepsConnection}
-use Rattle.broker_spec.specs.EndingLaws.{connects_of, EndsWithTheSession, NothingAfterTheEnd}
+use Rattle.broker_spec.specs.Theorems.{KeepsConnection}
+use Rattle.broker_spec.specs.EndingTheorems.{connects_of, EndsWithTheSession, NothingAfterTheEnd}
 use Rattle.broker_spec.specs.declared.command.Command.{Command}
 use Rattle.broker_spec.specs.declared.command.Command.TheVariants as commands
 use Rattle.broker_spec.specs.declared.command.Output.TheVariants.{Send}

@@ -15,7 +15,7 @@ use Rattle.broker_spec.specs.Entries.{Entry, copies_by}
 use Rattle.session_base.specs.Identifiers.{least_free}
 use Rattle.broker_spec.specs.Times.{entries_of, window_at, start_all, started, answered_by}
 use Rattle.broker_spec.specs.Answers.{packet_answers}
-use Rattle.broker_spec.specs.NobodyLaws.{IsSteady, PacketOfNobodyIsNothing, WindowIsSteady}
+use Rattle.broker_spec.specs.NobodyTheorems.{IsSteady, PacketOfNobodyIsNothing, WindowIsSteady}
 use Rattle.broker_spec.specs.declared.command.Command.TheVariants as commands
 use Rattle.broker_spec.proofs.NothingWaits.{IsFull, full-at}
 
@@ -188,15 +188,15 @@ same-received past x packet c =
 
 stays : (w n : ℕ) (busy : List ℕ) (es : List Entry) → IsFull w (length busy) es → start_all w n busy es ≡ es
 stays w n busy [] f = refl
-stays w n busy (Entry.Waits made p ∷ es) f = by (nat_lt (length busy) w) refl
+stays w n busy (Entry.Queued made p ∷ es) f = by (nat_lt (length busy) w) refl
   where
     by : (b : Bool) → nat_lt (length busy) w ≡ b
-        → (if b then Entry.Started made p (least_free busy) n ∷ start_all w n (least_free busy ∷ busy) es else Entry.Waits made p ∷ es) ≡ Entry.Waits made p ∷ es
+        → (if b then Entry.Sent made p (least_free busy) n ∷ start_all w n (least_free busy ∷ busy) es else Entry.Queued made p ∷ es) ≡ Entry.Queued made p ∷ es
     by true e = let g : w ≤ length busy = f.0 in grind (arith, e, g)
     by false e = refl
-stays w n busy (Entry.Started made p id start ∷ es) f = ap (λ z. Entry.Started made p id start ∷ z) (stays w n (id ∷ busy) es f)
+stays w n busy (Entry.Sent made p id start ∷ es) f = ap (λ z. Entry.Sent made p id start ∷ z) (stays w n (id ∷ busy) es f)
 stays w n busy (Entry.Released made p id start release ∷ es) f = ap (λ z. Entry.Released made p id start release ∷ z) (stays w n (id ∷ busy) es f)
-stays w n busy (Entry.Finished made p id start release finish ∷ es) f = ap (λ z. Entry.Finished made p id start release finish ∷ z) (stays w n busy es f)
+stays w n busy (Entry.Done made p id start release finish ∷ es) f = ap (λ z. Entry.Done made p id start release finish ∷ z) (stays w n busy es f)
 
 starts-nothing : (w n : ℕ) (current : Option ConnectionName) (es : List Entry) → (current ≡ None) ⊎ IsFull w 0 es → started w n current es ≡ es
 starts-nothing w n None es q = refl

@@ -2,7 +2,7 @@
 use Rattle.std.proofs.Common.{◌≡◌, ℕ, Bool, true, false, ◌&&◌, ◌==◌, if◌then◌else◌, [], ◌∷◌, ◌++◌, length, map, Option, Some, None, refl, sym, ◌∙◌, ap, arith}
 use Rattle.std.specs.Prelude.{option_map}
 use Rattle.packet_base.specs.declared.qos.QoS.{QoS}
-use Rattle.packet_base.specs.declared.qos.QoS.TheVariants as qualities
+use Rattle.packet_base.specs.declared.qos.QoS.TheVariants as qos_levels
 use Rattle.packet.specs.declared.publish.Publish.{Publish}
 use Rattle.session_base.specs.declared.publication.Publication.{Publication}
 use Rattle.session_base.specs.Publication.{publication_of}
@@ -15,7 +15,7 @@ use Rattle.broker_spec.specs.Subscriptions.{subscriptions_of, effective_qos}
 use Rattle.broker_spec.specs.Marks.{is_queued_at}
 use Rattle.broker_spec.specs.Entries.{Entry, copy_of, queued}
 use Rattle.broker_spec.specs.Times.{entries_of, window_at, started}
-use Rattle.broker_spec.specs.EntryLaws.{place_of_taken, PublicationEnters}
+use Rattle.broker_spec.specs.EntryTheorems.{place_of_taken, PublicationEnters}
 use Rattle.broker_spec.proofs.EntersOnce.{times, times-started, times-more, none-yet, made-below, count}
 
 -- ---- if there is no session there is no filter
@@ -58,11 +58,11 @@ pub same_number : (n : ℕ) → (n == n) ≡ true
 same_number n = grind arith
 
 -- the copy is of this place, and has RETAIN 0
-times_copy : (n : ℕ) (p : Publication) (qos : Option QoS) → times n (map (Entry.Waits n) (queued (copy_of p qos))) ≡ (if is_queued_at qos then 1 else 0)
+times_copy : (n : ℕ) (p : Publication) (qos : Option QoS) → times n (map (Entry.Queued n) (queued (copy_of p qos))) ≡ (if is_queued_at qos then 1 else 0)
 times_copy n p None = refl
-times_copy n p (Some qualities.AtMostOnce) = refl
-times_copy n p (Some qualities.AtLeastOnce) = rw (same_number n) refl
-times_copy n p (Some qualities.ExactlyOnce) = rw (same_number n) refl
+times_copy n p (Some qos_levels.AtMostOnce) = refl
+times_copy n p (Some qos_levels.AtLeastOnce) = rw (same_number n) refl
+times_copy n p (Some qos_levels.ExactlyOnce) = rw (same_number n) refl
 
 times_taken : (limits : Limits) (past : Past) (x : ConnectionName) (p : Publish) (d c : Client) (session : Option Bool)
     → clean_session_of (place_of_taken x p d ∷ past) c ≡ session
@@ -70,7 +70,7 @@ times_taken : (limits : Limits) (past : Past) (x : ConnectionName) (p : Publish)
 unfolding entries_of
 times_taken limits past x p d c (Some clean) s =
     let n = length past in
-    let copies = map (Entry.Waits n) (queued (copy_of (publication_of p) (effective_qos past c (publication_of p)))) in
+    let copies = map (Entry.Queued n) (queued (copy_of (publication_of p) (effective_qos past c (publication_of p)))) in
     let kept = started (window_at limits (place_of_taken x p d ∷ past)) n (current_connection (place_of_taken x p d ∷ past) c) (entries_of limits past c ++ copies) in
     let more = times-more n (entries_of limits past c) copies in
     let before = none-yet n (entries_of limits past c) (made-below limits past c) in
@@ -81,7 +81,7 @@ times_taken limits past x p d c (Some clean) s =
     ∙ times_copy n (publication_of p) (effective_qos past c (publication_of p))
 times_taken limits past x p d c None s =
     let n = length past in
-    let copies = map (Entry.Waits n) (queued (copy_of (publication_of p) (effective_qos past c (publication_of p)))) in
+    let copies = map (Entry.Queued n) (queued (copy_of (publication_of p) (effective_qos past c (publication_of p)))) in
     let kept = started (window_at limits (place_of_taken x p d ∷ past)) n (current_connection (place_of_taken x p d ∷ past) c) (entries_of limits past c ++ copies) in
     ap (λ z. times n (in_session z false [] kept)) s
     ∙ sym (ap (λ z. if is_queued_at z then 1 else 0) (no_qos past c (publication_of p) (gone_before past x p d c s)))

@@ -9,7 +9,7 @@ use Rattle.lists.specs.Lists.{has_id}
 use Rattle.session_base.specs.Identifiers.{without_id}
 use Rattle.session_base.proofs.KeptIdentifiers.{has_with, has_without}
 use Rattle.broker_spec.specs.Received.{receives, received_by, received_of}
-use Rattle.broker_spec.specs.Laws.{brings, says_of, newer_of_two, ends_in_publish, RepeatIsUnreleased}
+use Rattle.broker_spec.specs.Theorems.{brings, says_of, newer_of_two, ends_in_publish, RepeatIsUnreleased}
 use Rattle.broker_spec.specs.declared.command.Command.{Command}
 use Rattle.broker_spec.specs.declared.command.Command.TheVariants as commands
 

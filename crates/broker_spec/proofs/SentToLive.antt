@@ -16,7 +16,7 @@ use Rattle.broker_spec.specs.Commands.{place_of}
 use Rattle.broker_spec.specs.Sends.{resent_outputs}
 use Rattle.broker_spec.specs.Answers.{close_outputs, welcome, packet_answers, connect_answers}
 use Rattle.broker_spec.specs.AnswersInOrder.{answers_of}
-use Rattle.broker_spec.specs.AnswerLaws.{IsAddressed}
+use Rattle.broker_spec.specs.AnswerTheorems.{IsAddressed}
 use Rattle.broker_spec.specs.declared.command.Command.{Command}
 use Rattle.broker_spec.specs.declared.command.Command.TheVariants as commands
 use Rattle.broker_spec.specs.declared.command.Output.{Output}

@@ -72,16 +72,16 @@ queued = filter (λ publication. is_answered publication.qos)
 -- (PUBACK or PUBCOMP).
 pub data Entry : Type 0 where
   -- it was not sent yet
-  Waits : (made : ℕ) → (publication : Publication) → Entry
+  Queued : (made : ℕ) → (publication : Publication) → Entry
   -- its PUBLISH was sent
-  Started : (made : ℕ) → (publication : Publication) → (id start : ℕ) → Entry
+  Sent : (made : ℕ) → (publication : Publication) → (id start : ℕ) → Entry
   -- PUBREC came
   Released : (made : ℕ) → (publication : Publication) → (id start release : ℕ) → Entry
   -- PUBACK or PUBCOMP came
-  Finished : (made : ℕ) → (publication : Publication) → (id start : ℕ) → (release : Option ℕ)
+  Done : (made : ℕ) → (publication : Publication) → (id start : ℕ) → (release : Option ℕ)
       → (finish : ℕ) → Entry
 
 -- whether an entry takes room: all do except the finished ones
 abbrev pub is_unfinished : Entry → Bool
-is_unfinished (Entry.Finished made publication id start release finish) = false
+is_unfinished (Entry.Done made publication id start release finish) = false
 is_unfinished _ = true

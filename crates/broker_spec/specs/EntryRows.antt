@@ -1,7 +1,7 @@
 -- Worked examples: the places at which an entry is made, starts, is released and finishes
 -- (MQTT 4.1, 4.3).
 use Rattle.std.specs.Prelude.{◌≡◌, true, false, List, [], ◌∷◌, ◌++◌, map, codes, Some, None}
-use Rattle.packet_base.specs.declared.qos.QoS.TheVariants as qualities
+use Rattle.packet_base.specs.declared.qos.QoS.TheVariants as qos_levels
 use Rattle.packet.specs.declared.delivery.Delivery.TheVariants as deliveries
 use Rattle.packet.specs.declared.packet.Packet.TheVariants as packets
 use Rattle.broker_spec.specs.Entries.{Entry}
@@ -15,10 +15,10 @@ use Rattle.broker_spec.specs.declared.command.Command.{Command}
 -- b subscribes again at place 5, answers x and y, and does not answer the retained copy
 abbrev pub three_entries : List Command
 three_entries =
-    subscribed_at qualities.ExactlyOnce
+    subscribed_at qos_levels.ExactlyOnce
     ++ gets 2 (publish (deliveries.AtLeastOnce false 1) false (codes "x"))
     ∷ gets 2 (publish (deliveries.ExactlyOnce false 2) true (codes "y"))
-    ∷ gets 1 (subscribe 2 qualities.ExactlyOnce)
+    ∷ gets 1 (subscribe 2 qos_levels.ExactlyOnce)
     ∷ gets 1 (packets.Puback 1) ∷ gets 1 (packets.Pubrec 2) ∷ gets 1 (packets.Pubcomp 2) ∷ []
 
 -- the entries of b after these commands

@@ -1,6 +1,6 @@
 -- Worked examples of a full queue: the session of b holds three entries.
 use Rattle.std.specs.Prelude.{◌≡◌, ℕ, Bool, true, false, List, [], ◌∷◌, ◌++◌, map, codes}
-use Rattle.packet_base.specs.declared.qos.QoS.TheVariants as qualities
+use Rattle.packet_base.specs.declared.qos.QoS.TheVariants as qos_levels
 use Rattle.packet.specs.declared.delivery.Delivery.TheVariants as deliveries
 use Rattle.packet.specs.declared.packet.Packet.TheVariants as packets
 use Rattle.broker_spec.specs.Commands.{past_of}
@@ -13,7 +13,7 @@ use Rattle.broker_spec.specs.declared.command.Output.TheVariants.{Close}
 
 -- b is offline and holds two entries
 abbrev pub queued_two : List Command
-queued_two = subscribed_at qualities.ExactlyOnce ++ commands.Lost (nth 1) ∷ publications 2
+queued_two = subscribed_at qos_levels.ExactlyOnce ++ commands.Lost (nth 1) ∷ publications 2
 
 -- a sends x, y and z at QoS 2 on the nth connection
 abbrev pub publishes_xyz : ℕ → Bool → List Command

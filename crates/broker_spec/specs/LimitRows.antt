@@ -3,7 +3,7 @@
 use Rattle.std.specs.Prelude.{◌≡◌, ℕ, true, false, List, [], ◌∷◌, codes}
 use Rattle.packet_base.specs.declared.refusal_code.RefusalCode.TheVariants as refusals
 use Rattle.packet.specs.declared.connack.Connack.TheVariants as connacks
-use Rattle.packet_base.specs.declared.qos.QoS.TheVariants as qualities
+use Rattle.packet_base.specs.declared.qos.QoS.TheVariants as qos_levels
 use Rattle.packet.specs.declared.delivery.Delivery.TheVariants as deliveries
 use Rattle.packet.specs.declared.suback.SubackCode.TheVariants as return_codes
 use Rattle.packet.specs.declared.packet.Packet.TheVariants as packets
@@ -59,7 +59,7 @@ FifthSessionIsRefused =
 abbrev pub four_filters : List Command
 four_filters =
     connect 1 b
-    ∷ gets 1 (subscribe_row 1 (filters_at qualities.AtLeastOnce
+    ∷ gets 1 (subscribe_row 1 (filters_at qos_levels.AtLeastOnce
     (codes "f/1" ∷ codes "f/2" ∷ codes "f/3" ∷ codes "f/4" ∷ []))) ∷ connect 2 a ∷ []
 
 -- a fifth filter is answered 0x80 and is not set; an identical one is replaced, and is granted with
@@ -67,13 +67,13 @@ four_filters =
 abbrev pub FifthFilterIsRefused : Type 0
 FifthFilterIsRefused =
     AreAnswered (small 3 16) four_filters
-    (gets 1 (subscribe_row 2 (filters_at qualities.AtMostOnce (codes "f/5" ∷ codes "f/2" ∷ [])))
+    (gets 1 (subscribe_row 2 (filters_at qos_levels.AtMostOnce (codes "f/5" ∷ codes "f/2" ∷ [])))
     ∷ gets 2 (publish_on (codes "f/5") (deliveries.AtLeastOnce false 1) false (codes "x"))
     ∷ gets 2 (publish_on (codes "f/2") (deliveries.AtLeastOnce false 2) false (codes "x")) ∷ [])
     ((sends 1
     (packets.Suback (record {
       id = 2;
-      codes = return_codes.Failure ∷ return_codes.Granted qualities.AtMostOnce ∷ [];
+      codes = return_codes.Failure ∷ return_codes.Granted qos_levels.AtMostOnce ∷ [];
     })) ∷ [])
     ∷ (sends 2 (packets.Puback 1) ∷ [])
     ∷ (sends 2 (packets.Puback 2)
@@ -82,7 +82,7 @@ FifthFilterIsRefused =
 -- four topics are retained, at QoS 1
 abbrev pub four_topics : List Command
 four_topics =
-    connect 2 a ∷ publish_row qualities.AtLeastOnce
+    connect 2 a ∷ publish_row qos_levels.AtLeastOnce
     (codes "t/1" ∷ codes "t/2" ∷ codes "t/3" ∷ codes "t/4" ∷ [])
 
 -- a fifth is refused and its connection closed; an existing one is replaced, and an empty payload

@@ -2,7 +2,7 @@
 -- in which order copies are sent (MQTT 3.3.1, 3.3.5, 3.8.4, 4.3, 4.4).
 use Rattle.std.specs.Prelude.{true, false, List, [], ◌∷◌, ◌++◌, codes}
 use Rattle.packet_base.specs.declared.qos.QoS.{QoS}
-use Rattle.packet_base.specs.declared.qos.QoS.TheVariants as qualities
+use Rattle.packet_base.specs.declared.qos.QoS.TheVariants as qos_levels
 use Rattle.packet.specs.declared.delivery.Delivery.{Delivery}
 use Rattle.packet.specs.declared.delivery.Delivery.TheVariants as deliveries
 use Rattle.packet.specs.declared.packet.Packet.TheVariants as packets
@@ -28,20 +28,20 @@ to_b delivery = sends 1 (publish delivery false (codes "x"))
 -- the publication and the subscription
 abbrev pub LowerQosIsDelivered : Type 0
 LowerQosIsDelivered =
-    IsDeliveredAs qualities.AtMostOnce deliveries.AtMostOnce (to_b deliveries.AtMostOnce ∷ [])
-    × IsDeliveredAs qualities.AtMostOnce (deliveries.AtLeastOnce false 7)
+    IsDeliveredAs qos_levels.AtMostOnce deliveries.AtMostOnce (to_b deliveries.AtMostOnce ∷ [])
+    × IsDeliveredAs qos_levels.AtMostOnce (deliveries.AtLeastOnce false 7)
     (sends 2 (packets.Puback 7) ∷ to_b deliveries.AtMostOnce ∷ [])
-    × IsDeliveredAs qualities.AtMostOnce (deliveries.ExactlyOnce false 8)
+    × IsDeliveredAs qos_levels.AtMostOnce (deliveries.ExactlyOnce false 8)
     (sends 2 (packets.Pubrec 8) ∷ to_b deliveries.AtMostOnce ∷ [])
-    × IsDeliveredAs qualities.AtLeastOnce deliveries.AtMostOnce (to_b deliveries.AtMostOnce ∷ [])
-    × IsDeliveredAs qualities.AtLeastOnce (deliveries.AtLeastOnce false 7)
+    × IsDeliveredAs qos_levels.AtLeastOnce deliveries.AtMostOnce (to_b deliveries.AtMostOnce ∷ [])
+    × IsDeliveredAs qos_levels.AtLeastOnce (deliveries.AtLeastOnce false 7)
     (sends 2 (packets.Puback 7) ∷ to_b (deliveries.AtLeastOnce false 1) ∷ [])
-    × IsDeliveredAs qualities.AtLeastOnce (deliveries.ExactlyOnce false 8)
+    × IsDeliveredAs qos_levels.AtLeastOnce (deliveries.ExactlyOnce false 8)
     (sends 2 (packets.Pubrec 8) ∷ to_b (deliveries.AtLeastOnce false 1) ∷ [])
-    × IsDeliveredAs qualities.ExactlyOnce deliveries.AtMostOnce (to_b deliveries.AtMostOnce ∷ [])
-    × IsDeliveredAs qualities.ExactlyOnce (deliveries.AtLeastOnce false 7)
+    × IsDeliveredAs qos_levels.ExactlyOnce deliveries.AtMostOnce (to_b deliveries.AtMostOnce ∷ [])
+    × IsDeliveredAs qos_levels.ExactlyOnce (deliveries.AtLeastOnce false 7)
     (sends 2 (packets.Puback 7) ∷ to_b (deliveries.AtLeastOnce false 1) ∷ [])
-    × IsDeliveredAs qualities.ExactlyOnce (deliveries.ExactlyOnce false 8)
+    × IsDeliveredAs qos_levels.ExactlyOnce (deliveries.ExactlyOnce false 8)
     (sends 2 (packets.Pubrec 8) ∷ to_b (deliveries.ExactlyOnce false 1) ∷ [])
 
 -- ---- resending (MQTT 3.3.1.1, 4.4)
@@ -50,7 +50,7 @@ LowerQosIsDelivered =
 -- then PUBREL
 abbrev pub ExactlyOnceIsSentAgain : Type 0
 ExactlyOnceIsSentAgain =
-    AreAnswered usual_limits (subscribed_at qualities.ExactlyOnce)
+    AreAnswered usual_limits (subscribed_at qos_levels.ExactlyOnce)
     (gets 2 (publish (deliveries.ExactlyOnce false 9) false (codes "x")) ∷ connect 3 b
     ∷ gets 3 (packets.Pubrec 1)
     ∷ connect 4 b ∷ gets 4 (packets.Pubrec 1) ∷ gets 4 (packets.Pubcomp 1) ∷ connect 5 b ∷ [])
@@ -69,7 +69,7 @@ ExactlyOnceIsSentAgain =
 abbrev pub CopiesComeByClient : Type 0
 CopiesComeByClient =
     AreAnswered usual_limits
-    (subscribed_at qualities.AtMostOnce ++ gets 2 (subscribe 4 qualities.AtLeastOnce) ∷ [])
+    (subscribed_at qos_levels.AtMostOnce ++ gets 2 (subscribe 4 qos_levels.AtLeastOnce) ∷ [])
     (gets 2 (publish (deliveries.AtLeastOnce false 7) false (codes "x")) ∷ [])
     ((sends 2 (packets.Puback 7)
     ∷ sends 2 (publish (deliveries.AtLeastOnce false 1) false (codes "x"))

@@ -12,17 +12,17 @@ pub data Origin : Type 0 where
 
 -- the number of the place that made an entry
 abbrev pub made_of : Entry → ℕ
-made_of (Entry.Waits made publication) = made
-made_of (Entry.Started made publication id start) = made
+made_of (Entry.Queued made publication) = made
+made_of (Entry.Sent made publication id start) = made
 made_of (Entry.Released made publication id start release) = made
-made_of (Entry.Finished made publication id start release finish) = made
+made_of (Entry.Done made publication id start release finish) = made
 
 -- the publication that an entry delivers
 abbrev pub publication_in : Entry → Publication
-publication_in (Entry.Waits made publication) = publication
-publication_in (Entry.Started made publication id start) = publication
+publication_in (Entry.Queued made publication) = publication
+publication_in (Entry.Sent made publication id start) = publication
 publication_in (Entry.Released made publication id start release) = publication
-publication_in (Entry.Finished made publication id start release finish) = publication
+publication_in (Entry.Done made publication id start release finish) = publication
 
 -- a copy of a retained publication has RETAIN 1 (MQTT 3.3.1.3)
 abbrev pub origin_of : Entry → Origin
@@ -32,21 +32,21 @@ origin_of entry =
 
 -- the place at which an entry started, if it did
 abbrev pub start_place : Entry → Option ℕ
-start_place (Entry.Waits made publication) = None
-start_place (Entry.Started made publication id start) = Some start
+start_place (Entry.Queued made publication) = None
+start_place (Entry.Sent made publication id start) = Some start
 start_place (Entry.Released made publication id start release) = Some start
-start_place (Entry.Finished made publication id start release finish) = Some start
+start_place (Entry.Done made publication id start release finish) = Some start
 
 -- the place at which an entry was released, if it was
 abbrev pub release_place : Entry → Option ℕ
-release_place (Entry.Waits made publication) = None
-release_place (Entry.Started made publication id start) = None
+release_place (Entry.Queued made publication) = None
+release_place (Entry.Sent made publication id start) = None
 release_place (Entry.Released made publication id start release) = Some release
-release_place (Entry.Finished made publication id start release finish) = release
+release_place (Entry.Done made publication id start release finish) = release
 
 -- the place at which an entry finished, if it did
 abbrev pub finish_place : Entry → Option ℕ
-finish_place (Entry.Finished made publication id start release finish) = Some finish
+finish_place (Entry.Done made publication id start release finish) = Some finish
 finish_place _ = None
 
 -- ---- all entries of a session
@@ -69,7 +69,7 @@ released_below (suc place) entries = released_below place entries ++ released_at
 
 -- whether an entry is started and neither released nor finished
 abbrev pub is_sent : Entry → Bool
-is_sent (Entry.Started made publication id start) = true
+is_sent (Entry.Sent made publication id start) = true
 is_sent _ = false
 
 -- the entries that are, in order
@@ -78,13 +78,13 @@ sent_entries = filter is_sent
 
 -- the publications of the entries that wait, in order
 abbrev pub waiting_of : List Entry → List Publication
-waiting_of (Entry.Waits made publication ∷ entries) = publication ∷ waiting_of entries
+waiting_of (Entry.Queued made publication ∷ entries) = publication ∷ waiting_of entries
 waiting_of (_ ∷ entries) = waiting_of entries
 waiting_of [] = []
 
 -- the identifiers of the entries that are started and not finished, in order
 abbrev pub busy_ids : List Entry → List ℕ
-busy_ids (Entry.Started made publication id start ∷ entries) = id ∷ busy_ids entries
+busy_ids (Entry.Sent made publication id start ∷ entries) = id ∷ busy_ids entries
 busy_ids (Entry.Released made publication id start release ∷ entries) = id ∷ busy_ids entries
 busy_ids (_ ∷ entries) = busy_ids entries
 busy_ids [] = []

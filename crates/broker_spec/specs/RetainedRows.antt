@@ -1,7 +1,7 @@
 -- Worked examples: what is retained, and who gets it (MQTT 3.3.1.3).
 use Rattle.std.specs.Prelude.{ℕ, Bool, true, false, List, [], ◌∷◌, ◌++◌, codes}
 use Rattle.packet_base.specs.declared.qos.QoS.{QoS}
-use Rattle.packet_base.specs.declared.qos.QoS.TheVariants as qualities
+use Rattle.packet_base.specs.declared.qos.QoS.TheVariants as qos_levels
 use Rattle.packet.specs.declared.delivery.Delivery.{Delivery}
 use Rattle.packet.specs.declared.delivery.Delivery.TheVariants as deliveries
 use Rattle.broker_spec.specs.Commands.{usual_limits}
@@ -29,25 +29,25 @@ retained_to_b delivery payload = sends 1 (publish delivery true payload) ∷ []
 -- QoS that is asked for
 abbrev pub RetainedAtTheLowerQos : Type 0
 RetainedAtTheLowerQos =
-    Retains (sent_by_a (deliveries.ExactlyOnce false 1) true (codes "x") ∷ []) qualities.AtLeastOnce
-    (retained_to_b (deliveries.AtLeastOnce false 1) (codes "x"))
+    Retains (sent_by_a (deliveries.ExactlyOnce false 1) true (codes "x") ∷ [])
+    qos_levels.AtLeastOnce (retained_to_b (deliveries.AtLeastOnce false 1) (codes "x"))
     × Retains (sent_by_a (deliveries.AtLeastOnce false 1) true (codes "x") ∷ [])
-    qualities.ExactlyOnce (retained_to_b (deliveries.AtLeastOnce false 1) (codes "x"))
-    × Retains (sent_by_a deliveries.AtMostOnce true (codes "x") ∷ []) qualities.ExactlyOnce
+    qos_levels.ExactlyOnce (retained_to_b (deliveries.AtLeastOnce false 1) (codes "x"))
+    × Retains (sent_by_a deliveries.AtMostOnce true (codes "x") ∷ []) qos_levels.ExactlyOnce
     (retained_to_b deliveries.AtMostOnce (codes "x"))
     × Retains (sent_by_a (deliveries.ExactlyOnce false 1) true (codes "x") ∷ [])
-    qualities.AtMostOnce (retained_to_b deliveries.AtMostOnce (codes "x"))
+    qos_levels.AtMostOnce (retained_to_b deliveries.AtMostOnce (codes "x"))
 
 -- the last publication with RETAIN 1 is retained, none with RETAIN 0; an empty payload removes it
 abbrev pub LastPutIsRetained : Type 0
 LastPutIsRetained =
-    Retains (sent_by_a deliveries.AtMostOnce false (codes "x") ∷ []) qualities.AtMostOnce []
+    Retains (sent_by_a deliveries.AtMostOnce false (codes "x") ∷ []) qos_levels.AtMostOnce []
     × Retains (sent_by_a deliveries.AtMostOnce true (codes "x")
     ∷ sent_by_a deliveries.AtMostOnce false (codes "y") ∷ [])
-    qualities.AtMostOnce (retained_to_b deliveries.AtMostOnce (codes "x"))
+    qos_levels.AtMostOnce (retained_to_b deliveries.AtMostOnce (codes "x"))
     × Retains (sent_by_a deliveries.AtMostOnce true (codes "x")
     ∷ sent_by_a deliveries.AtMostOnce true (codes "y") ∷ [])
-    qualities.AtMostOnce (retained_to_b deliveries.AtMostOnce (codes "y"))
+    qos_levels.AtMostOnce (retained_to_b deliveries.AtMostOnce (codes "y"))
     × Retains (sent_by_a deliveries.AtMostOnce true (codes "x")
     ∷ sent_by_a deliveries.AtMostOnce true [] ∷ [])
-    qualities.AtMostOnce []
+    qos_levels.AtMostOnce []

@@ -1,6 +1,6 @@
 -- Worked example: the room that is left for retained copies to the later filters of a SUBSCRIBE.
 use Rattle.std.specs.Prelude.{true, false, [], ◌∷◌, ◌++◌, codes}
-use Rattle.packet_base.specs.declared.qos.QoS.TheVariants as qualities
+use Rattle.packet_base.specs.declared.qos.QoS.TheVariants as qos_levels
 use Rattle.packet.specs.declared.delivery.Delivery.TheVariants as deliveries
 use Rattle.packet.specs.declared.suback.SubackCode.TheVariants as return_codes
 use Rattle.packet.specs.declared.packet.Packet.TheVariants as packets
@@ -12,17 +12,17 @@ use Rattle.broker_spec.specs.TopicRowWords.{filters_at, publish_row}
 abbrev pub RoomIsLessWhatEarlierFiltersNeed : Type 0
 RoomIsLessWhatEarlierFiltersNeed =
     AreAnswered (small 3 16) (connect 2 a
-    ∷ publish_row qualities.AtLeastOnce (codes "t/1" ∷ codes "t/2" ∷ []) ++ connect 1 b ∷ [])
-    (gets 1 (subscribe_row 1 (filters_at qualities.AtLeastOnce
+    ∷ publish_row qos_levels.AtLeastOnce (codes "t/1" ∷ codes "t/2" ∷ []) ++ connect 1 b ∷ [])
+    (gets 1 (subscribe_row 1 (filters_at qos_levels.AtLeastOnce
     (codes "t/1" ∷ codes "t/#" ∷ codes "t/2" ∷ [])
-    ++ filters_at qualities.AtMostOnce (codes "t/2" ∷ []))) ∷ [])
+    ++ filters_at qos_levels.AtMostOnce (codes "t/2" ∷ []))) ∷ [])
     ((sends 1
     (packets.Suback
     (record {
       id = 1;
       codes =
-          return_codes.Granted qualities.AtLeastOnce ∷ return_codes.Granted qualities.AtLeastOnce
-          ∷ return_codes.Failure ∷ return_codes.Granted qualities.AtMostOnce ∷ [];
+          return_codes.Granted qos_levels.AtLeastOnce ∷ return_codes.Granted qos_levels.AtLeastOnce
+          ∷ return_codes.Failure ∷ return_codes.Granted qos_levels.AtMostOnce ∷ [];
     }))
     ∷ sends 1 (publish_on (codes "t/1") (deliveries.AtLeastOnce false 1) true (codes "x"))
     ∷ sends 1 (publish_on (codes "t/1") (deliveries.AtLeastOnce false 2) true (codes "x"))

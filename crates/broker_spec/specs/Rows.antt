@@ -1,7 +1,7 @@
 -- Worked examples: lists of commands, and the answers that the standard and this broker's profile
 -- give.
 use Rattle.std.specs.Prelude.{true, false, List, [], ◌∷◌, ◌++◌, codes}
-use Rattle.packet_base.specs.declared.qos.QoS.TheVariants as qualities
+use Rattle.packet_base.specs.declared.qos.QoS.TheVariants as qos_levels
 use Rattle.packet.specs.declared.delivery.Delivery.TheVariants as deliveries
 use Rattle.packet.specs.declared.suback.SubackCode.TheVariants as return_codes
 use Rattle.packet.specs.declared.packet.Packet.TheVariants as packets
@@ -32,19 +32,19 @@ OlderConnectionIsSilent =
 -- SUBACK has the QoS that was asked for (MQTT 3.9.3)
 abbrev pub SubscribeIsGranted : Type 0
 SubscribeIsGranted =
-    AreAnswered usual_limits (connect 1 b ∷ []) (gets 1 (subscribe 1 qualities.ExactlyOnce) ∷ [])
-    ((sends 1 (suback 1 qualities.ExactlyOnce) ∷ []) ∷ [])
+    AreAnswered usual_limits (connect 1 b ∷ []) (gets 1 (subscribe 1 qos_levels.ExactlyOnce) ∷ [])
+    ((sends 1 (suback 1 qos_levels.ExactlyOnce) ∷ []) ∷ [])
 
 -- b has subscribed to t/# at QoS 2, and a has sent the publication x with identifier 1
 abbrev pub published_x : List Command
 published_x =
-    subscribed_at qualities.ExactlyOnce
+    subscribed_at qos_levels.ExactlyOnce
     ++ gets 2 (publish (deliveries.ExactlyOnce false 1) false (codes "x")) ∷ []
 
 -- a publication at QoS 2: PUBREC to its publisher, PUBLISH to the subscriber (MQTT 4.3.3)
 abbrev pub PublishReachesTheSubscriber : Type 0
 PublishReachesTheSubscriber =
-    AreAnswered usual_limits (subscribed_at qualities.ExactlyOnce)
+    AreAnswered usual_limits (subscribed_at qos_levels.ExactlyOnce)
     (gets 2 (publish (deliveries.ExactlyOnce false 1) false (codes "x")) ∷ [])
     ((sends 2 (packets.Pubrec 1)
     ∷ sends 1 (publish (deliveries.ExactlyOnce false 1) false (codes "x")) ∷ []) ∷ [])
@@ -76,34 +76,34 @@ PubrelTwice =
 -- 1 to those who subscribe after (MQTT 3.3.1.3)
 abbrev pub RetainedAtSubscribe : Type 0
 RetainedAtSubscribe =
-    AreAnswered usual_limits (subscribed_at qualities.ExactlyOnce)
+    AreAnswered usual_limits (subscribed_at qos_levels.ExactlyOnce)
     (gets 2 (publish (deliveries.ExactlyOnce false 1) true (codes "x")) ∷ gets 1 (packets.Pubrec 1)
-    ∷ gets 1 (packets.Pubcomp 1) ∷ gets 1 (subscribe 2 qualities.ExactlyOnce) ∷ [])
+    ∷ gets 1 (packets.Pubcomp 1) ∷ gets 1 (subscribe 2 qos_levels.ExactlyOnce) ∷ [])
     ((sends 2 (packets.Pubrec 1)
     ∷ sends 1 (publish (deliveries.ExactlyOnce false 1) false (codes "x")) ∷ [])
     ∷ (sends 1 (packets.Pubrel 1) ∷ []) ∷ []
-    ∷ (sends 1 (suback 2 qualities.ExactlyOnce)
+    ∷ (sends 1 (suback 2 qos_levels.ExactlyOnce)
     ∷ sends 1 (publish (deliveries.ExactlyOnce false 1) true (codes "x")) ∷ []) ∷ [])
 
 -- two filters of one client match: one PUBLISH, at the greater QoS (MQTT 3.3.5)
 abbrev pub TwoFiltersOnePublication : Type 0
 TwoFiltersOnePublication =
-    AreAnswered usual_limits (subscribed_at qualities.ExactlyOnce)
+    AreAnswered usual_limits (subscribed_at qos_levels.ExactlyOnce)
     (gets 1
     (packets.Subscribe
     (record {
       id = 1;
       filters =
-          record { filter = codes "t/#"; qos = qualities.AtMostOnce }
-          ∷ record { filter = codes "t/1"; qos = qualities.ExactlyOnce } ∷ [];
+          record { filter = codes "t/#"; qos = qos_levels.AtMostOnce }
+          ∷ record { filter = codes "t/1"; qos = qos_levels.ExactlyOnce } ∷ [];
     }))
     ∷ gets 2 (publish (deliveries.ExactlyOnce false 1) false (codes "x")) ∷ [])
     ((sends 1
     (packets.Suback (record {
       id = 1;
       codes =
-          return_codes.Granted qualities.AtMostOnce
-          ∷ return_codes.Granted qualities.ExactlyOnce ∷ [];
+          return_codes.Granted qos_levels.AtMostOnce
+          ∷ return_codes.Granted qos_levels.ExactlyOnce ∷ [];
     })) ∷ [])
     ∷ (sends 2 (packets.Pubrec 1)
     ∷ sends 1 (publish (deliveries.ExactlyOnce false 1) false (codes "x")) ∷ []) ∷ [])

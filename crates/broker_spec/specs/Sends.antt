@@ -20,7 +20,7 @@ publish_output connection dup id publication =
 
 -- an entry that starts at this place is sent for the first time, with DUP 0 (MQTT 3.3.1.1)
 abbrev pub first_output : ConnectionName → ℕ → Entry → List Output
-first_output connection place (Entry.Started made publication id start) =
+first_output connection place (Entry.Sent made publication id start) =
     if start == place then publish_output connection false id publication ∷ [] else []
 first_output connection place _ = []
 
@@ -30,7 +30,7 @@ all_started connection place = flat_map (first_output connection place)
 
 -- an entry that started below this place, and is not answered, is sent again with DUP 1 (MQTT 4.4)
 abbrev pub repeated_output : ConnectionName → ℕ → Entry → List Output
-repeated_output connection place (Entry.Started made publication id start) =
+repeated_output connection place (Entry.Sent made publication id start) =
     if start == place then [] else publish_output connection true id publication ∷ []
 repeated_output connection place _ = []
 

@@ -15,24 +15,24 @@ use Rattle.broker_spec.specs.declared.command.Command.TheVariants as commands
 
 -- PUBACK finishes a QoS 1 entry with this identifier (MQTT 4.3.2)
 abbrev pub at_puback : ℕ → ℕ → Entry → Entry
-at_puback place id (Entry.Started made publication other start) =
+at_puback place id (Entry.Sent made publication other start) =
     if (id == other) && is_qos1 publication.qos
-    then Entry.Finished made publication other start None place
-    else Entry.Started made publication other start
+    then Entry.Done made publication other start None place
+    else Entry.Sent made publication other start
 at_puback place id entry = entry
 
 -- PUBREC releases a QoS 2 entry (MQTT 4.3.3)
 abbrev pub at_pubrec : ℕ → ℕ → Entry → Entry
-at_pubrec place id (Entry.Started made publication other start) =
+at_pubrec place id (Entry.Sent made publication other start) =
     if (id == other) && not (is_qos1 publication.qos)
     then Entry.Released made publication other start place
-    else Entry.Started made publication other start
+    else Entry.Sent made publication other start
 at_pubrec place id entry = entry
 
 -- PUBCOMP finishes a released one (MQTT 4.3.3)
 abbrev pub at_pubcomp : ℕ → ℕ → Entry → Entry
 at_pubcomp place id (Entry.Released made publication other start release) =
-    if id == other then Entry.Finished made publication other start (Some release) place
+    if id == other then Entry.Done made publication other start (Some release) place
     else Entry.Released made publication other start release
 at_pubcomp place id entry = entry
 
@@ -55,17 +55,17 @@ answered_by _ _ place client entries = entries
 -- starts if fewer than the window are unfinished before it, with the least identifier that none of
 -- them has; otherwise no later one starts (MQTT 4.6).
 abbrev pub start_all : ℕ → ℕ → List ℕ → List Entry → List Entry
-start_all window place busy (Entry.Waits made publication ∷ entries) =
+start_all window place busy (Entry.Queued made publication ∷ entries) =
     if nat_lt (length busy) window
-    then Entry.Started made publication (least_free busy) place
+    then Entry.Sent made publication (least_free busy) place
     ∷ start_all window place (least_free busy ∷ busy) entries
-    else Entry.Waits made publication ∷ entries
-start_all window place busy (Entry.Started made publication id start ∷ entries) =
-    Entry.Started made publication id start ∷ start_all window place (id ∷ busy) entries
+    else Entry.Queued made publication ∷ entries
+start_all window place busy (Entry.Sent made publication id start ∷ entries) =
+    Entry.Sent made publication id start ∷ start_all window place (id ∷ busy) entries
 start_all window place busy (Entry.Released made publication id start release ∷ entries) =
     Entry.Released made publication id start release ∷ start_all window place (id ∷ busy) entries
-start_all window place busy (Entry.Finished made publication id start release finish ∷ entries) =
-    Entry.Finished made publication id start release finish ∷ start_all window place busy entries
+start_all window place busy (Entry.Done made publication id start release finish ∷ entries) =
+    Entry.Done made publication id start release finish ∷ start_all window place busy entries
 start_all window place busy [] = []
 
 -- entries start only while there is a current connection
@@ -88,7 +88,7 @@ entries_of limits (place ∷ past) client =
     (started (window_at limits (place ∷ past)) (length past)
     (current_connection (place ∷ past) client)
     (answered_by place.command place.mark (length past) client (entries_of limits past client)
-    ++ map (Entry.Waits (length past)) (queued (copies_at place past client))))
+    ++ map (Entry.Queued (length past)) (queued (copies_at place past client))))
 
 -- how many more entries a client's session can hold
 abbrev pub room_of : Limits → Past → Client → ℕ

@@ -1,6 +1,6 @@
 -- Worked examples: identifiers and the window of a session (MQTT 4.4, 4.6).
 use Rattle.std.specs.Prelude.{ℕ, true, false, List, [], ◌∷◌, ◌++◌}
-use Rattle.packet_base.specs.declared.qos.QoS.TheVariants as qualities
+use Rattle.packet_base.specs.declared.qos.QoS.TheVariants as qos_levels
 use Rattle.packet.specs.declared.packet.Packet.TheVariants as packets
 use Rattle.broker_spec.specs.Commands.{usual_limits, limits_from}
 use Rattle.broker_spec.specs.RowWords.{AreAnswered, b, nth, connect, gets, sends, connack, numbers, subscribed_at, publications, delivered}
@@ -10,7 +10,7 @@ use Rattle.broker_spec.specs.declared.command.Output.TheVariants.{Close}
 
 -- b has subscribed at QoS 1, and a has sent this many publications
 abbrev pub routed : ℕ → List Command
-routed many = subscribed_at qualities.AtLeastOnce ++ publications many
+routed many = subscribed_at qos_levels.AtLeastOnce ++ publications many
 
 -- with a window of 16 the 17th publication waits, is sent with the identifier that PUBACK frees,
 -- and comes last when b connects again (MQTT 4.4, 4.6)
@@ -30,7 +30,7 @@ WideWindowSendsAll =
 
 -- b is offline, and has 70 entries
 abbrev pub seventy : List Command
-seventy = subscribed_at qualities.AtLeastOnce ++ commands.Lost (nth 1) ∷ publications 70
+seventy = subscribed_at qos_levels.AtLeastOnce ++ commands.Lost (nth 1) ∷ publications 70
 
 -- of 70 entries 64 are sent, and PUBACK 1 sends the next with identifier 1
 abbrev pub WindowOf64 : Type 0

@@ -1,8 +1,8 @@
 // What does not happen: to sessions that have ended, and for publications that are not taken. The
 // calls do nothing; their contracts are the laws.
 
-ghost use Rattle.broker_spec.specs.EndingLaws.{NothingAfterTheEnd};
-ghost use Rattle.broker_spec.specs.TakenLaws.{EntersAsPublished, EntersWhereTaken};
+ghost use Rattle.broker_spec.specs.EndingTheorems.{NothingAfterTheEnd};
+ghost use Rattle.broker_spec.specs.TakenTheorems.{EntersAsPublished, EntersWhereTaken};
 
 /// States that a connection whose accepted Connect lies in a session is sent packets only at places
 /// of that session. Once it has ended nothing more is sent there, if no later connection has its

@@ -5,21 +5,15 @@
 mod command;
 mod connection_name;
 mod endings;
-mod laws;
 mod limits;
 mod rows;
 mod sized_packet;
+mod theorems;
 mod window;
 
 pub use command::{Command, Output};
 pub use connection_name::ConnectionName;
 pub use endings::{enters_as_published, enters_where_taken, nothing_after_the_end};
-pub use laws::{
-    answers_are_addressed, current_is_last_accepted, enters_once, entries_only_grow,
-    filter_has_last_granting, identifiers_are_distinct, nothing_waits_in_vain,
-    packet_of_nobody_is_nothing, publication_enters, repeat_is_unreleased, starts_where_it_may,
-    taken_publish_adds_one,
-};
 pub use limits::MAX_SESSIONS;
 pub use rows::{
     a_full_queue_keeps_the_order, a_repeat_before_pubrel, a_second_connection_takes_over,
@@ -31,4 +25,10 @@ pub use rows::{
     two_filters_one_publication, window_of_64,
 };
 pub use sized_packet::{SizedPacket, Unspellable};
+pub use theorems::{
+    answers_are_addressed, current_is_last_accepted, enters_once, entries_only_grow,
+    filter_has_last_granting, identifiers_are_distinct, nothing_waits_in_vain,
+    packet_of_nobody_is_nothing, publication_enters, repeat_is_unreleased, starts_where_it_may,
+    taken_publish_adds_one,
+};
 pub use window::Window;

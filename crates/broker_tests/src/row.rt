@@ -157,7 +157,7 @@ fn first_fault_of_outputs(alloc: Global, given: &[Output], wanted: &[Answer<'_>]
     }
 }
 
-// Says whether an output is the answer at an index.
+// Returns true if an output is the answer at an index.
 fn is_wanted_at(alloc: Global, output: &Output, wanted: &[Answer<'_>], index: usize) -> bool {
     match wanted.get(index) {
         Some(answer) => is_wanted(alloc, output, *answer),
@@ -200,7 +200,7 @@ fn byte_at(bytes: &[u8], index: usize) -> u8 {
     }
 }
 
-// Says whether an output is this answer.
+// Returns true if an output is this answer.
 fn is_wanted(alloc: Global, output: &Output, answer: Answer<'_>) -> bool {
     let (count, bytes) = answer;
     match output {

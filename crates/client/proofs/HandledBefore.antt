@@ -7,8 +7,8 @@ use Rattle.client_base.specs.declared.stage.Stage.{Stage}
 use Rattle.client_base.specs.declared.stage.Stage.TheVariants as stages
 use Rattle.client_base.specs.State.{is_open, lost}
 use Rattle.client.specs.Core.{Core, nothing_read, gone}
-use Rattle.client.specs.Reading.{Handles, EndsWith, OnBytes, fed}
-use Rattle.client.specs.Inside.Handling.{ReadsOne, StopsAt, FeedsAndReads, Feeds, is_fatal}
+use Rattle.client.specs.Input.{Handles, EndsWith, OnBytes, fed}
+use Rattle.client.specs.Inside.PacketSteps.{ReadsOne, StopsAt, FeedsAndReads, Feeds, is_fatal}
 
 -- one packet more
 pub handled_more : (start s u : Core) → Handles start s → ReadsOne s (Ok true) u → Handles start u

@@ -4,8 +4,8 @@ use Rattle.packet.specs.declared.packet.Packet.{Packet}
 use Rattle.client_base.specs.declared.error.ClientError.{ClientError}
 use Rattle.client_base.specs.declared.error.ClientError.TheVariants as errors
 use Rattle.client.specs.Core.{Core}
-use Rattle.client.specs.Reading.{ReadsPacket, outcome_of_packet}
-use Rattle.client.specs.Inside.Handling.{Tries, ReadsOne}
+use Rattle.client.specs.Input.{ReadsPacket, outcome_of_packet}
+use Rattle.client.specs.Inside.PacketSteps.{Tries, ReadsOne}
 
 pub handling_fails : (old mid new : Core) (packet : Packet) (error : ClientError) → ReadsPacket old packet mid
     → Tries (outcome_of_packet packet mid) mid (Err error) new → ReadsOne old (Err error) new

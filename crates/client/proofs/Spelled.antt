@@ -43,11 +43,11 @@ appends_after front bytes packets all =
 
 -- ---- what is kept
 
-pub all_resent : (state : ClientState) (none released sent unsent : List ℕ) (ids : List ℕ) (again first : List UnacknowledgedPublication) → none ≡ []
-    → ids ≡ state.released → again ≡ state.sent → first ≡ state.unsent
+pub all_resent : (state : ClientState) (none released sent queued : List ℕ) (ids : List ℕ) (again first : List UnacknowledgedPublication) → none ≡ []
+    → ids ≡ state.released → again ≡ state.sent → first ≡ state.queued
     → AppendsAll none released (map packets.Pubrel ids) → AppendsAll released sent (map (publish_kept true) again)
-    → AppendsAll sent unsent (map (publish_kept false) first) → AppendsAll [] unsent (resent state)
-all_resent state none released sent unsent ids again first is is_released is_sent is_unsent a b c =
-    rw (← is, ← is_released, ← is_sent, ← is_unsent)
-    (appends_join none sent unsent (map packets.Pubrel ids ++ map (publish_kept true) again) (map (publish_kept false) first)
+    → AppendsAll sent queued (map (publish_kept false) first) → AppendsAll [] queued (resent state)
+all_resent state none released sent queued ids again first is is_released is_sent is_queued a b c =
+    rw (← is, ← is_released, ← is_sent, ← is_queued)
+    (appends_join none sent queued (map packets.Pubrel ids ++ map (publish_kept true) again) (map (publish_kept false) first)
     (appends_join none released sent (map packets.Pubrel ids) (map (publish_kept true) again) a b) c)

@@ -1,2 +1,2 @@
-pub mod Handling
+pub mod PacketSteps
 pub mod Ids

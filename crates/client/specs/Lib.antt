@@ -1,3 +1,3 @@
 pub mod Core
-pub mod Reading
+pub mod Input
 pub mod Inside

@@ -23,7 +23,7 @@ pub struct ClientCore {
     /// The publications that were sent and are unacknowledged, in the order of their calls.
     pub(crate) sent: Vec<UnacknowledgedPublication>,
     /// The publications that were published while it was offline, in the order of their calls.
-    pub(crate) unsent: Vec<UnacknowledgedPublication>,
+    pub(crate) queued: Vec<UnacknowledgedPublication>,
     /// The identifiers of QoS 2 publications that it accepted and has no PUBREL for.
     pub(crate) received: Vec<PacketId>,
     /// The requests that were not answered yet. They end with the connection.
@@ -51,7 +51,7 @@ impl Drop for ClientCore {
             keep_alive: _,
             released: _released,
             sent: _sent,
-            unsent: _unsent,
+            queued: _queued,
             received: _received,
             requests: _requests,
             stage: _stage,
@@ -76,7 +76,7 @@ impl Model for ClientCore {
         keep_alive = core.keep_alive;
         released = core.released.items;
         sent = core.sent.items;
-        unsent = core.unsent.items;
+        queued = core.queued.items;
         received = core.received.items;
         requests = core.requests.items;
         stage = core.stage;
@@ -102,7 +102,7 @@ impl ClientCore {
             keep_alive,
             released: Vec::new(alloc),
             sent: Vec::new(alloc),
-            unsent: Vec::new(alloc),
+            queued: Vec::new(alloc),
             received: Vec::new(alloc),
             requests: Vec::new(alloc),
             stage: Stage::Closed,

@@ -6,14 +6,14 @@ ghost use Rattle.packet.specs.declared.delivery.Delivery.TheVariants as deliveri
 ghost use Rattle.client_base.specs.Answered.{on_publish, on_puback, on_pubrec, on_pubcomp};
 ghost use Rattle.client_base.specs.Answered.{on_pubrel, answered, accepted_of};
 ghost use Rattle.client_base.specs.Answered.{is_subscribe, is_unsubscribe};
-ghost use Rattle.client.specs.Inside.Handling.{Tries, quiet_outcome};
+ghost use Rattle.client.specs.Inside.PacketSteps.{Tries, quiet_outcome};
 
 use crate::client_core::ClientCore;
 use crate::identifiers::{
     end_acknowledged, end_subscribes, end_unsubscribes, forget, has_id, has_unreleased,
     take_released,
 };
-use crate::writing::{write_puback, write_pubcomp, write_pubrec, write_pubrel};
+use crate::output::{write_puback, write_pubcomp, write_pubrec, write_pubrel};
 use client_base::{Accepted, ClientError};
 use packet::{Delivery, Publish};
 use packet_base::PacketId;

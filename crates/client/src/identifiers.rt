@@ -7,7 +7,7 @@ ghost use Rattle.client_base.specs.State.{id_of_request, used_ids};
 ghost use Rattle.client_base.specs.Answered.{awaits_puback, awaits_pubrec};
 ghost use Rattle.client_base.specs.Answered.{is_subscribe, is_unsubscribe};
 ghost use Rattle.session_base.specs.Identifiers.{without_id};
-ghost use Rattle.client_base.specs.Publishing.{next_id, has_free_id};
+ghost use Rattle.client_base.specs.Publications.{next_id, has_free_id};
 
 use crate::client_core::ClientCore;
 use client_base::{Request, UnacknowledgedPublication};
@@ -32,33 +32,33 @@ impl ClientCore {
         if self.is_used(last) { None } else { Some(last) }
     }
 
-    // Says whether a publication or a request has this identifier.
+    // Returns true if a publication or a request has this identifier.
     #[tactic(auto, using(crate::proofs::Used::used_in_parts))]
     fn is_used(&self, id: PacketId) -> bool
         ensures { result ≡ has_id id (used_ids self.now.state) }
     {
         has_id(&self.released, id)
             || is_kept(&self.sent, id)
-            || is_kept(&self.unsent, id)
+            || is_kept(&self.queued, id)
             || is_asked(&self.requests, id)
     }
 }
 
-/// Says whether the identifier is among these.
+/// Returns true if the identifier is among these.
 pub(crate) fn has_id(ids: &[PacketId], id: PacketId) -> bool
     ensures { result ≡ has_id id ids.now }
 {
     ids.iter().any(|other| id == *other)
 }
 
-// Says whether a kept publication has it.
+// Returns true if a kept publication has it.
 fn is_kept(kept: &[UnacknowledgedPublication], id: PacketId) -> bool
     ensures { result ≡ list_any (λ one. id == one.id) kept.now }
 {
     kept.iter().any(|one| id == one.id)
 }
 
-// Says whether a request has it.
+// Returns true if a request has it.
 fn is_asked(requests: &[Request], id: PacketId) -> bool
     ensures { result ≡ list_any (λ one. id == id_of_request one) requests.now }
 {
@@ -82,21 +82,21 @@ pub(crate) fn forget(ids: &mut Vec<PacketId>, id: PacketId)
     ids.retain(|other| id != *other);
 }
 
-// Says whether PUBACK with this identifier ends the publication.
+// Returns true if PUBACK with this identifier ends the publication.
 fn awaits_puback(id: PacketId, kept: &UnacknowledgedPublication) -> bool
     ensures { result ≡ awaits_puback id kept.now }
 {
     id == kept.id && kept.publication.qos == QoS::AtLeastOnce
 }
 
-/// Says whether PUBREC with this identifier releases the publication.
+/// Returns true if PUBREC with this identifier releases the publication.
 pub(crate) fn awaits_pubrec(id: PacketId, kept: &UnacknowledgedPublication) -> bool
     ensures { result ≡ awaits_pubrec id kept.now }
 {
     id == kept.id && kept.publication.qos != QoS::AtLeastOnce
 }
 
-// Says whether SUBACK with this identifier answers the request.
+// Returns true if SUBACK with this identifier answers the request.
 fn is_subscribe(id: PacketId, request: Request) -> bool
     ensures { result ≡ is_subscribe id request }
 {
@@ -106,7 +106,7 @@ fn is_subscribe(id: PacketId, request: Request) -> bool
     }
 }
 
-// Says whether UNSUBACK with this identifier answers the request.
+// Returns true if UNSUBACK with this identifier answers the request.
 fn is_unsubscribe(id: PacketId, request: Request) -> bool
     ensures { result ≡ is_unsubscribe id request }
 {
@@ -116,7 +116,7 @@ fn is_unsubscribe(id: PacketId, request: Request) -> bool
     }
 }
 
-/// Says whether PUBREC with this identifier releases one of these.
+/// Returns true if PUBREC with this identifier releases one of these.
 pub(crate) fn has_unreleased(kept: &[UnacknowledgedPublication], id: PacketId) -> bool
     ensures { result ≡ list_any (awaits_pubrec id) kept.now }
 {

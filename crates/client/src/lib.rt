@@ -3,16 +3,16 @@
 //! nothing else.
 #![tactic(auto)]
 
-mod asking;
 mod client_core;
-mod connecting;
+mod connections;
 mod handshakes;
 mod identifiers;
-mod publishing;
+mod input;
+mod output;
+mod publications;
 mod readers;
-mod reading;
-mod refusing;
-mod writing;
+mod refusals;
+mod requests;
 
 pub use client_base::{Accepted, ClientError, Request, Stage, UnacknowledgedPublication};
 pub use client_core::ClientCore;

@@ -57,18 +57,18 @@ impl ClientCore {
         ensures { result ≡ min (kept_count self.now.state) usize.MAX }
     {
         let sent = self.released.len().saturating_add(self.sent.len());
-        sent.saturating_add(self.unsent.len())
+        sent.saturating_add(self.queued.len())
     }
 
-    /// Says whether the server accepted the connection, and it is still open.
+    /// Returns true if the server accepted the connection, and it is still open.
     pub fn is_connected(&self) -> bool
         ensures { result ≡ is_online self.now.state.stage }
     {
         self.stage == Stage::Online
     }
 
-    /// Says whether the server reported, on the last accepted connection, that it has a session of
-    /// this client; false before the first.
+    /// Returns true if the server reported, on the last accepted connection, that it has a session
+    /// of this client; false before the first.
     pub fn is_session_present(&self) -> bool
         ensures { result ≡ self.now.state.session_present }
     {

@@ -6,7 +6,7 @@ use Rattle.packet.specs.declared.packet.Packet.TheVariants as packets
 use Rattle.session_base.specs.declared.publication.Publication.{Publication}
 use Rattle.session_base.specs.Publication.{is_answered}
 use Rattle.session_base.specs.Identifiers.{least_free}
-use Rattle.session_base.specs.Laws.{IsLeastFree}
+use Rattle.session_base.specs.Theorems.{IsLeastFree}
 use Rattle.client_base.specs.declared.error.ClientError.{ClientError}
 use Rattle.client_base.specs.declared.error.ClientError.TheVariants as errors
 use Rattle.client_base.specs.declared.request.Request.{Request}
@@ -15,11 +15,11 @@ use Rattle.client_base.specs.declared.stage.Stage.{Stage}
 use Rattle.client_base.specs.declared.stage.Stage.TheVariants as stages
 use Rattle.client_base.specs.State.{ClientState, is_online, lost}
 use Rattle.client_base.specs.Calls.{opened}
-use Rattle.client_base.specs.Publishing.{next_id, published, publish_refusal}
+use Rattle.client_base.specs.Publications.{next_id, published, publish_refusal}
 use Rattle.client_base.specs.Steps.{Call, unless_refused, request_refusal, asked, disconnected}
 use Rattle.client_base.specs.Called.{with_request, keeper_goes}
 use Rattle.client_base.specs.Connected as connected
-use Rattle.client_base.specs.HistoryLaws.{CallsFollow}
+use Rattle.client_base.specs.HistoryTheorems.{CallsFollow}
 use Rattle.client_base.specs.Written.{plain, writes}
 use Rattle.client_base.specs.Keeper.{Side, ids_in_use}
 use Rattle.client_base.specs.Handled as handling
@@ -99,7 +99,7 @@ opens_follow fresh side state e s =
       client = s.client;
       released = s.released;
       sent = s.sent;
-      unsent = s.unsent;
+      queued = s.queued;
       received = s.received;
       requests = refl;
       is_open = refl;

@@ -10,8 +10,8 @@ use Rattle.client_base.specs.State.{ClientState}
 use Rattle.client_base.specs.Answered.{ClientOutcome}
 use Rattle.client_base.specs.Keeper.{Own, Keeper, Side, next_own_number}
 use Rattle.client_base.specs.Written.{written_publish}
-use Rattle.client_base.specs.History.{KeeperStandsFor, sent_of, unsent_of, released_of, IsSentFirst}
-use Rattle.client_base.proofs.SentAll.{sent_more, unsent_more, released_more}
+use Rattle.client_base.specs.History.{KeeperStandsFor, sent_of, queued_of, released_of, IsSentFirst}
+use Rattle.client_base.proofs.SentAll.{sent_more, queued_more, released_more}
 use Rattle.client_base.proofs.FollowsPackets.{Same}
 
 -- ---- one more publication, and what was sent still comes first
@@ -23,16 +23,16 @@ is_none (x ∷ xs) = false
 -- one that was not sent, or is done
 first_after : (own : List Own) (o : Own) → sent_of (o ∷ []) ≡ [] → IsSentFirst (o ∷ []) → IsSentFirst own → IsSentFirst (own ++ o ∷ [])
 first_after [] o none alone first = alone
-first_after (Own.Unsent k p id ∷ own) o none alone first =
+first_after (Own.Queued k p id ∷ own) o none alone first =
     (sent_more own (o ∷ []) ∙ ap₂ (λ x y. x ++ y) first.0 none, first_after own o none alone first.1)
 first_after (Own.Sent k p id ∷ own) o none alone first = first_after own o none alone first
 first_after (Own.Released k p id ∷ own) o none alone first = first_after own o none alone first
 first_after (Own.Done k p ∷ own) o none alone first = first_after own o none alone first
 
 -- one that was sent, if all were
-first_sent : (own : List Own) (k : ℕ) (p : Publication) (id : ℕ) → unsent_of own ≡ [] → IsSentFirst (own ++ Own.Sent k p id ∷ [])
+first_sent : (own : List Own) (k : ℕ) (p : Publication) (id : ℕ) → queued_of own ≡ [] → IsSentFirst (own ++ Own.Sent k p id ∷ [])
 first_sent [] k p id none = tt
-first_sent (Own.Unsent n q i ∷ own) k p id none = absurd (both_ways false refl (ap is_none none))
+first_sent (Own.Queued n q i ∷ own) k p id none = absurd (both_ways false refl (ap is_none none))
 first_sent (Own.Sent n q i ∷ own) k p id none = first_sent own k p id none
 first_sent (Own.Released n q i ∷ own) k p id none = first_sent own k p id none
 first_sent (Own.Done n q ∷ own) k p id none = first_sent own k p id none
@@ -40,7 +40,7 @@ first_sent (Own.Done n q ∷ own) k p id none = first_sent own k p id none
 -- ---- publishing, with one identifier on both sides
 
 abbrev pub own_of : Publication → ℕ → ℕ → Bool → Bool → Own
-own_of p id n answered online = if answered then (if online then Own.Sent n p id else Own.Unsent n p id) else Own.Done n p
+own_of p id n answered online = if answered then (if online then Own.Sent n p id else Own.Queued n p id) else Own.Done n p
 
 abbrev pub kept_of : Publication → ℕ → UnacknowledgedPublication
 kept_of p id = record { id = id; publication = p }
@@ -60,19 +60,19 @@ publish_outcome p id state answered online =
       writes = packets.Publish (publish_for false id p) ∷ [];
       refusal = None;
     }
-    else record { state = record state { unsent = state.unsent ++ kept_of p id ∷ [] }; writes = []; refusal = None }
+    else record { state = record state { queued = state.queued ++ kept_of p id ∷ [] }; writes = []; refusal = None }
 
 -- with one more of its own
-own_stands : (keeper : Keeper) (state : ClientState) (o : Own) (sent unsent : List UnacknowledgedPublication) → KeeperStandsFor keeper state
-    → sent ≡ sent_of (o ∷ []) → unsent ≡ unsent_of (o ∷ []) → released_of (o ∷ []) ≡ [] → IsSentFirst (keeper.own ++ o ∷ [])
-    → (keeper.is_online ≡ true → unsent ≡ [])
-    → KeeperStandsFor (record keeper { own = keeper.own ++ o ∷ [] }) (record state { sent = state.sent ++ sent; unsent = state.unsent ++ unsent })
-own_stands keeper state o sent unsent s is_sent is_unsent released first online =
+own_stands : (keeper : Keeper) (state : ClientState) (o : Own) (sent queued : List UnacknowledgedPublication) → KeeperStandsFor keeper state
+    → sent ≡ sent_of (o ∷ []) → queued ≡ queued_of (o ∷ []) → released_of (o ∷ []) ≡ [] → IsSentFirst (keeper.own ++ o ∷ [])
+    → (keeper.is_online ≡ true → queued ≡ [])
+    → KeeperStandsFor (record keeper { own = keeper.own ++ o ∷ [] }) (record state { sent = state.sent ++ sent; queued = state.queued ++ queued })
+own_stands keeper state o sent queued s is_sent is_queued released first online =
     record {
       client = s.client;
       released = s.released;
       sent = ap₂ (λ x y. x ++ y) s.sent is_sent ∙ sym (sent_more keeper.own (o ∷ []));
-      unsent = ap₂ (λ x y. x ++ y) s.unsent is_unsent ∙ sym (unsent_more keeper.own (o ∷ []));
+      queued = ap₂ (λ x y. x ++ y) s.queued is_queued ∙ sym (queued_more keeper.own (o ∷ []));
       received = s.received;
       requests = s.requests;
       is_open = s.is_open;
@@ -81,18 +81,18 @@ own_stands keeper state o sent unsent s is_sent is_unsent released first online 
       releases_are = λ j.
           s.releases_are j ∙ ap (has_id j) (sym (append-nil (released_of keeper.own)) ∙ ap (λ l. released_of keeper.own ++ l) (sym released) ∙ sym (released_more keeper.own (o ∷ [])));
       sent_first = first;
-      online_sent = λ e. unsent_more keeper.own (o ∷ []) ∙ ap₂ (λ x y. x ++ y) (s.online_sent e) (sym is_unsent ∙ online e);
+      online_sent = λ e. queued_more keeper.own (o ∷ []) ∙ ap₂ (λ x y. x ++ y) (s.online_sent e) (sym is_queued ∙ online e);
     }
 
 -- nothing more is nothing
-none_more : (state : ClientState) (sent unsent : List UnacknowledgedPublication) (keeper : Keeper) → state.sent ≡ sent → state.unsent ≡ unsent
-    → KeeperStandsFor keeper (record state { sent = sent; unsent = unsent }) → KeeperStandsFor keeper state
-none_more state sent unsent keeper e f s =
+none_more : (state : ClientState) (sent queued : List UnacknowledgedPublication) (keeper : Keeper) → state.sent ≡ sent → state.queued ≡ queued
+    → KeeperStandsFor keeper (record state { sent = sent; queued = queued }) → KeeperStandsFor keeper state
+none_more state sent queued keeper e f s =
     record {
       client = s.client;
       released = s.released;
       sent = e ∙ s.sent;
-      unsent = f ∙ s.unsent;
+      queued = f ∙ s.queued;
       received = s.received;
       requests = s.requests;
       is_open = s.is_open;
@@ -106,20 +106,20 @@ none_more state sent unsent keeper e f s =
 sent_stands : (p : Publication) (id n : ℕ) (keeper : Keeper) (state : ClientState) → KeeperStandsFor keeper state → keeper.is_online ≡ true
     → KeeperStandsFor (record keeper { own = keeper.own ++ Own.Sent n p id ∷ [] }) (record state { sent = state.sent ++ kept_of p id ∷ [] })
 sent_stands p id n keeper state s online =
-    none_more (record state { sent = state.sent ++ kept_of p id ∷ [] }) (state.sent ++ kept_of p id ∷ []) (state.unsent ++ []) _ refl (sym (append-nil state.unsent))
+    none_more (record state { sent = state.sent ++ kept_of p id ∷ [] }) (state.sent ++ kept_of p id ∷ []) (state.queued ++ []) _ refl (sym (append-nil state.queued))
     (own_stands keeper state (Own.Sent n p id) (kept_of p id ∷ []) [] s refl refl refl (first_sent keeper.own n p id (s.online_sent online)) (λ e. refl))
 
-unsent_stands : (p : Publication) (id n : ℕ) (keeper : Keeper) (state : ClientState) → KeeperStandsFor keeper state → keeper.is_online ≡ false
-    → KeeperStandsFor (record keeper { own = keeper.own ++ Own.Unsent n p id ∷ [] }) (record state { unsent = state.unsent ++ kept_of p id ∷ [] })
-unsent_stands p id n keeper state s offline =
-    none_more (record state { unsent = state.unsent ++ kept_of p id ∷ [] }) (state.sent ++ []) (state.unsent ++ kept_of p id ∷ []) _ (sym (append-nil state.sent)) refl
-    (own_stands keeper state (Own.Unsent n p id) [] (kept_of p id ∷ []) s refl refl refl (first_after keeper.own (Own.Unsent n p id) refl (refl, tt) s.sent_first)
+queued_stands : (p : Publication) (id n : ℕ) (keeper : Keeper) (state : ClientState) → KeeperStandsFor keeper state → keeper.is_online ≡ false
+    → KeeperStandsFor (record keeper { own = keeper.own ++ Own.Queued n p id ∷ [] }) (record state { queued = state.queued ++ kept_of p id ∷ [] })
+queued_stands p id n keeper state s offline =
+    none_more (record state { queued = state.queued ++ kept_of p id ∷ [] }) (state.sent ++ []) (state.queued ++ kept_of p id ∷ []) _ (sym (append-nil state.sent)) refl
+    (own_stands keeper state (Own.Queued n p id) [] (kept_of p id ∷ []) s refl refl refl (first_after keeper.own (Own.Queued n p id) refl (refl, tt) s.sent_first)
     (λ e. absurd (both_ways keeper.is_online offline e)))
 
 done_stands : (p : Publication) (n : ℕ) (keeper : Keeper) (state : ClientState) → KeeperStandsFor keeper state
     → KeeperStandsFor (record keeper { own = keeper.own ++ Own.Done n p ∷ [] }) state
 done_stands p n keeper state s =
-    none_more state (state.sent ++ []) (state.unsent ++ []) _ (sym (append-nil state.sent)) (sym (append-nil state.unsent))
+    none_more state (state.sent ++ []) (state.queued ++ []) _ (sym (append-nil state.sent)) (sym (append-nil state.queued))
     (own_stands keeper state (Own.Done n p) [] [] s refl refl refl (first_after keeper.own (Own.Done n p) refl tt s.sent_first) (λ e. refl))
 
 pub publish_follows : (p : Publication) (id : ℕ) (side : Side ℕ) (state : ClientState) (answered online up : Bool) → KeeperStandsFor side.keeper state → online ≡ up
@@ -127,7 +127,7 @@ pub publish_follows : (p : Publication) (id : ℕ) (side : Side ℕ) (state : Cl
 publish_follows p id side state true true true s e f g =
     record { stands = sent_stands p id (next_own_number side.keeper) side.keeper state s f; writes = (written_publish false (next_own_number side.keeper) id p ∷ [], refl, refl) }
 publish_follows p id side state true false false s e f g =
-    record { stands = unsent_stands p id (next_own_number side.keeper) side.keeper state s f; writes = ([], refl, refl) }
+    record { stands = queued_stands p id (next_own_number side.keeper) side.keeper state s f; writes = ([], refl, refl) }
 publish_follows p id side state false true true s e f g =
     record { stands = done_stands p (next_own_number side.keeper) side.keeper state s; writes = (written_publish false (next_own_number side.keeper) id p ∷ [], refl, refl) }
 publish_follows p id side state false false up s e f g = absurd (both_ways false refl (g refl))

@@ -14,7 +14,7 @@ use Rattle.client_base.specs.Written.{plain, sent_all, written_again, written_fi
 use Rattle.client_base.specs.Written as history
 use Rattle.client_base.specs.Handled as handling
 use Rattle.client_base.specs.History.{KeeperStandsFor}
-use Rattle.client_base.proofs.SentAll.{all_unsent, all_released, all_first, all_sent, packets_in, again_same, first_same}
+use Rattle.client_base.proofs.SentAll.{all_queued, all_released, all_first, all_sent, packets_in, again_same, first_same}
 use Rattle.client_base.proofs.FollowsPackets.{Same}
 
 joined_packets : (xs ys : List Written) → packets_in (xs ++ ys) ≡ packets_in xs ++ packets_in ys
@@ -40,18 +40,18 @@ resent_same keeper state s =
     (joined_packets (map (λ id. plain (packets.Pubrel id)) keeper.releases) (written_again keeper.own)
     ∙ ap₂ (λ x y. x ++ y) (pubrels keeper.releases ∙ ap (map packets.Pubrel) (sym s.released))
     (again_same keeper.own ∙ ap (map (publish_kept true)) (sym s.sent)))
-    (first_same keeper.own ∙ ap (map (publish_kept false)) (sym s.unsent))
+    (first_same keeper.own ∙ ap (map (publish_kept false)) (sym s.queued))
 
 -- all of it is sent then
 all_stand : (keeper : Keeper) (state : ClientState) (present : Bool) → KeeperStandsFor keeper state → nat_lt 0 state.session ≡ true → keeper.is_open ≡ true
     → KeeperStandsFor (record keeper { own = sent_all keeper.own; is_online = true; was_served = true })
-    (record state { sent = state.sent ++ state.unsent; unsent = []; stage = stages.Online; session_present = present })
+    (record state { sent = state.sent ++ state.queued; queued = []; stage = stages.Online; session_present = present })
 all_stand keeper state present s served up =
     record {
       client = s.client;
       released = s.released;
-      sent = ap₂ (λ x y. x ++ y) s.sent s.unsent ∙ sym (all_sent keeper.own s.sent_first);
-      unsent = sym (all_unsent keeper.own);
+      sent = ap₂ (λ x y. x ++ y) s.sent s.queued ∙ sym (all_sent keeper.own s.sent_first);
+      queued = sym (all_queued keeper.own);
       received = s.received;
       requests = s.requests;
       is_open = sym up;
@@ -59,7 +59,7 @@ all_stand keeper state present s served up =
       was_served = served;
       releases_are = λ j. s.releases_are j ∙ ap (has_id j) (sym (all_released keeper.own));
       sent_first = all_first keeper.own;
-      online_sent = λ e. all_unsent keeper.own;
+      online_sent = λ e. all_queued keeper.own;
     }
 
 discarded_stands : (keeper : Keeper) (state : ClientState) → KeeperStandsFor keeper state → nat_lt 0 state.session ≡ true
@@ -69,7 +69,7 @@ discarded_stands keeper state s served =
       client = s.client;
       released = refl;
       sent = refl;
-      unsent = refl;
+      queued = refl;
       received = λ j. refl;
       requests = s.requests;
       is_open = s.is_open;
@@ -87,7 +87,7 @@ numbered_stands keeper state s =
       client = s.client;
       released = s.released;
       sent = s.sent;
-      unsent = s.unsent;
+      queued = s.queued;
       received = s.received;
       requests = s.requests;
       is_open = s.is_open;
@@ -110,7 +110,7 @@ settled_side side kept =
 abbrev settled_turn : Bool → ClientState → Option ClientError → ClientOutcome
 settled_turn present kept refusal =
     record {
-      state = record kept { sent = kept.sent ++ kept.unsent; unsent = []; stage = stages.Online; session_present = present };
+      state = record kept { sent = kept.sent ++ kept.queued; queued = []; stage = stages.Online; session_present = present };
       writes = resent kept;
       refusal = refusal;
     }

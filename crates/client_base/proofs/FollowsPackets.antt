@@ -18,7 +18,7 @@ use Rattle.client_base.specs.Keeper.{Own, ClientConnection, Keeper, Side}
 use Rattle.client_base.specs.Written.{plain, writing}
 use Rattle.client_base.specs.Handshakes.{own_at_puback, takes_in}
 use Rattle.client_base.specs.History.{KeeperStandsFor, WritesMore, IsSentFirst}
-use Rattle.client_base.proofs.Readings.{puback_sent, puback_unsent, puback_released}
+use Rattle.client_base.proofs.Readings.{puback_sent, puback_queued, puback_released}
 use Rattle.client_base.proofs.Released.{has_without}
 
 -- what follows: the state corresponds to the client, and the same is written
@@ -44,7 +44,7 @@ received_stands keeper state xs ys accepted s same =
       client = s.client;
       released = s.released;
       sent = s.sent;
-      unsent = s.unsent;
+      queued = s.queued;
       received = same;
       requests = s.requests;
       is_open = s.is_open;
@@ -115,7 +115,7 @@ pubrel_follows id side state s =
 
 first_puback : (i : ℕ) (own : List Own) → IsSentFirst own → IsSentFirst (map (own_at_puback i) own)
 first_puback i [] first = tt
-first_puback i (Own.Unsent k p id ∷ own) first =
+first_puback i (Own.Queued k p id ∷ own) first =
     (puback_sent i own ∙ ap (λ l. filter (λ one. not (awaits_puback i one)) l) first.0, first_puback i own first.1)
 first_puback i (Own.Sent k p id ∷ own) first = by ((i == id) && is_qos1 p.qos) (first_puback i own first)
   where
@@ -133,7 +133,7 @@ puback_follows i side state s =
         client = s.client;
         released = s.released;
         sent = ap (λ l. filter (λ one. not (awaits_puback i one)) l) s.sent ∙ sym (puback_sent i side.keeper.own);
-        unsent = s.unsent ∙ sym (puback_unsent i side.keeper.own);
+        queued = s.queued ∙ sym (puback_queued i side.keeper.own);
         received = s.received;
         requests = s.requests;
         is_open = s.is_open;
@@ -141,7 +141,7 @@ puback_follows i side state s =
         was_served = s.was_served;
         releases_are = λ j. s.releases_are j ∙ ap (has_id j) (sym (puback_released i side.keeper.own));
         sent_first = first_puback i side.keeper.own s.sent_first;
-        online_sent = λ e. puback_unsent i side.keeper.own ∙ s.online_sent e;
+        online_sent = λ e. puback_queued i side.keeper.own ∙ s.online_sent e;
       };
       writes = silent side.connection;
     }

@@ -14,7 +14,7 @@ use Rattle.client_base.specs.Keeper.{Own, Keeper, Side}
 use Rattle.client_base.specs.Written.{plain, writing}
 use Rattle.client_base.specs.Handshakes.{own_at_pubrec, own_at_pubcomp, is_sent_with, pubrec_answered}
 use Rattle.client_base.specs.History.{KeeperStandsFor, released_of, IsSentFirst}
-use Rattle.client_base.proofs.Readings.{pubrec_sent, pubrec_unsent, pubrec_waits, pubcomp_sent, pubcomp_unsent, pubcomp_released}
+use Rattle.client_base.proofs.Readings.{pubrec_sent, pubrec_queued, pubrec_waits, pubcomp_sent, pubcomp_queued, pubcomp_released}
 use Rattle.client_base.proofs.Released.{has_without, pubrec_released}
 use Rattle.client_base.proofs.FollowsPackets.{Same, silent, one_written}
 
@@ -22,7 +22,7 @@ use Rattle.client_base.proofs.FollowsPackets.{Same, silent, one_written}
 
 first_pubrec : (i : ℕ) (own : List Own) → IsSentFirst own → IsSentFirst (map (own_at_pubrec i) own)
 first_pubrec i [] first = tt
-first_pubrec i (Own.Unsent k p id ∷ own) first =
+first_pubrec i (Own.Queued k p id ∷ own) first =
     (pubrec_sent i own ∙ ap (λ l. filter (λ one. not (awaits_pubrec i one)) l) first.0, first_pubrec i own first.1)
 first_pubrec i (Own.Sent k p id ∷ own) first = by ((i == id) && not (is_qos1 p.qos)) (first_pubrec i own first)
   where
@@ -41,7 +41,7 @@ released_last i keeper state s waits =
       client = s.client;
       released = ap (λ l. l ++ i ∷ []) s.released;
       sent = ap (λ l. filter (λ one. not (awaits_pubrec i one)) l) s.sent ∙ sym (pubrec_sent i keeper.own);
-      unsent = s.unsent ∙ sym (pubrec_unsent i keeper.own);
+      queued = s.queued ∙ sym (pubrec_queued i keeper.own);
       received = s.received;
       requests = s.requests;
       is_open = s.is_open;
@@ -51,7 +51,7 @@ released_last i keeper state s waits =
           has_append j keeper.releases (i ∷ []) ∙ ap₂ (λ x y. x || y) (s.releases_are j) (alone (j == i) ∙ ap (λ b. (j == i) && b) (sym waits))
           ∙ sym (pubrec_released j i keeper.own);
       sent_first = first_pubrec i keeper.own s.sent_first;
-      online_sent = λ e. pubrec_unsent i keeper.own ∙ s.online_sent e;
+      online_sent = λ e. pubrec_queued i keeper.own ∙ s.online_sent e;
     }
   where
     alone : (b : Bool) → (b || false) ≡ (b && true)
@@ -90,7 +90,7 @@ pubrec_follows i side state s =
 
 first_pubcomp : (i : ℕ) (own : List Own) → IsSentFirst own → IsSentFirst (map (own_at_pubcomp i) own)
 first_pubcomp i [] first = tt
-first_pubcomp i (Own.Unsent k p id ∷ own) first = (pubcomp_sent i own ∙ first.0, first_pubcomp i own first.1)
+first_pubcomp i (Own.Queued k p id ∷ own) first = (pubcomp_sent i own ∙ first.0, first_pubcomp i own first.1)
 first_pubcomp i (Own.Sent k p id ∷ own) first = first_pubcomp i own first
 first_pubcomp i (Own.Released k p id ∷ own) first = by (i == id) (first_pubcomp i own first)
   where
@@ -107,7 +107,7 @@ pubcomp_follows i side state s =
         client = s.client;
         released = ap (without_id i) s.released;
         sent = s.sent ∙ sym (pubcomp_sent i side.keeper.own);
-        unsent = s.unsent ∙ sym (pubcomp_unsent i side.keeper.own);
+        queued = s.queued ∙ sym (pubcomp_queued i side.keeper.own);
         received = s.received;
         requests = s.requests;
         is_open = s.is_open;
@@ -117,7 +117,7 @@ pubcomp_follows i side state s =
             has_without j i side.keeper.releases ∙ ap (λ b. not (i == j) && b) (s.releases_are j) ∙ sym (has_without j i (released_of side.keeper.own))
             ∙ ap (has_id j) (sym (pubcomp_released i side.keeper.own));
         sent_first = first_pubcomp i side.keeper.own s.sent_first;
-        online_sent = λ e. pubcomp_unsent i side.keeper.own ∙ s.online_sent e;
+        online_sent = λ e. pubcomp_queued i side.keeper.own ∙ s.online_sent e;
       };
       writes = silent side.connection;
     }

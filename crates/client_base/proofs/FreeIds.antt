@@ -4,10 +4,10 @@ use Rattle.std.proofs.lemmas.Bool.{both_ways, cases_lt}
 use Rattle.lists.specs.Lists.{has_id}
 use Rattle.lists.proofs.Identifiers.{has_append}
 use Rattle.session_base.specs.Identifiers.{least_free}
-use Rattle.session_base.specs.Laws.{IsLeastFree}
+use Rattle.session_base.specs.Theorems.{IsLeastFree}
 use Rattle.client_base.specs.State.{ClientState, ids_of_kept, id_of_request, used_ids}
 use Rattle.client_base.specs.Keeper.{Own, Keeper, ids_of_own, ids_in_use}
-use Rattle.client_base.specs.History.{KeeperStandsFor, sent_of, unsent_of, released_of}
+use Rattle.client_base.specs.History.{KeeperStandsFor, sent_of, queued_of, released_of}
 
 -- while each below is used, the least free one is not below
 pub least_past : (busy : List ℕ) (n : ℕ) → IsLeastFree → ((j : ℕ) → 1 ≤ j → j < n → has_id j busy ≡ true) → n ≤ least_free busy
@@ -35,25 +35,25 @@ same_least ids others law same =
 -- ---- all that was published, by its place
 
 own_parts : (j : ℕ) (own : List Own) →
-    has_id j (ids_of_own own) ≡ ((has_id j (released_of own) || has_id j (ids_of_kept (sent_of own))) || has_id j (ids_of_kept (unsent_of own)))
+    has_id j (ids_of_own own) ≡ ((has_id j (released_of own) || has_id j (ids_of_kept (sent_of own))) || has_id j (ids_of_kept (queued_of own)))
 own_parts j [] = refl
-own_parts j (Own.Unsent k p id ∷ own) = ap (λ b. (j == id) || b) (own_parts j own) ∙ last (j == id) (has_id j (released_of own) || has_id j (ids_of_kept (sent_of own)))
+own_parts j (Own.Queued k p id ∷ own) = ap (λ b. (j == id) || b) (own_parts j own) ∙ last (j == id) (has_id j (released_of own) || has_id j (ids_of_kept (sent_of own)))
   where
-    last : (x a : Bool) → (x || (a || has_id j (ids_of_kept (unsent_of own)))) ≡ (a || (x || has_id j (ids_of_kept (unsent_of own))))
+    last : (x a : Bool) → (x || (a || has_id j (ids_of_kept (queued_of own)))) ≡ (a || (x || has_id j (ids_of_kept (queued_of own))))
     last true true = refl
     last true false = refl
     last false a = refl
 own_parts j (Own.Sent k p id ∷ own) = ap (λ b. (j == id) || b) (own_parts j own) ∙ middle (j == id) (has_id j (released_of own))
   where
-    middle : (x r : Bool) → (x || ((r || has_id j (ids_of_kept (sent_of own))) || has_id j (ids_of_kept (unsent_of own))))
-        ≡ ((r || (x || has_id j (ids_of_kept (sent_of own)))) || has_id j (ids_of_kept (unsent_of own)))
+    middle : (x r : Bool) → (x || ((r || has_id j (ids_of_kept (sent_of own))) || has_id j (ids_of_kept (queued_of own))))
+        ≡ ((r || (x || has_id j (ids_of_kept (sent_of own)))) || has_id j (ids_of_kept (queued_of own)))
     middle true true = refl
     middle true false = refl
     middle false r = refl
 own_parts j (Own.Released k p id ∷ own) = ap (λ b. (j == id) || b) (own_parts j own) ∙ front (j == id)
   where
-    front : (x : Bool) → (x || ((has_id j (released_of own) || has_id j (ids_of_kept (sent_of own))) || has_id j (ids_of_kept (unsent_of own))))
-        ≡ (((x || has_id j (released_of own)) || has_id j (ids_of_kept (sent_of own))) || has_id j (ids_of_kept (unsent_of own)))
+    front : (x : Bool) → (x || ((has_id j (released_of own) || has_id j (ids_of_kept (sent_of own))) || has_id j (ids_of_kept (queued_of own))))
+        ≡ (((x || has_id j (released_of own)) || has_id j (ids_of_kept (sent_of own))) || has_id j (ids_of_kept (queued_of own)))
     front true = refl
     front false = refl
 own_parts j (Own.Done k p ∷ own) = own_parts j own
@@ -61,13 +61,13 @@ own_parts j (Own.Done k p ∷ own) = own_parts j own
 -- a state uses the identifiers of the client that it corresponds to
 used_same : (keeper : Keeper) (state : ClientState) → KeeperStandsFor keeper state → (j : ℕ) → has_id j (used_ids state) ≡ has_id j (ids_in_use keeper)
 used_same keeper state stands j =
-    has_append j ((state.released ++ ids_of_kept state.sent) ++ ids_of_kept state.unsent) (map id_of_request state.requests)
+    has_append j ((state.released ++ ids_of_kept state.sent) ++ ids_of_kept state.queued) (map id_of_request state.requests)
     ∙ ap₂ (λ x y. x || y)
-    (has_append j (state.released ++ ids_of_kept state.sent) (ids_of_kept state.unsent)
+    (has_append j (state.released ++ ids_of_kept state.sent) (ids_of_kept state.queued)
     ∙ ap₂ (λ x y. x || y)
     (has_append j state.released (ids_of_kept state.sent)
     ∙ ap₂ (λ x y. x || y) (ap (has_id j) stands.released ∙ stands.releases_are j) (ap (λ sent. has_id j (ids_of_kept sent)) stands.sent))
-    (ap (λ unsent. has_id j (ids_of_kept unsent)) stands.unsent)
+    (ap (λ queued. has_id j (ids_of_kept queued)) stands.queued)
     ∙ sym (own_parts j keeper.own))
     (ap (λ requests. has_id j (map id_of_request requests)) stands.requests)
     ∙ sym (has_append j (ids_of_own keeper.own) (map id_of_request keeper.requests))

@@ -87,11 +87,11 @@ released_leaves i id (one ∷ sent) waits = by (id == one.id) (not (is_qos1 one.
 
 abbrev pub tally : ℕ → ClientState → ℕ
 tally i state =
-    (often i state.released + often i (ids_of_kept state.sent) + often i (ids_of_kept state.unsent)) + often i (map id_of_request state.requests)
+    (often i state.released + often i (ids_of_kept state.sent) + often i (ids_of_kept state.queued)) + often i (map id_of_request state.requests)
 
 pub used_tally : (i : ℕ) (state : ClientState) → often i (used_ids state) ≡ tally i state
 used_tally i state =
-    count-append (λ id. i == id) ((state.released ++ ids_of_kept state.sent) ++ ids_of_kept state.unsent) (map id_of_request state.requests)
+    count-append (λ id. i == id) ((state.released ++ ids_of_kept state.sent) ++ ids_of_kept state.queued) (map id_of_request state.requests)
     ∙ ap (λ n. n + often i (map id_of_request state.requests))
-    (count-append (λ id. i == id) (state.released ++ ids_of_kept state.sent) (ids_of_kept state.unsent)
-    ∙ ap (λ n. n + often i (ids_of_kept state.unsent)) (count-append (λ id. i == id) state.released (ids_of_kept state.sent)))
+    (count-append (λ id. i == id) (state.released ++ ids_of_kept state.sent) (ids_of_kept state.queued)
+    ∙ ap (λ n. n + often i (ids_of_kept state.queued)) (count-append (λ id. i == id) state.released (ids_of_kept state.sent)))

@@ -5,15 +5,15 @@ use Rattle.lists.proofs.Identifiers.{distinct_apart}
 use Rattle.packet.specs.declared.connack.Connack.TheVariants as connacks
 use Rattle.packet.specs.declared.packet.Packet.{Packet}
 use Rattle.packet.specs.declared.packet.Packet.TheVariants as packets
-use Rattle.session_base.specs.Laws.{IsLeastFree}
+use Rattle.session_base.specs.Theorems.{IsLeastFree}
 use Rattle.client_base.specs.declared.unacknowledged_publication.UnacknowledgedPublication.{UnacknowledgedPublication}
 use Rattle.client_base.specs.declared.stage.Stage.{Stage}
 use Rattle.client_base.specs.declared.stage.Stage.TheVariants as stages
 use Rattle.client_base.specs.State.{ClientState, new_client_state, ids_of_kept, used_ids, publication_ids, request_ids}
 use Rattle.client_base.specs.Calls.{client_receives, on_first, loses_session, discarded, numbered}
-use Rattle.client_base.specs.Publishing.{published, publish_refusal}
+use Rattle.client_base.specs.Publications.{published, publish_refusal}
 use Rattle.client_base.specs.Steps.{Call, keeper_step, request_refusal, subscribed, unsubscribed, state_after}
-use Rattle.client_base.specs.IdentifierLaws.{UsedIdentifiersAreDistinct, RequestsAreApart}
+use Rattle.client_base.specs.IdentifierTheorems.{UsedIdentifiersAreDistinct, RequestsAreApart}
 use Rattle.client_base.proofs.IdentifiersApart.{often, from_once, used_tally}
 use Rattle.client_base.proofs.IdentifiersStay.{AreOnce, fewer, published_once, asked_once, lost_once, ended_once, later_once, unless}
 
@@ -24,10 +24,10 @@ kept_joined i [] others = omega arith
 kept_joined i (k ∷ kept) others = let ih = kept_joined i kept others in omega (arith, ih)
 
 abbrev all_sent : Bool → ClientState → ClientState
-all_sent present kept = record kept { sent = kept.sent ++ kept.unsent; unsent = []; stage = stages.Online; session_present = present }
+all_sent present kept = record kept { sent = kept.sent ++ kept.queued; queued = []; stage = stages.Online; session_present = present }
 
 sent_all_once : (present : Bool) (kept : ClientState) → AreOnce kept → AreOnce (all_sent present kept)
-sent_all_once present kept few = fewer kept (all_sent present kept) (λ i. let m = kept_joined i kept.sent kept.unsent in omega (arith, m)) few
+sent_all_once present kept few = fewer kept (all_sent present kept) (λ i. let m = kept_joined i kept.sent kept.queued in omega (arith, m)) few
 
 confirmed_once : (b present : Bool) (state : ClientState) → AreOnce state → AreOnce (all_sent present (if b then discarded state else numbered state))
 confirmed_once true present state few = sent_all_once present (discarded state) (fewer state (discarded state) (λ i. omega arith) few)

@@ -10,7 +10,7 @@ use Rattle.packet.specs.declared.packet.Packet.{Packet}
 use Rattle.packet.specs.declared.packet.Packet.TheVariants as packets
 use Rattle.session_base.specs.declared.publication.Publication.{Publication}
 use Rattle.session_base.specs.Publication.{is_answered}
-use Rattle.session_base.specs.Laws.{IsLeastFree}
+use Rattle.session_base.specs.Theorems.{IsLeastFree}
 use Rattle.session_base.proofs.CountedIdentifiers.{one_if, count-append, not_counted}
 use Rattle.client_base.specs.declared.error.ClientError.{ClientError}
 use Rattle.client_base.specs.declared.unacknowledged_publication.UnacknowledgedPublication.{UnacknowledgedPublication}
@@ -20,7 +20,7 @@ use Rattle.client_base.specs.declared.stage.Stage.TheVariants as stages
 use Rattle.client_base.specs.State.{ClientState, is_online, ids_of_kept, id_of_request, used_ids}
 use Rattle.client_base.specs.Answered.{ClientOutcome, on_publish, awaits_puback, awaits_pubrec, is_subscribe, is_unsubscribe}
 use Rattle.client_base.specs.Calls.{on_later}
-use Rattle.client_base.specs.Publishing.{next_id, published}
+use Rattle.client_base.specs.Publications.{next_id, published}
 use Rattle.client_base.specs.Steps.{unless_refused, disconnected}
 use Rattle.client_base.proofs.IdentifiersApart.{often, fewer_kept, fewer_requests, fewer_ids, released_leaves, tally, used_tally}
 
@@ -70,16 +70,16 @@ sent_once law one state is few =
     one_more state (record state { sent = state.sent ++ one ∷ [] }) (next_id state) (next_free law state)
     (λ i. let m = kept_more i state.sent one in let n : one_if (i == one.id) ≡ one_if (i == next_id state) = ap (λ y. one_if (i == y)) is in omega (arith, m, n)) few
 
-pub unsent_once : (law : IsLeastFree) (one : UnacknowledgedPublication) (state : ClientState) → one.id ≡ next_id state → AreOnce state → AreOnce (record state { unsent = state.unsent ++ one ∷ [] })
-unsent_once law one state is few =
-    one_more state (record state { unsent = state.unsent ++ one ∷ [] }) (next_id state) (next_free law state)
-    (λ i. let m = kept_more i state.unsent one in let n : one_if (i == one.id) ≡ one_if (i == next_id state) = ap (λ y. one_if (i == y)) is in omega (arith, m, n)) few
+pub queued_once : (law : IsLeastFree) (one : UnacknowledgedPublication) (state : ClientState) → one.id ≡ next_id state → AreOnce state → AreOnce (record state { queued = state.queued ++ one ∷ [] })
+queued_once law one state is few =
+    one_more state (record state { queued = state.queued ++ one ∷ [] }) (next_id state) (next_free law state)
+    (λ i. let m = kept_more i state.queued one in let n : one_if (i == one.id) ≡ one_if (i == next_id state) = ap (λ y. one_if (i == y)) is in omega (arith, m, n)) few
 
 pub published_once : (law : IsLeastFree) (p : Publication) (state : ClientState) → AreOnce state → AreOnce (published p state).state
 published_once law p state few =
     either_outcome (is_online state.stage) _ _
     (either_state (is_answered p.qos) _ state (sent_once law (record { id = next_id state; publication = p }) state refl few) few)
-    (unsent_once law (record { id = next_id state; publication = p }) state refl few)
+    (queued_once law (record { id = next_id state; publication = p }) state refl few)
 
 pub asked_once : (law : IsLeastFree) (request : Request) (state : ClientState) → id_of_request request ≡ next_id state → AreOnce state
     → AreOnce (record state { requests = state.requests ++ request ∷ [] })

@@ -13,7 +13,7 @@ use Rattle.client_base.specs.Handled.{discarded, packet_handled, handled_online,
 use Rattle.client_base.specs.Handshakes.{own_at_puback, own_at_pubrec, own_at_pubcomp, is_sent_with, pubrec_answered, takes_in}
 use Rattle.client_base.specs.Steps.{Call}
 use Rattle.client_base.specs.Called.{adds_own, keeper_goes}
-use Rattle.client_base.specs.OrderLaws.{AreNumbered, NumbersStay}
+use Rattle.client_base.specs.OrderTheorems.{AreNumbered, NumbersStay}
 use Rattle.client_base.proofs.PublishingOrder.{changed, puback_same, pubrec_same, pubcomp_same, all_numbered, one_more}
 
 -- the earlier ones from 0 on, and the others after them
@@ -74,7 +74,7 @@ first (packets.Connack (connacks.Accepted present)) side numbered =
 first (packets.Connack (connacks.Refused code)) side numbered = numbered
 first _ side numbered = numbered
 
-published : (p : Publication) (id n : ℕ) (answered up : Bool) → number_in (if answered then (if up then Own.Sent n p id else Own.Unsent n p id) else Own.Done n p) ≡ n
+published : (p : Publication) (id n : ℕ) (answered up : Bool) → number_in (if answered then (if up then Own.Sent n p id else Own.Queued n p id) else Own.Done n p) ≡ n
 published p id n true true = refl
 published p id n true false = refl
 published p id n false up = refl

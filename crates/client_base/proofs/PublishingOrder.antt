@@ -7,13 +7,13 @@ use Rattle.client_base.specs.Keeper.{Own, Written, number_in}
 use Rattle.client_base.specs.Written.{sent_all, written_again, written_first, written_publish}
 use Rattle.client_base.specs.Handshakes.{own_at_puback, own_at_pubrec, own_at_pubcomp}
 use Rattle.client_base.specs.History.{IsSentFirst, sent_of}
-use Rattle.client_base.specs.OrderLaws.{AreNumbered, written_numbers, RisesFrom, GoesOutInOrder}
+use Rattle.client_base.specs.OrderTheorems.{AreNumbered, written_numbers, RisesFrom, GoesOutInOrder}
 
 -- ---- what is sent, in order
 
 none_again : (own : List Own) → sent_of own ≡ [] → written_again own ≡ []
 none_again [] none = refl
-none_again (Own.Unsent k p id ∷ own) none = none_again own none
+none_again (Own.Queued k p id ∷ own) none = none_again own none
 none_again (Own.Sent k p id ∷ own) none = absurd (both_ways true (ap is_none none) refl)
   where
     is_none : List UnacknowledgedPublication → Bool
@@ -29,7 +29,7 @@ lower n (k ∷ ks) rises = let first = rises.0 in (omega (arith, first), rises.1
 
 rises : (n : ℕ) (own : List Own) → AreNumbered n own → IsSentFirst own → RisesFrom n (written_numbers (written_again own ++ written_first own))
 rises n [] numbered first = tt
-rises n (Own.Unsent k p id ∷ own) numbered first =
+rises n (Own.Queued k p id ∷ own) numbered first =
     let none = none_again own first.0 in
     subst (λ (ws : List Written). RisesFrom n (written_numbers (ws ++ written_publish false k id p ∷ written_first own))) (sym none) (
       let same = numbered.0 in omega (arith, same),
@@ -54,7 +54,7 @@ changed f same n [] numbered = tt
 changed f same n (o ∷ own) numbered = (same o ∙ numbered.0, changed f same (suc n) own numbered.1)
 
 pub puback_same : (i : ℕ) (o : Own) → number_in (own_at_puback i o) ≡ number_in o
-puback_same i (Own.Unsent k p id) = refl
+puback_same i (Own.Queued k p id) = refl
 puback_same i (Own.Sent k p id) = by ((i == id) && is_qos1 p.qos)
   where
     by : (b : Bool) → number_in (if b then Own.Done k p else Own.Sent k p id) ≡ k
@@ -64,7 +64,7 @@ puback_same i (Own.Released k p id) = refl
 puback_same i (Own.Done k p) = refl
 
 pub pubrec_same : (i : ℕ) (o : Own) → number_in (own_at_pubrec i o) ≡ number_in o
-pubrec_same i (Own.Unsent k p id) = refl
+pubrec_same i (Own.Queued k p id) = refl
 pubrec_same i (Own.Sent k p id) = by ((i == id) && not (is_qos1 p.qos))
   where
     by : (b : Bool) → number_in (if b then Own.Released k p id else Own.Sent k p id) ≡ k
@@ -74,7 +74,7 @@ pubrec_same i (Own.Released k p id) = refl
 pubrec_same i (Own.Done k p) = refl
 
 pub pubcomp_same : (i : ℕ) (o : Own) → number_in (own_at_pubcomp i o) ≡ number_in o
-pubcomp_same i (Own.Unsent k p id) = refl
+pubcomp_same i (Own.Queued k p id) = refl
 pubcomp_same i (Own.Sent k p id) = refl
 pubcomp_same i (Own.Released k p id) = by (i == id)
   where
@@ -85,7 +85,7 @@ pubcomp_same i (Own.Done k p) = refl
 
 pub all_numbered : (n : ℕ) (own : List Own) → AreNumbered n own → AreNumbered n (sent_all own)
 all_numbered n [] numbered = tt
-all_numbered n (Own.Unsent k p id ∷ own) numbered = (numbered.0, all_numbered (suc n) own numbered.1)
+all_numbered n (Own.Queued k p id ∷ own) numbered = (numbered.0, all_numbered (suc n) own numbered.1)
 all_numbered n (Own.Sent k p id ∷ own) numbered = (numbered.0, all_numbered (suc n) own numbered.1)
 all_numbered n (Own.Released k p id ∷ own) numbered = (numbered.0, all_numbered (suc n) own numbered.1)
 all_numbered n (Own.Done k p ∷ own) numbered = (numbered.0, all_numbered (suc n) own numbered.1)

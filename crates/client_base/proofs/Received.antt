@@ -19,9 +19,9 @@ use Rattle.client_base.specs.State.{ClientState, is_online}
 use Rattle.client_base.specs.Answered.{ClientOutcome, on_publish, accepting, awaits_pubrec}
 use Rattle.session_base.specs.Identifiers.{without_id}
 use Rattle.client_base.specs.Calls.{client_receives, on_first, on_later}
-use Rattle.client_base.specs.Publishing.{published, publish_refusal}
+use Rattle.client_base.specs.Publications.{published, publish_refusal}
 use Rattle.client_base.specs.Steps.{Call, unless_refused, request_refusal, subscribed, unsubscribed, disconnected}
-use Rattle.client_base.specs.Laws.{AcceptsUnlessKept, StaysKept}
+use Rattle.client_base.specs.Theorems.{AcceptsUnlessKept, StaysKept}
 
 -- ---- identifiers in lists
 

@@ -43,7 +43,7 @@ pubrec_released j i [] = none (j == i)
     none : (b : Bool) → false ≡ (b && false)
     none true = refl
     none false = refl
-pubrec_released j i (Own.Unsent k p id ∷ own) = pubrec_released j i own
+pubrec_released j i (Own.Queued k p id ∷ own) = pubrec_released j i own
 pubrec_released j i (Own.Sent k p id ∷ own) = by (i == id) (not (is_qos1 p.qos)) refl (pubrec_released j i own)
   where
     same : (i == id) ≡ true → (j == id) ≡ (j == i)

@@ -26,7 +26,7 @@ adds_own publication keeper =
           ++ (if is_answered publication.qos
           then (if keeper.is_online
           then Own.Sent (next_own_number keeper) publication (least_free (ids_in_use keeper))
-          else Own.Unsent (next_own_number keeper) publication (least_free (ids_in_use keeper)))
+          else Own.Queued (next_own_number keeper) publication (least_free (ids_in_use keeper)))
           else Own.Done (next_own_number keeper) publication) ∷ [];
     }
 

@@ -36,7 +36,7 @@ discarded state =
     record state {
       released = [];
       sent = [];
-      unsent = [];
+      queued = [];
       received = [];
       session = min (state.session + 1) (2 ^ 64 - 1);
     }
@@ -52,8 +52,8 @@ on_connack present state =
     let kept = if lacking then discarded state else numbered state in
     record {
       state = record kept {
-        sent = kept.sent ++ kept.unsent;
-        unsent = [];
+        sent = kept.sent ++ kept.queued;
+        queued = [];
         stage = stages.Online;
         session_present = present;
       };

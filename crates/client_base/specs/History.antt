@@ -16,11 +16,11 @@ sent_of (_ ∷ own) = sent_of own
 sent_of [] = []
 
 -- the publications that were not sent yet
-abbrev pub unsent_of : List Own → List UnacknowledgedPublication
-unsent_of (Own.Unsent number publication id ∷ own) =
-    record { id = id; publication = publication } ∷ unsent_of own
-unsent_of (_ ∷ own) = unsent_of own
-unsent_of [] = []
+abbrev pub queued_of : List Own → List UnacknowledgedPublication
+queued_of (Own.Queued number publication id ∷ own) =
+    record { id = id; publication = publication } ∷ queued_of own
+queued_of (_ ∷ own) = queued_of own
+queued_of [] = []
 
 -- the identifiers of the publications that are released
 abbrev pub released_of : List Own → List ℕ
@@ -30,7 +30,7 @@ released_of [] = []
 
 -- after one that was not sent, none was
 abbrev pub IsSentFirst : List Own → Type 0
-IsSentFirst (Own.Unsent number publication id ∷ own) = (sent_of own ≡ []) × IsSentFirst own
+IsSentFirst (Own.Queued number publication id ∷ own) = (sent_of own ≡ []) × IsSentFirst own
 IsSentFirst (_ ∷ own) = IsSentFirst own
 IsSentFirst [] = Unit {0}
 
@@ -41,7 +41,7 @@ pub record KeeperStandsFor (keeper : Keeper) (state : ClientState) : Type 0 wher
   pub client : state.client ≡ keeper.client
   pub released : state.released ≡ keeper.releases
   pub sent : state.sent ≡ sent_of keeper.own
-  pub unsent : state.unsent ≡ unsent_of keeper.own
+  pub queued : state.queued ≡ queued_of keeper.own
   pub received : (id : ℕ) → has_id id state.received ≡ has_id id keeper.received
   pub requests : state.requests ≡ keeper.requests
   pub is_open : is_open state.stage ≡ keeper.is_open
@@ -50,7 +50,7 @@ pub record KeeperStandsFor (keeper : Keeper) (state : ClientState) : Type 0 wher
   -- of the history alone
   pub releases_are : (id : ℕ) → has_id id keeper.releases ≡ has_id id (released_of keeper.own)
   pub sent_first : IsSentFirst keeper.own
-  pub online_sent : keeper.is_online ≡ true → unsent_of keeper.own ≡ []
+  pub online_sent : keeper.is_online ≡ true → queued_of keeper.own ≡ []
 
 -- what was written more on a connection is, packet by packet, what the step writes
 abbrev pub WritesMore : {Name : Type 0} → ClientConnection Name → ClientConnection Name →

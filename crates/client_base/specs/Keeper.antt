@@ -10,7 +10,7 @@ use Rattle.client_base.specs.State.{id_of_request}
 -- once.
 pub data Own : Type 0 where
   -- its PUBLISH was not written on a connection that is online
-  Unsent : (number : ℕ) → (publication : Publication) → (id : ℕ) → Own
+  Queued : (number : ℕ) → (publication : Publication) → (id : ℕ) → Own
   -- it was, and no PUBREC or PUBACK came
   Sent : (number : ℕ) → (publication : Publication) → (id : ℕ) → Own
   -- PUBREC came, and no PUBCOMP
@@ -65,14 +65,14 @@ new_keeper client =
 
 -- the number of a publication: how many the client published before it
 abbrev pub number_in : Own → ℕ
-number_in (Own.Unsent number publication id) = number
+number_in (Own.Queued number publication id) = number
 number_in (Own.Sent number publication id) = number
 number_in (Own.Released number publication id) = number
 number_in (Own.Done number publication) = number
 
 -- the identifiers of a client's publications that are not done
 abbrev pub ids_of_own : List Own → List ℕ
-ids_of_own (Own.Unsent number publication id ∷ own) = id ∷ ids_of_own own
+ids_of_own (Own.Queued number publication id ∷ own) = id ∷ ids_of_own own
 ids_of_own (Own.Sent number publication id ∷ own) = id ∷ ids_of_own own
 ids_of_own (Own.Released number publication id ∷ own) = id ∷ ids_of_own own
 ids_of_own (Own.Done number publication ∷ own) = ids_of_own own

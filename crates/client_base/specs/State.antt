@@ -17,7 +17,7 @@ pub record ClientState : Type 0 where
   pub keep_alive : ℕ  -- in seconds
   pub released : List ℕ  -- identifiers of those that had their PUBREC, in the order of these
   pub sent : List UnacknowledgedPublication  -- in the order of their calls, as the next ones
-  pub unsent : List UnacknowledgedPublication  -- published while it was offline
+  pub queued : List UnacknowledgedPublication  -- published while it was offline
   pub received : List ℕ  -- of QoS 2 publications that it accepted and has no PUBREL for
   pub requests : List Request  -- not answered yet
   pub stage : Stage
@@ -33,7 +33,7 @@ new_client_state client keep_alive =
       keep_alive = keep_alive;
       released = [];
       sent = [];
-      unsent = [];
+      queued = [];
       received = [];
       requests = [];
       stage = stages.Closed;
@@ -56,7 +56,7 @@ is_online stages.Online = true
 
 -- how many publications a client keeps
 abbrev pub kept_count : ClientState → ℕ
-kept_count state = length state.released + length state.sent + length state.unsent
+kept_count state = length state.released + length state.sent + length state.queued
 
 -- ---- identifiers (MQTT 2.3.1)
 
@@ -71,7 +71,7 @@ ids_of_kept = map (λ kept. kept.id)
 
 -- the identifiers of a client's publications
 abbrev pub publication_ids : ClientState → List ℕ
-publication_ids state = state.released ++ ids_of_kept state.sent ++ ids_of_kept state.unsent
+publication_ids state = state.released ++ ids_of_kept state.sent ++ ids_of_kept state.queued
 
 -- the identifiers of a client's requests
 abbrev pub request_ids : ClientState → List ℕ
@@ -93,7 +93,7 @@ abbrev pub resent : ClientState → List Packet
 resent state =
     map packets.Pubrel state.released
     ++ map (publish_kept true) state.sent
-    ++ map (publish_kept false) state.unsent
+    ++ map (publish_kept false) state.queued
 
 -- ---- the end of a connection
 

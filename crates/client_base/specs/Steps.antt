@@ -13,7 +13,7 @@ use Rattle.client_base.specs.declared.stage.Stage.TheVariants as stages
 use Rattle.client_base.specs.State.{ClientState, is_online, lost}
 use Rattle.client_base.specs.Answered.{ClientOutcome, going_on}
 use Rattle.client_base.specs.Calls.{refused_call, opened, client_receives}
-use Rattle.client_base.specs.Publishing.{next_id, has_free_id, publish_refusal, published}
+use Rattle.client_base.specs.Publications.{next_id, has_free_id, publish_refusal, published}
 
 -- ---- requests (MQTT 3.8, 3.10)
 

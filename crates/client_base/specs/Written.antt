@@ -25,7 +25,7 @@ written_again [] = []
 
 -- PUBLISH with DUP 0 for each that was not sent yet
 abbrev pub written_first : List Own → List Written
-written_first (Own.Unsent number publication id ∷ own) =
+written_first (Own.Queued number publication id ∷ own) =
     written_publish false number id publication ∷ written_first own
 written_first (_ ∷ own) = written_first own
 written_first [] = []
@@ -39,7 +39,7 @@ resent_written keeper =
 
 -- all publications once those that were not sent yet are sent
 abbrev pub sent_all : List Own → List Own
-sent_all (Own.Unsent number publication id ∷ own) = Own.Sent number publication id ∷ sent_all own
+sent_all (Own.Queued number publication id ∷ own) = Own.Sent number publication id ∷ sent_all own
 sent_all (first ∷ own) = first ∷ sent_all own
 sent_all [] = []
 

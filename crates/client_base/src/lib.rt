@@ -4,22 +4,22 @@
 
 mod accepted;
 mod error;
-mod laws;
 mod limits;
 pub mod printed;
 mod request;
 mod rows;
 mod stage;
+mod theorems;
 mod unacknowledged_publication;
 
 pub use accepted::Accepted;
 pub use error::ClientError;
-pub use laws::{
-    accepted_once_an_identifier, history_is_followed, publishing_order_is_kept,
-    used_identifiers_are_distinct,
-};
 pub use limits::MAX_KEPT;
 pub use request::Request;
 pub use rows::sixty_four_are_kept;
 pub use stage::Stage;
+pub use theorems::{
+    accepted_once_an_identifier, history_is_followed, publishing_order_is_kept,
+    used_identifiers_are_distinct,
+};
 pub use unacknowledged_publication::UnacknowledgedPublication;

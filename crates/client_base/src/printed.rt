@@ -1,5 +1,5 @@
 //! How a publication is printed on one line, and a text by bytes that can be read.
 
-mod printing;
+mod lines;
 
-pub use printing::{print_line, print_text};
+pub use lines::{print_line, print_text};

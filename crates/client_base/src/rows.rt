@@ -1,7 +1,7 @@
 // A worked example of a limit.
 
 ghost use Rattle.std.specs.Prelude.{◌≡◌};
-ghost use Rattle.client_base.specs.Publishing.{max_kept};
+ghost use Rattle.client_base.specs.Publications.{max_kept};
 
 /// Shows how many publications a client keeps at most, 64.
 pub fn sixty_four_are_kept()

@@ -7,13 +7,13 @@ mod commands;
 mod document;
 mod fault;
 mod job;
-mod matching;
+mod job_matches;
 mod node_table;
-mod parsing;
-mod reading;
+mod table_text;
+mod words;
 
 pub use fault::{LineFault, TableFault};
 pub use job::{Escape, Job, Play, Publish, Serve, Subscribe};
 pub use node_table::{ListeningNode, NodeTable};
-pub use parsing::line;
-pub use reading::table;
+pub use table_text::table;
+pub use words::line;

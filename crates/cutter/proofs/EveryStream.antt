@@ -4,14 +4,14 @@ use Rattle.std.proofs.Common.{◌≡◌, ◌≤◌, ℕ, zero, suc, List, [], �
 use Rattle.std.specs.Prelude.{IfOk}
 use Rattle.packet_base.specs.declared.stop.Stop.{Stop}
 use Rattle.packet.specs.declared.packet.Packet.{Packet}
-use Rattle.packet.specs.Laws.{NoneBeginsAnother}
+use Rattle.packet.specs.Theorems.{NoneBeginsAnother}
 use Rattle.packet.specs.Spelling.{Spells}
 use Rattle.packet.specs.Verdict.{verdict}
 use Rattle.packet.proofs.PacketReads as reads
 use Rattle.packet.proofs.PacketReads.{verdict_found, verdict_again}
 use Rattle.cutter.specs.Stream.{HasNoFront, CutsInto}
-use Rattle.packet_base.specs.Reading.{AreBytes}
-use Rattle.cutter.specs.Laws.{EveryStreamIsCut, NoPacketIsLeft, CuttingsAgree}
+use Rattle.packet_base.specs.Readers.{AreBytes}
+use Rattle.cutter.specs.Theorems.{EveryStreamIsCut, NoPacketIsLeft, CuttingsAgree}
 use Rattle.cutter.proofs.OneWay.{Begins, ran-begins, one-way}
 
 -- ---- if the verdict is no packet, there is none at the front

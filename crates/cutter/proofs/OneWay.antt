@@ -1,11 +1,11 @@
 -- A stream is cut in one way, and what was given is a prefix of its packets.
 use Rattle.std.proofs.Common.{◌≡◌, ℕ, List, [], ◌∷◌, ◌++◌, refl, sym, ◌∙◌, ap, ap₂, subst, append_assoc}
 use Rattle.std.proofs.lemmas.List.{append_cancel_left}
-use Rattle.packet.specs.Laws.{NoneBeginsAnother}
+use Rattle.packet.specs.Theorems.{NoneBeginsAnother}
 use Rattle.packet.specs.declared.packet.Packet.{Packet}
 use Rattle.cutter.specs.Stream.{Stream, GoesOnWith, CutsInto}
-use Rattle.cutter.specs.Laws.{OneCut, CutterRan, PacketsOfTheStream}
-use Rattle.cutter.specs.Laws.CutterRan.{begins, feeds, gives, answers}
+use Rattle.cutter.specs.Theorems.{OneCut, CutterRan, PacketsOfTheStream}
+use Rattle.cutter.specs.Theorems.CutterRan.{begins, feeds, gives, answers}
 
 -- if two packets are at the front, they are equal, and so is what follows
 same-front : NoneBeginsAnother → (bytes : List ℕ) (p q : Packet) (x y : List ℕ) → GoesOnWith bytes p x → GoesOnWith bytes q y → (p ≡ q) × (x ≡ y)

@@ -3,8 +3,8 @@ use Rattle.std.proofs.Common.{◌≡◌, ℕ, Bool, false, List, ◌++◌, take,
 use Rattle.std.proofs.lemmas.List.{take-append-drop}
 use Rattle.packet.specs.Verdict.{Decodes, IsSpelledSo}
 use Rattle.packet.specs.declared.packet.Packet.{Packet}
-use Rattle.packet.specs.declared.decoding.Step.{Step}
-use Rattle.packet.specs.declared.decoding.Step.TheVariants as steps
+use Rattle.packet.specs.declared.decoder.Step.{Step}
+use Rattle.packet.specs.declared.decoder.Step.TheVariants as steps
 use Rattle.cutter.specs.Stream.{Takes}
 
 taken-whole : (held rest : List ℕ) (failed : Bool) (packet : Packet) (len : ℕ) → failed ≡ false

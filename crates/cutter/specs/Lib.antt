@@ -1,3 +1,3 @@
 pub mod Stream
-pub mod Laws
+pub mod Theorems
 pub mod Refusals

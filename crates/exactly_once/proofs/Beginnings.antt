@@ -11,10 +11,10 @@ use Rattle.broker_spec.specs.declared.command.Command.TheVariants as commands
 use Rattle.broker_base.proofs.QuietPasts.{no_connection}
 use Rattle.exactly_once.specs.Items.{SenderItem, busy, has_released}
 use Rattle.exactly_once.specs.Handshake.{Backward}
-use Rattle.exactly_once.specs.HandshakeInvariant.{IsGood, IsBehind, IsNew, IsUnsent, UnsentAreLast}
+use Rattle.exactly_once.specs.HandshakeInvariant.{IsGood, IsBehind, IsNew, IsQueued, QueuedAreLast}
 use Rattle.client_base.specs.Keeper.{Own, ids_in_use}
 use Rattle.exactly_once.specs.Story.{Story}
-use Rattle.exactly_once.specs.StoryTrace.{AreUnsent, unserved}
+use Rattle.exactly_once.specs.StoryTrace.{AreQueued, unserved}
 use Rattle.exactly_once.specs.Carried.{carries, new_numbers, more_by, is_qos2}
 use Rattle.exactly_once.specs.Inside.Projections.{items_of_own, as_publisher}
 use Rattle.exactly_once.specs.Inside.AsSubscriber.{items_of_entries, as_subscriber, left_behind}
@@ -30,52 +30,52 @@ begun past c earlier own = record { past = past; connections = []; keeper = unse
 
 -- ---- what was published and never sent
 
-pub numbered : (n : ℕ) (own : List Own) → AreUnsent n own → AreNumberedFrom n own
+pub numbered : (n : ℕ) (own : List Own) → AreQueued n own → AreNumberedFrom n own
 numbered n [] h = tt
-numbered n (Own.Unsent k p id ∷ own) h = (h.0, numbered (suc n) own h.1)
+numbered n (Own.Queued k p id ∷ own) h = (h.0, numbered (suc n) own h.1)
 numbered n (Own.Sent k p id ∷ own) h = absurd h
 numbered n (Own.Released k p id ∷ own) h = absurd h
 numbered n (Own.Done k p ∷ own) h = absurd h
 
 -- all of it waits
-all_wait : (n : ℕ) (own : List Own) → AreUnsent n own → Each IsUnsent (items_of_own own)
+all_wait : (n : ℕ) (own : List Own) → AreQueued n own → Each IsQueued (items_of_own own)
 all_wait n [] h = tt
-all_wait n (Own.Unsent k p id ∷ own) h = by (is_qos2 p.qos) (all_wait (suc n) own h.1)
+all_wait n (Own.Queued k p id ∷ own) h = by (is_qos2 p.qos) (all_wait (suc n) own h.1)
   where
-    by : (b : Bool) → Each IsUnsent (items_of_own own) → Each IsUnsent (if b then SenderItem.Waits k ∷ items_of_own own else items_of_own own)
+    by : (b : Bool) → Each IsQueued (items_of_own own) → Each IsQueued (if b then SenderItem.Queued k ∷ items_of_own own else items_of_own own)
     by true w = (tt, w)
     by false w = w
 all_wait n (Own.Sent k p id ∷ own) h = absurd h
 all_wait n (Own.Released k p id ∷ own) h = absurd h
 all_wait n (Own.Done k p ∷ own) h = absurd h
 
-waits_last : {V : Type 0} (items : List (SenderItem V)) → Each IsUnsent items → UnsentAreLast items
+waits_last : {V : Type 0} (items : List (SenderItem V)) → Each IsQueued items → QueuedAreLast items
 waits_last [] h = tt
-waits_last (SenderItem.Waits v ∷ items) h = h.1
+waits_last (SenderItem.Queued v ∷ items) h = h.1
 waits_last (SenderItem.Sent v id ∷ items) h = absurd h.0
 waits_last (SenderItem.Released v id ∷ items) h = absurd h.0
-waits_last (SenderItem.Finished v ∷ items) h = absurd h.0
+waits_last (SenderItem.Done v ∷ items) h = absurd h.0
 
-all_new : {V : Type 0} (received : ℕ → Bool) (items : List (SenderItem V)) → Each IsUnsent items → Each (IsNew received) items
+all_new : {V : Type 0} (received : ℕ → Bool) (items : List (SenderItem V)) → Each IsQueued items → Each (IsNew received) items
 all_new received [] h = tt
-all_new received (SenderItem.Waits v ∷ items) h = (tt, all_new received items h.1)
+all_new received (SenderItem.Queued v ∷ items) h = (tt, all_new received items h.1)
 all_new received (SenderItem.Sent v id ∷ items) h = absurd h.0
 all_new received (SenderItem.Released v id ∷ items) h = absurd h.0
-all_new received (SenderItem.Finished v ∷ items) h = absurd h.0
+all_new received (SenderItem.Done v ∷ items) h = absurd h.0
 
-none_busy : {V : Type 0} (items : List (SenderItem V)) → Each IsUnsent items → busy items ≡ []
+none_busy : {V : Type 0} (items : List (SenderItem V)) → Each IsQueued items → busy items ≡ []
 none_busy [] h = refl
-none_busy (SenderItem.Waits v ∷ items) h = none_busy items h.1
+none_busy (SenderItem.Queued v ∷ items) h = none_busy items h.1
 none_busy (SenderItem.Sent v id ∷ items) h = absurd h.0
 none_busy (SenderItem.Released v id ∷ items) h = absurd h.0
-none_busy (SenderItem.Finished v ∷ items) h = absurd h.0
+none_busy (SenderItem.Done v ∷ items) h = absurd h.0
 
 -- none is released
-none_released : (id : ℕ) (n : ℕ) (own : List Own) → AreUnsent n own → false ≡ has_released id (items_of_own own)
+none_released : (id : ℕ) (n : ℕ) (own : List Own) → AreQueued n own → false ≡ has_released id (items_of_own own)
 none_released id n [] h = refl
-none_released id n (Own.Unsent k p i ∷ own) h = by (is_qos2 p.qos) (none_released id (suc n) own h.1)
+none_released id n (Own.Queued k p i ∷ own) h = by (is_qos2 p.qos) (none_released id (suc n) own h.1)
   where
-    by : (b : Bool) → false ≡ has_released id (items_of_own own) → false ≡ has_released id (if b then SenderItem.Waits k ∷ items_of_own own else items_of_own own)
+    by : (b : Bool) → false ≡ has_released id (items_of_own own) → false ≡ has_released id (if b then SenderItem.Queued k ∷ items_of_own own else items_of_own own)
     by true e = e
     by false e = e
 none_released id n (Own.Sent k p i ∷ own) h = absurd h
@@ -104,10 +104,10 @@ nothing_new (place ∷ past) =
 
 -- ---- the story
 
-begun_shape : (limits : Limits) (past : Past) (c : Client) (earlier own : List Own) → clean_session_of past c ≡ None → AreUnsent (length earlier) own → IsDistinct (ids_in_use (unserved c earlier own)) → HasShape limits (begun past c earlier own)
-begun_shape limits past c earlier own none unsent apart =
+begun_shape : (limits : Limits) (past : Past) (c : Client) (earlier own : List Own) → clean_session_of past c ≡ None → AreQueued (length earlier) own → IsDistinct (ids_in_use (unserved c earlier own)) → HasShape limits (begun past c earlier own)
+begun_shape limits past c earlier own none queued apart =
     record {
-      own = record { ids_apart = apart; numbered = numbered (length earlier) own unsent; releases_apart = tt; releases_are = λ id. none_released id (length earlier) own unsent; online_sent = λ e. absurd (not_true e) };
+      own = record { ids_apart = apart; numbered = numbered (length earlier) own queued; releases_apart = tt; releases_are = λ id. none_released id (length earlier) own queued; online_sent = λ e. absurd (not_true e) };
       connections = tt;
       names_apart = tt;
       last_is_current = subst (λ (o : Option ConnectionName). LastIsCurrent o []) (sym (no_connection past c none)) tt;
@@ -122,9 +122,9 @@ begun_shape limits past c earlier own none unsent apart =
     not_true : false ≡ true → ⊥
     not_true e = cc
 
-begun_publisher : (limits : Limits) (past : Past) (c : Client) (earlier own : List Own) → clean_session_of past c ≡ None → AreUnsent (length earlier) own → IsGood (as_publisher limits (begun past c earlier own))
-begun_publisher limits past c earlier own none unsent =
-    let wait = all_wait (length earlier) own unsent in
+begun_publisher : (limits : Limits) (past : Past) (c : Client) (earlier own : List Own) → clean_session_of past c ≡ None → AreQueued (length earlier) own → IsGood (as_publisher limits (begun past c earlier own))
+begun_publisher limits past c earlier own none queued =
+    let wait = all_wait (length earlier) own queued in
     record {
       old = [];
       new = items_of_own own;
@@ -164,10 +164,10 @@ begun_subscriber limits past c earlier own none =
     nothing_left None = refl
     nothing_left (Some x) = refl
 
-pub begun_is_sound : (limits : Limits) (past : Past) (c : Client) (earlier own : List Own) → clean_session_of past c ≡ None → AreUnsent (length earlier) own → IsDistinct (ids_in_use (unserved c earlier own)) → IsSoundStory limits (begun past c earlier own)
-begun_is_sound limits past c earlier own none unsent apart =
+pub begun_is_sound : (limits : Limits) (past : Past) (c : Client) (earlier own : List Own) → clean_session_of past c ≡ None → AreQueued (length earlier) own → IsDistinct (ids_in_use (unserved c earlier own)) → IsSoundStory limits (begun past c earlier own)
+begun_is_sound limits past c earlier own none queued apart =
     record {
-      shape = begun_shape limits past c earlier own none unsent apart;
-      publisher = begun_publisher limits past c earlier own none unsent;
+      shape = begun_shape limits past c earlier own none queued apart;
+      publisher = begun_publisher limits past c earlier own none queued;
       subscriber = begun_subscriber limits past c earlier own none;
     }

@@ -35,14 +35,14 @@ publish_elsewhere : (x y : ConnectionName) (dup : Bool) (id : ℕ) (p : Publicat
 publish_elsewhere x y dup id p more e = rw e refl
 
 first_elsewhere : (x y : ConnectionName) (n : ℕ) (entry : Entry) → same_connection x y ≡ false → sends_to x (first_output y n entry) ≡ []
-first_elsewhere x y n (Entry.Waits made p) e = refl
-first_elsewhere x y n (Entry.Started made p id start) e = by (start == n)
+first_elsewhere x y n (Entry.Queued made p) e = refl
+first_elsewhere x y n (Entry.Sent made p id start) e = by (start == n)
   where
     by : (b : Bool) → sends_to x (if b then publish_output y false id p ∷ [] else []) ≡ []
     by true = publish_elsewhere x y false id p [] e
     by false = refl
 first_elsewhere x y n (Entry.Released made p id start release) e = refl
-first_elsewhere x y n (Entry.Finished made p id start release finish) e = refl
+first_elsewhere x y n (Entry.Done made p id start release finish) e = refl
 
 pub started_elsewhere : (x y : ConnectionName) (n : ℕ) (es : List Entry) → same_connection x y ≡ false → sends_to x (all_started y n es) ≡ []
 started_elsewhere x y n [] e = refl

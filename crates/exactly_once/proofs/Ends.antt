@@ -30,10 +30,10 @@ good_goes h k g t = subst IsGood (like_is t.between k t.like) (good_run h t.betw
 -- ---- entries and items
 
 abbrev pub item_of : Entry → SenderItem Publication
-item_of (Entry.Waits made p) = SenderItem.Waits p
-item_of (Entry.Started made p id start) = SenderItem.Sent p id
+item_of (Entry.Queued made p) = SenderItem.Queued p
+item_of (Entry.Sent made p id start) = SenderItem.Sent p id
 item_of (Entry.Released made p id start release) = SenderItem.Released p id
-item_of (Entry.Finished made p id start release finish) = SenderItem.Finished p
+item_of (Entry.Done made p id start release finish) = SenderItem.Done p
 
 two_by : (entry : Entry) (es : List Entry) (items : List (SenderItem Publication)) → map item_of (qos2_entries es) ≡ items
     → map item_of (qos2_entries (entry ∷ es)) ≡ two_item (publication_in entry) (item_of entry) items
@@ -45,26 +45,26 @@ two_by entry es items e = by (is_qos2 (publication_in entry).qos)
 
 items_are : (es : List Entry) → map item_of (qos2_entries es) ≡ items_of_entries es
 items_are [] = refl
-items_are (Entry.Waits made p ∷ es) = two_by (Entry.Waits made p) es (items_of_entries es) (items_are es)
-items_are (Entry.Started made p id start ∷ es) = two_by (Entry.Started made p id start) es (items_of_entries es) (items_are es)
+items_are (Entry.Queued made p ∷ es) = two_by (Entry.Queued made p) es (items_of_entries es) (items_are es)
+items_are (Entry.Sent made p id start ∷ es) = two_by (Entry.Sent made p id start) es (items_of_entries es) (items_are es)
 items_are (Entry.Released made p id start release ∷ es) = two_by (Entry.Released made p id start release) es (items_of_entries es) (items_are es)
-items_are (Entry.Finished made p id start release finish ∷ es) = two_by (Entry.Finished made p id start release finish) es (items_of_entries es) (items_are es)
+items_are (Entry.Done made p id start release finish ∷ es) = two_by (Entry.Done made p id start release finish) es (items_of_entries es) (items_are es)
 
 value_is : (entry : Entry) → value_of (item_of entry) ≡ publication_in entry
-value_is (Entry.Waits made p) = refl
-value_is (Entry.Started made p id start) = refl
+value_is (Entry.Queued made p) = refl
+value_is (Entry.Sent made p id start) = refl
 value_is (Entry.Released made p id start release) = refl
-value_is (Entry.Finished made p id start release finish) = refl
+value_is (Entry.Done made p id start release finish) = refl
 
 values_are : (es : List Entry) → map value_of (map item_of es) ≡ map publication_in es
 values_are [] = refl
 values_are (entry ∷ es) = ap₂ (λ x l. x ∷ l) (value_is entry) (values_are es)
 
 not_over : (entry : Entry) → is_pubrec_received (item_of entry) ≡ false → is_entry_released entry ≡ false
-not_over (Entry.Waits made p) e = refl
-not_over (Entry.Started made p id start) e = refl
+not_over (Entry.Queued made p) e = refl
+not_over (Entry.Sent made p id start) e = refl
 not_over (Entry.Released made p id start release) e = absurd (both_ways true e refl)
-not_over (Entry.Finished made p id start release finish) e = absurd (both_ways true e refl)
+not_over (Entry.Done made p id start release finish) e = absurd (both_ways true e refl)
 
 nones_over : (es : List Entry) → Each (λ item. is_pubrec_received item ≡ false) (map item_of es) → Each (λ entry. is_entry_released entry ≡ false) es
 nones_over [] h = tt
@@ -111,10 +111,10 @@ own_by false k item items own e f = f
 
 numbers_are : (own : List Own) → map value_of (items_of_own own) ≡ own_qos2_numbers own
 numbers_are [] = refl
-numbers_are (Own.Unsent k p id ∷ own) = own_by (is_qos2 p.qos) k (SenderItem.Waits k) (items_of_own own) (own_qos2_numbers own) refl (numbers_are own)
+numbers_are (Own.Queued k p id ∷ own) = own_by (is_qos2 p.qos) k (SenderItem.Queued k) (items_of_own own) (own_qos2_numbers own) refl (numbers_are own)
 numbers_are (Own.Sent k p id ∷ own) = own_by (is_qos2 p.qos) k (SenderItem.Sent k id) (items_of_own own) (own_qos2_numbers own) refl (numbers_are own)
 numbers_are (Own.Released k p id ∷ own) = own_by (is_qos2 p.qos) k (SenderItem.Released k id) (items_of_own own) (own_qos2_numbers own) refl (numbers_are own)
-numbers_are (Own.Done k p ∷ own) = own_by (is_qos2 p.qos) k (SenderItem.Finished k) (items_of_own own) (own_qos2_numbers own) refl (numbers_are own)
+numbers_are (Own.Done k p ∷ own) = own_by (is_qos2 p.qos) k (SenderItem.Done k) (items_of_own own) (own_qos2_numbers own) refl (numbers_are own)
 
 pub numbers_in_order : (limits : Limits) (s : Story) → IsGood (as_publisher limits s) → IsPrefixOf (new_numbers s.connections s.past) (own_qos2_numbers s.keeper.own)
 numbers_in_order limits s g =

@@ -6,17 +6,17 @@ use Rattle.session_base.specs.Publication.{publication_of}
 use Rattle.broker_spec.specs.declared.command.Command.{Command}
 use Rattle.broker_spec.specs.declared.command.Command.TheVariants as commands
 use Rattle.broker_spec.specs.Marks.{is_queued_at}
-use Rattle.broker_spec.specs.OriginLaws.{is_from_publish}
+use Rattle.broker_spec.specs.OriginTheorems.{is_from_publish}
 use Rattle.broker_spec.specs.Place.{Client, Limits, Mark, Past, Place}
 use Rattle.broker_spec.specs.Connection.{ConnectionName}
 use Rattle.broker_spec.specs.Readings.{publication_in}
-use Rattle.broker_spec.specs.TakenLaws.{queued_at}
+use Rattle.broker_spec.specs.TakenTheorems.{queued_at}
 use Rattle.packet.specs.declared.publish.Publish.{Publish}
 use Rattle.broker_spec.proofs.EntersAsPublished.{enters_as_published}
 use Rattle.broker_spec.specs.Subscriptions.{effective_qos}
 use Rattle.broker_spec.specs.Times.{entries_of}
 use Rattle.broker_spec.proofs.PublicationEnters.{publication_enters}
-use Rattle.exactly_once.specs.Laws.{StoriesEnter}
+use Rattle.exactly_once.specs.Theorems.{StoriesEnter}
 
 pub entering : StoriesEnter
 entering limits s place below x p d stands command mark =

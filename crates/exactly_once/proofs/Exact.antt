@@ -99,9 +99,9 @@ pub good_moves : {V : Type 0} (h k : Handshake V) → IsGood h → HandshakeStep
 good_moves h k g (adds v) =
     record {
       old = g.old;
-      new = g.new ++ SenderItem.Waits v ∷ [];
+      new = g.new ++ SenderItem.Queued v ∷ [];
       sides = sides_add h.items h.accepted h.received g.old g.new v g.sides;
-      transit = linked_add h.received g.old g.new (g.new ++ SenderItem.Waits v ∷ []) h.transit (sent_waits g.new v) g.transit;
+      transit = linked_add h.received g.old g.new (g.new ++ SenderItem.Queued v ∷ []) h.transit (sent_waits g.new v) g.transit;
     }
 good_moves h k g (starts id v free first) =
     let s = sides_start h.items h.accepted h.received g.old g.new id v g.sides free first in
@@ -146,10 +146,10 @@ good_opening V =
 
 none_over : {V : Type 0} (received : ℕ → Bool) (items : List (SenderItem V)) → Each (IsNew received) items → Each (λ item. is_pubrec_received item ≡ false) items
 none_over received [] h = tt
-none_over received (SenderItem.Waits v ∷ items) h = (refl, none_over received items h.1)
+none_over received (SenderItem.Queued v ∷ items) h = (refl, none_over received items h.1)
 none_over received (SenderItem.Sent v id ∷ items) h = (refl, none_over received items h.1)
 none_over received (SenderItem.Released v id ∷ items) h = elim h.0 [ ]
-none_over received (SenderItem.Finished v ∷ items) h = elim h.0 [ ]
+none_over received (SenderItem.Done v ∷ items) h = elim h.0 [ ]
 
 pub good_exact : {V : Type 0} (h : Handshake V) → IsGood h → HandshakeIsExact h
 good_exact h g =

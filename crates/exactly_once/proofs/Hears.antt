@@ -4,7 +4,7 @@ use Rattle.std.specs.Prelude.{slice_get}
 use Rattle.std.proofs.lemmas.List.{drop-append-le}
 use Rattle.std.proofs.lemmas.Bool.{both_ways, cases_Bool}
 use Rattle.packet_base.specs.declared.qos.QoS.{QoS}
-use Rattle.packet_base.specs.declared.qos.QoS.TheVariants as qualities
+use Rattle.packet_base.specs.declared.qos.QoS.TheVariants as qos_levels
 use Rattle.packet.specs.declared.delivery.Delivery.{Delivery}
 use Rattle.packet.specs.declared.delivery.Delivery.TheVariants as deliveries
 use Rattle.packet.specs.declared.packet.Packet.{Packet}
@@ -38,21 +38,21 @@ use Rattle.exactly_once.specs.Inside.Projections.{items_of_own, own_item, forwar
 
 -- what it keeps in transit is of QoS 1 or 2
 abbrev pub OwnAnswered : List Own → Type 0
-OwnAnswered (Own.Unsent k p id ∷ own) = (is_answered p.qos ≡ true) × OwnAnswered own
+OwnAnswered (Own.Queued k p id ∷ own) = (is_answered p.qos ≡ true) × OwnAnswered own
 OwnAnswered (Own.Sent k p id ∷ own) = (is_answered p.qos ≡ true) × OwnAnswered own
 OwnAnswered (Own.Released k p id ∷ own) = (is_answered p.qos ≡ true) × OwnAnswered own
 OwnAnswered (Own.Done k p ∷ own) = OwnAnswered own
 OwnAnswered [] = Unit {0}
 
 two_not_one : (q : QoS) → is_qos2 q ≡ true → is_qos1 q ≡ false
-two_not_one qualities.AtMostOnce e = absurd (both_ways false refl e)
-two_not_one qualities.AtLeastOnce e = absurd (both_ways false refl e)
-two_not_one qualities.ExactlyOnce e = refl
+two_not_one qos_levels.AtMostOnce e = absurd (both_ways false refl e)
+two_not_one qos_levels.AtLeastOnce e = absurd (both_ways false refl e)
+two_not_one qos_levels.ExactlyOnce e = refl
 
 not_two_one : (q : QoS) → is_answered q ≡ true → is_qos2 q ≡ false → is_qos1 q ≡ true
-not_two_one qualities.AtMostOnce a e = absurd (both_ways false refl a)
-not_two_one qualities.AtLeastOnce a e = refl
-not_two_one qualities.ExactlyOnce a e = absurd (both_ways true e refl)
+not_two_one qos_levels.AtMostOnce a e = absurd (both_ways false refl a)
+not_two_one qos_levels.AtLeastOnce a e = refl
+not_two_one qos_levels.ExactlyOnce a e = absurd (both_ways true e refl)
 
 own_map : (i : ℕ) (p : Publication) (x y : SenderItem ℕ) (es fs : List (SenderItem ℕ)) → y ≡ item_released i x → fs ≡ map (item_released i) es → own_item p y fs ≡ map (item_released i) (own_item p x es)
 own_map i p x y es fs e f = by (is_qos2 p.qos)
@@ -63,7 +63,7 @@ own_map i p x y es fs e f = by (is_qos2 p.qos)
 
 pub own_pubrec : (i : ℕ) (own : List Own) → OwnAnswered own → items_of_own (map (own_at_pubrec i) own) ≡ map (item_released i) (items_of_own own)
 own_pubrec i [] h = refl
-own_pubrec i (Own.Unsent k p id ∷ own) h = own_map i p (SenderItem.Waits k) (SenderItem.Waits k) (items_of_own own) (items_of_own (map (own_at_pubrec i) own)) refl (own_pubrec i own h.1)
+own_pubrec i (Own.Queued k p id ∷ own) h = own_map i p (SenderItem.Queued k) (SenderItem.Queued k) (items_of_own own) (items_of_own (map (own_at_pubrec i) own)) refl (own_pubrec i own h.1)
 own_pubrec i (Own.Sent k p id ∷ own) h = by (cases_Bool (i == id)) (cases_Bool (is_qos2 p.qos)) (own_pubrec i own h.1)
   where
     by : ((i == id) ≡ true) ⊎ ((i == id) ≡ false) → (is_qos2 p.qos ≡ true) ⊎ (is_qos2 p.qos ≡ false) → items_of_own (map (own_at_pubrec i) own) ≡ map (item_released i) (items_of_own own)
@@ -73,7 +73,7 @@ own_pubrec i (Own.Sent k p id ∷ own) h = by (cases_Bool (i == id)) (cases_Bool
     by (inr b) (inl t) ih = rw (b, t) (rw b (ap (λ l. SenderItem.Sent k id ∷ l) ih))
     by (inr b) (inr t) ih = rw (b, t) ih
 own_pubrec i (Own.Released k p id ∷ own) h = own_map i p (SenderItem.Released k id) (SenderItem.Released k id) (items_of_own own) (items_of_own (map (own_at_pubrec i) own)) refl (own_pubrec i own h.1)
-own_pubrec i (Own.Done k p ∷ own) h = own_map i p (SenderItem.Finished k) (SenderItem.Finished k) (items_of_own own) (items_of_own (map (own_at_pubrec i) own)) refl (own_pubrec i own h)
+own_pubrec i (Own.Done k p ∷ own) h = own_map i p (SenderItem.Done k) (SenderItem.Done k) (items_of_own own) (items_of_own (map (own_at_pubrec i) own)) refl (own_pubrec i own h)
 
 -- the item that the PUBREC is of is there
 skip : (i : ℕ) (b : Bool) (x : SenderItem ℕ) (items : List (SenderItem ℕ)) → has_sent i (x ∷ items) ≡ has_sent i items → has_sent i (if b then x ∷ items else items) ≡ has_sent i items
@@ -82,7 +82,7 @@ skip i false x items e = refl
 
 pub sent_is : (i : ℕ) (own : List Own) → OwnAnswered own → has_sent i (items_of_own own) ≡ is_sent_with i own
 sent_is i [] h = refl
-sent_is i (Own.Unsent k p id ∷ own) h = skip i (is_qos2 p.qos) (SenderItem.Waits k) (items_of_own own) refl ∙ sent_is i own h.1
+sent_is i (Own.Queued k p id ∷ own) h = skip i (is_qos2 p.qos) (SenderItem.Queued k) (items_of_own own) refl ∙ sent_is i own h.1
 sent_is i (Own.Sent k p id ∷ own) h = by (cases_Bool (i == id)) (cases_Bool (is_qos2 p.qos)) (sent_is i own h.1)
   where
     by : ((i == id) ≡ true) ⊎ ((i == id) ≡ false) → (is_qos2 p.qos ≡ true) ⊎ (is_qos2 p.qos ≡ false) → has_sent i (items_of_own own) ≡ is_sent_with i own
@@ -92,7 +92,7 @@ sent_is i (Own.Sent k p id ∷ own) h = by (cases_Bool (i == id)) (cases_Bool (i
     by (inr b) (inl t) ih = rw (b, t) (rw b ih)
     by (inr b) (inr t) ih = rw (b, t) ih
 sent_is i (Own.Released k p id ∷ own) h = skip i (is_qos2 p.qos) (SenderItem.Released k id) (items_of_own own) refl ∙ sent_is i own h.1
-sent_is i (Own.Done k p ∷ own) h = skip i (is_qos2 p.qos) (SenderItem.Finished k) (items_of_own own) refl ∙ sent_is i own h
+sent_is i (Own.Done k p ∷ own) h = skip i (is_qos2 p.qos) (SenderItem.Done k) (items_of_own own) refl ∙ sent_is i own h
 
 -- ---- what it writes
 
@@ -213,10 +213,10 @@ joined_link limits past current online κ others on conf e = rw (on, conf) (rw e
 
 sent_front : (i : ℕ) (old new : List (SenderItem ℕ)) → has_sent i old ≡ true → has_sent i (old ++ new) ≡ true
 sent_front i [] new e = absurd (both_ways false refl e)
-sent_front i (SenderItem.Waits v ∷ old) new e = sent_front i old new e
+sent_front i (SenderItem.Queued v ∷ old) new e = sent_front i old new e
 sent_front i (SenderItem.Sent v id ∷ old) new e = or_then (i == id) (has_sent i old) (has_sent i (old ++ new)) e (sent_front i old new)
 sent_front i (SenderItem.Released v id ∷ old) new e = sent_front i old new e
-sent_front i (SenderItem.Finished v ∷ old) new e = sent_front i old new e
+sent_front i (SenderItem.Done v ∷ old) new e = sent_front i old new e
 
 -- the side after the PUBREC
 abbrev pub heard_pubrec : ℕ → Keeper → ClientConnection → Side

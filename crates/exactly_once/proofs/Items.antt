@@ -2,7 +2,7 @@
 use Rattle.std.proofs.Common.{◌≡◌, ℕ, Bool, true, false, not, ◌==◌, if◌then◌else◌, List, [], ◌∷◌, ◌++◌, map, refl, ap, ap₂, inl, inr, ◌⊎◌}
 use Rattle.std.proofs.lemmas.Bool.{both_ways, cases_Bool}
 use Rattle.packet_base.specs.declared.qos.QoS.{QoS}
-use Rattle.packet_base.specs.declared.qos.QoS.TheVariants as qualities
+use Rattle.packet_base.specs.declared.qos.QoS.TheVariants as qos_levels
 use Rattle.session_base.specs.declared.publication.Publication.{Publication}
 use Rattle.session_base.specs.Publication.{is_qos1, is_answered}
 use Rattle.broker_spec.specs.Entries.{Entry}
@@ -13,25 +13,25 @@ use Rattle.exactly_once.specs.Inside.AsSubscriber.{items_of_entries, two_item}
 
 -- an entry is of QoS 1 or 2
 abbrev pub IsQueued : Entry → Type 0
-IsQueued (Entry.Waits made p) = is_answered p.qos ≡ true
-IsQueued (Entry.Started made p id start) = is_answered p.qos ≡ true
+IsQueued (Entry.Queued made p) = is_answered p.qos ≡ true
+IsQueued (Entry.Sent made p id start) = is_answered p.qos ≡ true
 IsQueued (Entry.Released made p id start release) = is_answered p.qos ≡ true
-IsQueued (Entry.Finished made p id start release finish) = is_answered p.qos ≡ true
+IsQueued (Entry.Done made p id start release finish) = is_answered p.qos ≡ true
 
 two_or_one : (q : QoS) → is_answered q ≡ true → is_qos2 q ≡ not (is_qos1 q)
-two_or_one qualities.AtMostOnce e = e
-two_or_one qualities.AtLeastOnce e = refl
-two_or_one qualities.ExactlyOnce e = refl
+two_or_one qos_levels.AtMostOnce e = e
+two_or_one qos_levels.AtLeastOnce e = refl
+two_or_one qos_levels.ExactlyOnce e = refl
 
 two_not_one : (q : QoS) → is_qos2 q ≡ true → is_qos1 q ≡ false
-two_not_one qualities.AtMostOnce e = absurd (both_ways false refl e)
-two_not_one qualities.AtLeastOnce e = absurd (both_ways false refl e)
-two_not_one qualities.ExactlyOnce e = refl
+two_not_one qos_levels.AtMostOnce e = absurd (both_ways false refl e)
+two_not_one qos_levels.AtLeastOnce e = absurd (both_ways false refl e)
+two_not_one qos_levels.ExactlyOnce e = refl
 
 not_two_one : (q : QoS) → is_answered q ≡ true → is_qos2 q ≡ false → is_qos1 q ≡ true
-not_two_one qualities.AtMostOnce a e = absurd (both_ways false refl a)
-not_two_one qualities.AtLeastOnce a e = refl
-not_two_one qualities.ExactlyOnce a e = absurd (both_ways true e refl)
+not_two_one qos_levels.AtMostOnce a e = absurd (both_ways false refl a)
+not_two_one qos_levels.AtLeastOnce a e = refl
+not_two_one qos_levels.ExactlyOnce a e = absurd (both_ways true e refl)
 
 abbrev pub AllQueued : List Entry → Type 0
 AllQueued (e ∷ es) = IsQueued e × AllQueued es
@@ -41,16 +41,16 @@ AllQueued [] = Unit {0}
 
 pub items_pubrec : (n i : ℕ) (es : List Entry) → AllQueued es → items_of_entries (map (at_pubrec n i) es) ≡ map (item_released i) (items_of_entries es)
 items_pubrec n i [] h = refl
-items_pubrec n i (Entry.Waits made p ∷ es) h = by (is_qos2 p.qos) (items_pubrec n i es h.1)
+items_pubrec n i (Entry.Queued made p ∷ es) h = by (is_qos2 p.qos) (items_pubrec n i es h.1)
   where
     by : (b : Bool) → items_of_entries (map (at_pubrec n i) es) ≡ map (item_released i) (items_of_entries es)
-        → (if b then SenderItem.Waits p ∷ items_of_entries (map (at_pubrec n i) es) else items_of_entries (map (at_pubrec n i) es)) ≡ map (item_released i) (if b then SenderItem.Waits p ∷ items_of_entries es else items_of_entries es)
-    by true ih = ap (λ l. SenderItem.Waits p ∷ l) ih
+        → (if b then SenderItem.Queued p ∷ items_of_entries (map (at_pubrec n i) es) else items_of_entries (map (at_pubrec n i) es)) ≡ map (item_released i) (if b then SenderItem.Queued p ∷ items_of_entries es else items_of_entries es)
+    by true ih = ap (λ l. SenderItem.Queued p ∷ l) ih
     by false ih = ih
-items_pubrec n i (Entry.Started made p id start ∷ es) h = by (cases_Bool (i == id)) (cases_Bool (is_qos2 p.qos)) (items_pubrec n i es h.1)
+items_pubrec n i (Entry.Sent made p id start ∷ es) h = by (cases_Bool (i == id)) (cases_Bool (is_qos2 p.qos)) (items_pubrec n i es h.1)
   where
     by : ((i == id) ≡ true) ⊎ ((i == id) ≡ false) → (is_qos2 p.qos ≡ true) ⊎ (is_qos2 p.qos ≡ false) → items_of_entries (map (at_pubrec n i) es) ≡ map (item_released i) (items_of_entries es)
-        → items_of_entries (at_pubrec n i (Entry.Started made p id start) ∷ map (at_pubrec n i) es) ≡ map (item_released i) (two_item p (SenderItem.Sent p id) (items_of_entries es))
+        → items_of_entries (at_pubrec n i (Entry.Sent made p id start) ∷ map (at_pubrec n i) es) ≡ map (item_released i) (two_item p (SenderItem.Sent p id) (items_of_entries es))
     by (inl b) (inl t) ih = rw (b, t, two_not_one p.qos t) (rw t (rw b (ap (λ l. SenderItem.Released p id ∷ l) ih)))
     by (inl b) (inr t) ih = rw (b, t, not_two_one p.qos h.0 t) (rw t ih)
     by (inr b) (inl t) ih = rw (b, t) (rw b (ap (λ l. SenderItem.Sent p id ∷ l) ih))
@@ -61,11 +61,11 @@ items_pubrec n i (Entry.Released made p id start release ∷ es) h = by (is_qos2
         → (if b then SenderItem.Released p id ∷ items_of_entries (map (at_pubrec n i) es) else items_of_entries (map (at_pubrec n i) es)) ≡ map (item_released i) (if b then SenderItem.Released p id ∷ items_of_entries es else items_of_entries es)
     by true ih = ap (λ l. SenderItem.Released p id ∷ l) ih
     by false ih = ih
-items_pubrec n i (Entry.Finished made p id start release finish ∷ es) h = by (is_qos2 p.qos) (items_pubrec n i es h.1)
+items_pubrec n i (Entry.Done made p id start release finish ∷ es) h = by (is_qos2 p.qos) (items_pubrec n i es h.1)
   where
     by : (b : Bool) → items_of_entries (map (at_pubrec n i) es) ≡ map (item_released i) (items_of_entries es)
-        → (if b then SenderItem.Finished p ∷ items_of_entries (map (at_pubrec n i) es) else items_of_entries (map (at_pubrec n i) es)) ≡ map (item_released i) (if b then SenderItem.Finished p ∷ items_of_entries es else items_of_entries es)
-    by true ih = ap (λ l. SenderItem.Finished p ∷ l) ih
+        → (if b then SenderItem.Done p ∷ items_of_entries (map (at_pubrec n i) es) else items_of_entries (map (at_pubrec n i) es)) ≡ map (item_released i) (if b then SenderItem.Done p ∷ items_of_entries es else items_of_entries es)
+    by true ih = ap (λ l. SenderItem.Done p ∷ l) ih
     by false ih = ih
 
 -- ---- PUBCOMP
@@ -79,15 +79,15 @@ two_map i p x y es fs e f = by (is_qos2 p.qos)
 
 pub items_pubcomp : (n i : ℕ) (es : List Entry) → items_of_entries (map (at_pubcomp n i) es) ≡ map (finishing i) (items_of_entries es)
 items_pubcomp n i [] = refl
-items_pubcomp n i (Entry.Waits made p ∷ es) = two_map i p (SenderItem.Waits p) (SenderItem.Waits p) (items_of_entries es) (items_of_entries (map (at_pubcomp n i) es)) refl (items_pubcomp n i es)
-items_pubcomp n i (Entry.Started made p id start ∷ es) = two_map i p (SenderItem.Sent p id) (SenderItem.Sent p id) (items_of_entries es) (items_of_entries (map (at_pubcomp n i) es)) refl (items_pubcomp n i es)
+items_pubcomp n i (Entry.Queued made p ∷ es) = two_map i p (SenderItem.Queued p) (SenderItem.Queued p) (items_of_entries es) (items_of_entries (map (at_pubcomp n i) es)) refl (items_pubcomp n i es)
+items_pubcomp n i (Entry.Sent made p id start ∷ es) = two_map i p (SenderItem.Sent p id) (SenderItem.Sent p id) (items_of_entries es) (items_of_entries (map (at_pubcomp n i) es)) refl (items_pubcomp n i es)
 items_pubcomp n i (Entry.Released made p id start release ∷ es) = by (cases_Bool (i == id)) (items_pubcomp n i es)
   where
     by : ((i == id) ≡ true) ⊎ ((i == id) ≡ false) → items_of_entries (map (at_pubcomp n i) es) ≡ map (finishing i) (items_of_entries es)
         → items_of_entries (at_pubcomp n i (Entry.Released made p id start release) ∷ map (at_pubcomp n i) es) ≡ map (finishing i) (two_item p (SenderItem.Released p id) (items_of_entries es))
-    by (inl b) ih = rw b (two_map i p (SenderItem.Released p id) (SenderItem.Finished p) (items_of_entries es) (items_of_entries (map (at_pubcomp n i) es)) (rw b refl) ih)
+    by (inl b) ih = rw b (two_map i p (SenderItem.Released p id) (SenderItem.Done p) (items_of_entries es) (items_of_entries (map (at_pubcomp n i) es)) (rw b refl) ih)
     by (inr b) ih = rw b (two_map i p (SenderItem.Released p id) (SenderItem.Released p id) (items_of_entries es) (items_of_entries (map (at_pubcomp n i) es)) (rw b refl) ih)
-items_pubcomp n i (Entry.Finished made p id start release finish ∷ es) = two_map i p (SenderItem.Finished p) (SenderItem.Finished p) (items_of_entries es) (items_of_entries (map (at_pubcomp n i) es)) refl (items_pubcomp n i es)
+items_pubcomp n i (Entry.Done made p id start release finish ∷ es) = two_map i p (SenderItem.Done p) (SenderItem.Done p) (items_of_entries es) (items_of_entries (map (at_pubcomp n i) es)) refl (items_pubcomp n i es)
 
 -- ---- new entries
 
@@ -100,7 +100,7 @@ two_append p x es more all e = by (is_qos2 p.qos)
 
 pub items_append : (es more : List Entry) → items_of_entries (es ++ more) ≡ items_of_entries es ++ items_of_entries more
 items_append [] more = refl
-items_append (Entry.Waits made p ∷ es) more = two_append p (SenderItem.Waits p) (items_of_entries es) (items_of_entries more) (items_of_entries (es ++ more)) (items_append es more)
-items_append (Entry.Started made p id start ∷ es) more = two_append p (SenderItem.Sent p id) (items_of_entries es) (items_of_entries more) (items_of_entries (es ++ more)) (items_append es more)
+items_append (Entry.Queued made p ∷ es) more = two_append p (SenderItem.Queued p) (items_of_entries es) (items_of_entries more) (items_of_entries (es ++ more)) (items_append es more)
+items_append (Entry.Sent made p id start ∷ es) more = two_append p (SenderItem.Sent p id) (items_of_entries es) (items_of_entries more) (items_of_entries (es ++ more)) (items_append es more)
 items_append (Entry.Released made p id start release ∷ es) more = two_append p (SenderItem.Released p id) (items_of_entries es) (items_of_entries more) (items_of_entries (es ++ more)) (items_append es more)
-items_append (Entry.Finished made p id start release finish ∷ es) more = two_append p (SenderItem.Finished p) (items_of_entries es) (items_of_entries more) (items_of_entries (es ++ more)) (items_append es more)
+items_append (Entry.Done made p id start release finish ∷ es) more = two_append p (SenderItem.Done p) (items_of_entries es) (items_of_entries more) (items_of_entries (es ++ more)) (items_append es more)

@@ -29,10 +29,10 @@ all_in {X = Y} (x ∷ xs) = (here, each_then (λ (y : Y). In y xs) (λ (y : Y). 
 
 none_released : {V : Type 0} (received : ℕ → Bool) (i : ℕ) (new : List (SenderItem V)) → Each (IsNew received) new → has_released i new ≡ false
 none_released received i [] h = refl
-none_released received i (SenderItem.Waits v ∷ new) h = none_released received i new h.1
+none_released received i (SenderItem.Queued v ∷ new) h = none_released received i new h.1
 none_released received i (SenderItem.Sent v id ∷ new) h = none_released received i new h.1
 none_released received i (SenderItem.Released v id ∷ new) h = elim h.0 [ ]
-none_released received i (SenderItem.Finished v ∷ new) h = elim h.0 [ ]
+none_released received i (SenderItem.Done v ∷ new) h = elim h.0 [ ]
 
 or_last : (x y : Bool) → y ≡ false → (x || y) ≡ true → x ≡ true
 or_last true y n e = refl
@@ -40,14 +40,14 @@ or_last false y n e = absurd (both_ways y n e)
 
 released_append : {V : Type 0} (i : ℕ) (xs ys : List (SenderItem V)) → has_released i (xs ++ ys) ≡ (has_released i xs || has_released i ys)
 released_append i [] ys = refl
-released_append i (SenderItem.Waits v ∷ xs) ys = released_append i xs ys
+released_append i (SenderItem.Queued v ∷ xs) ys = released_append i xs ys
 released_append i (SenderItem.Sent v id ∷ xs) ys = released_append i xs ys
 released_append i (SenderItem.Released v id ∷ xs) ys = ap (λ b. (i == id) || b) (released_append i xs ys) ∙ sym (assoc (i == id) (has_released i xs) (has_released i ys))
   where
     assoc : (x y z : Bool) → ((x || y) || z) ≡ (x || (y || z))
     assoc true y z = refl
     assoc false y z = refl
-released_append i (SenderItem.Finished v ∷ xs) ys = released_append i xs ys
+released_append i (SenderItem.Done v ∷ xs) ys = released_append i xs ys
 
 released_old : {V : Type 0} (received : ℕ → Bool) (i : ℕ) (old new : List (SenderItem V)) → Each (IsNew received) new → has_released i (old ++ new) ≡ true → has_released i old ≡ true
 released_old received i old new h e = or_last (has_released i old) (has_released i new) (none_released received i new h) (sym (released_append i old new) ∙ e)
@@ -63,24 +63,24 @@ row_ids [] = []
 
 rows_less : {V : Type 0} (i : ℕ) (items : List (SenderItem V)) → has_id i (busy items) ≡ false → has_id i (row_ids (sent items)) ≡ false
 rows_less i [] n = refl
-rows_less i (SenderItem.Waits v ∷ items) n = rows_less i items n
+rows_less i (SenderItem.Queued v ∷ items) n = rows_less i items n
 rows_less i (SenderItem.Sent v id ∷ items) n = let h = or_none (i == id) (has_id i (busy items)) n in none_or (i == id) (has_id i (row_ids (sent items))) h.0 (rows_less i items h.1)
 rows_less i (SenderItem.Released v id ∷ items) n = let h = or_none (i == id) (has_id i (busy items)) n in rows_less i items h.1
-rows_less i (SenderItem.Finished v ∷ items) n = rows_less i items n
+rows_less i (SenderItem.Done v ∷ items) n = rows_less i items n
 
 rows_apart : {V : Type 0} (items : List (SenderItem V)) → IsDistinct (busy items) → IsDistinct (row_ids (sent items))
 rows_apart [] d = tt
-rows_apart (SenderItem.Waits v ∷ items) d = rows_apart items d
+rows_apart (SenderItem.Queued v ∷ items) d = rows_apart items d
 rows_apart (SenderItem.Sent v id ∷ items) d = (rows_less id items d.0, rows_apart items d.1)
 rows_apart (SenderItem.Released v id ∷ items) d = rows_apart items d.1
-rows_apart (SenderItem.Finished v ∷ items) d = rows_apart items d
+rows_apart (SenderItem.Done v ∷ items) d = rows_apart items d
 
 rows_not_sent : {V : Type 0} (i : ℕ) (items : List (SenderItem V)) → has_sent i items ≡ false → has_id i (row_ids (sent items)) ≡ false
 rows_not_sent i [] n = refl
-rows_not_sent i (SenderItem.Waits v ∷ items) n = rows_not_sent i items n
+rows_not_sent i (SenderItem.Queued v ∷ items) n = rows_not_sent i items n
 rows_not_sent i (SenderItem.Sent v id ∷ items) n = let h = or_none (i == id) (has_sent i items) n in none_or (i == id) (has_id i (row_ids (sent items))) h.0 (rows_not_sent i items h.1)
 rows_not_sent i (SenderItem.Released v id ∷ items) n = rows_not_sent i items n
-rows_not_sent i (SenderItem.Finished v ∷ items) n = rows_not_sent i items n
+rows_not_sent i (SenderItem.Done v ∷ items) n = rows_not_sent i items n
 
 resend_ids : {V : Type 0} (ids : List ℕ) (rows : List (ℕ × V)) → map forward_id (map (λ id. let m : Forward V = Forward.Pubrel id in m) ids ++ map publishing rows) ≡ ids ++ row_ids rows
 resend_ids [] [] = refl

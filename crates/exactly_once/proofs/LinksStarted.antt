@@ -21,10 +21,10 @@ not_busy i j old n h = other_id i j (busy old) n h
 
 rows_away : {V : Type 0} (i : ℕ) (new : List (SenderItem V)) → has_id i (busy new) ≡ false → Each (λ (row : ℕ × V). (i == row.0) ≡ false) (sent new)
 rows_away i [] n = tt
-rows_away i (SenderItem.Waits v ∷ new) n = rows_away i new n
+rows_away i (SenderItem.Queued v ∷ new) n = rows_away i new n
 rows_away i (SenderItem.Sent v id ∷ new) n = let h = or_none (i == id) (has_id i (busy new)) n in (h.0, rows_away i new h.1)
 rows_away i (SenderItem.Released v id ∷ new) n = let h = or_none (i == id) (has_id i (busy new)) n in rows_away i new h.1
-rows_away i (SenderItem.Finished v ∷ new) n = rows_away i new n
+rows_away i (SenderItem.Done v ∷ new) n = rows_away i new n
 
 forward_away : {V : Type 0} (i : ℕ) (old : List (SenderItem V)) (f : List (Forward V)) → has_id i (busy old) ≡ false → Each (IsMeant old) f
     → Each (λ (row : ℕ × V). (i == row.0) ≡ false) (publishes_in_transit f) → has_id i (map forward_id f) ≡ false

@@ -102,14 +102,14 @@ one_copy x y dup id p more e = by (same_connection x y)
     by false = e
 
 first_none : (x y : ConnectionName) (n : ℕ) (entry : Entry) → backward_of_own (sends_to x (first_output y n entry)) ≡ []
-first_none x y n (Entry.Waits made p) = refl
-first_none x y n (Entry.Started made p id start) = by (start == n)
+first_none x y n (Entry.Queued made p) = refl
+first_none x y n (Entry.Sent made p id start) = by (start == n)
   where
     by : (b : Bool) → backward_of_own (sends_to x (if b then publish_output y false id p ∷ [] else [])) ≡ []
     by true = one_copy x y false id p [] refl
     by false = refl
 first_none x y n (Entry.Released made p id start release) = refl
-first_none x y n (Entry.Finished made p id start release finish) = refl
+first_none x y n (Entry.Done made p id start release finish) = refl
 
 pub started_none : (x y : ConnectionName) (n : ℕ) (es : List Entry) → backward_of_own (sends_to x (all_started y n es)) ≡ []
 started_none x y n [] = refl

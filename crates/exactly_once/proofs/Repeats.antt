@@ -15,20 +15,20 @@ use Rattle.exactly_once.proofs.ItemsKnown.{cons_is}
 -- the value of a row that is sent is that of an item
 sent_value : {V : Type 0} (row : ℕ × V) (items : List (SenderItem V)) → In row (sent items) → In row.1 (map value_of items)
 sent_value row [] i = elim i [ ]
-sent_value row (SenderItem.Waits v ∷ items) i = there (sent_value row items i)
+sent_value row (SenderItem.Queued v ∷ items) i = there (sent_value row items i)
 sent_value row (SenderItem.Sent v id ∷ items) here = here
 sent_value row (SenderItem.Sent v id ∷ items) (there i) = there (sent_value row items i)
 sent_value row (SenderItem.Released v id ∷ items) i = there (sent_value row items i)
-sent_value row (SenderItem.Finished v ∷ items) i = there (sent_value row items i)
+sent_value row (SenderItem.Done v ∷ items) i = there (sent_value row items i)
 
 -- one that is not accepted has an identifier that the receiver does not know
 new_unknown : {V : Type 0} (received : ℕ → Bool) (row : ℕ × V) (items : List (SenderItem V)) → Each (IsNew received) items → In row (sent items) → received row.0 ≡ false
 new_unknown received row [] h i = elim i [ ]
-new_unknown received row (SenderItem.Waits v ∷ items) h i = new_unknown received row items h.1 i
+new_unknown received row (SenderItem.Queued v ∷ items) h i = new_unknown received row items h.1 i
 new_unknown received row (SenderItem.Sent v id ∷ items) h here = h.0
 new_unknown received row (SenderItem.Sent v id ∷ items) h (there i) = new_unknown received row items h.1 i
 new_unknown received row (SenderItem.Released v id ∷ items) h i = elim h.0 [ ]
-new_unknown received row (SenderItem.Finished v ∷ items) h i = elim h.0 [ ]
+new_unknown received row (SenderItem.Done v ∷ items) h i = elim h.0 [ ]
 
 -- the first of what comes, by whether the receiver has it
 first_known : {V : Type 0} (received : ℕ → Bool) (old new : List (SenderItem V)) (row : ℕ × V) (rows again next more : List (ℕ × V)) → Each (IsNew received) new → received row.0 ≡ true

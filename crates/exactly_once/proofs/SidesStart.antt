@@ -4,7 +4,7 @@ use Rattle.std.proofs.lemmas.List.{append-nil}
 use Rattle.std.proofs.lemmas.Bool.{both_ways, cases_Bool}
 use Rattle.lists.specs.Lists.{has_id, IsDistinct}
 use Rattle.exactly_once.specs.Items.{SenderItem, busy, sent, start_first, first_waiting}
-use Rattle.exactly_once.specs.HandshakeInvariant.{IsNew, IsUnsent, UnsentAreLast, AreSides}
+use Rattle.exactly_once.specs.HandshakeInvariant.{IsNew, IsQueued, QueuedAreLast, AreSides}
 use Rattle.lists.proofs.Identifiers.{has_join, has_split, distinct_push}
 use Rattle.lists.proofs.OfEach.{each_append}
 use Rattle.exactly_once.proofs.BusyIdentifiers.{busy_append, sent_append}
@@ -12,29 +12,29 @@ use Rattle.exactly_once.proofs.ItemsStarted.{start_after, waiting_after, Started
 
 -- ---- a publication comes
 
-waits_more : {V : Type 0} (items : List (SenderItem V)) (v : V) → UnsentAreLast items → UnsentAreLast (items ++ SenderItem.Waits v ∷ [])
+waits_more : {V : Type 0} (items : List (SenderItem V)) (v : V) → QueuedAreLast items → QueuedAreLast (items ++ SenderItem.Queued v ∷ [])
 waits_more [] v w = tt
-waits_more (SenderItem.Waits u ∷ items) v w = each_append IsUnsent items (SenderItem.Waits v ∷ []) w (tt, tt)
+waits_more (SenderItem.Queued u ∷ items) v w = each_append IsQueued items (SenderItem.Queued v ∷ []) w (tt, tt)
 waits_more (SenderItem.Sent u id ∷ items) v w = waits_more items v w
 waits_more (SenderItem.Released u id ∷ items) v w = waits_more items v w
-waits_more (SenderItem.Finished u ∷ items) v w = waits_more items v w
+waits_more (SenderItem.Done u ∷ items) v w = waits_more items v w
 
-pub busy_waits : {V : Type 0} (items : List (SenderItem V)) (v : V) → busy (items ++ SenderItem.Waits v ∷ []) ≡ busy items
-busy_waits items v = busy_append items (SenderItem.Waits v ∷ []) ∙ append-nil (busy items)
+pub busy_waits : {V : Type 0} (items : List (SenderItem V)) (v : V) → busy (items ++ SenderItem.Queued v ∷ []) ≡ busy items
+busy_waits items v = busy_append items (SenderItem.Queued v ∷ []) ∙ append-nil (busy items)
 
-pub sent_waits : {V : Type 0} (items : List (SenderItem V)) (v : V) → sent (items ++ SenderItem.Waits v ∷ []) ≡ sent items
-sent_waits items v = sent_append items (SenderItem.Waits v ∷ []) ∙ append-nil (sent items)
+pub sent_waits : {V : Type 0} (items : List (SenderItem V)) (v : V) → sent (items ++ SenderItem.Queued v ∷ []) ≡ sent items
+sent_waits items v = sent_append items (SenderItem.Queued v ∷ []) ∙ append-nil (sent items)
 
 pub sides_add : {V : Type 0} (items : List (SenderItem V)) (accepted : List V) (received : ℕ → Bool) (old new : List (SenderItem V)) (v : V)
-    → AreSides items accepted received old new → AreSides (items ++ SenderItem.Waits v ∷ []) accepted received old (new ++ SenderItem.Waits v ∷ [])
+    → AreSides items accepted received old new → AreSides (items ++ SenderItem.Queued v ∷ []) accepted received old (new ++ SenderItem.Queued v ∷ [])
 sides_add items accepted received old new v s =
     record {
-      is = ap (λ l. l ++ SenderItem.Waits v ∷ []) s.is ∙ append_assoc old new (SenderItem.Waits v ∷ []);
+      is = ap (λ l. l ++ SenderItem.Queued v ∷ []) s.is ∙ append_assoc old new (SenderItem.Queued v ∷ []);
       accepted_is = s.accepted_is;
       olds = s.olds;
-      news = each_append (IsNew received) new (SenderItem.Waits v ∷ []) s.news (tt, tt);
+      news = each_append (IsNew received) new (SenderItem.Queued v ∷ []) s.news (tt, tt);
       waits_last = waits_more new v s.waits_last;
-      apart = subst IsDistinct (sym (ap busy (sym (append_assoc old new (SenderItem.Waits v ∷ []))) ∙ busy_waits (old ++ new) v)) s.apart;
+      apart = subst IsDistinct (sym (ap busy (sym (append_assoc old new (SenderItem.Queued v ∷ []))) ∙ busy_waits (old ++ new) v)) s.apart;
       known = s.known;
     }
 

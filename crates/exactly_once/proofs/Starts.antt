@@ -6,7 +6,7 @@ use Rattle.lists.specs.Lists.{has_id}
 use Rattle.session_base.specs.Identifiers.{least_free}
 use Rattle.broker_spec.specs.Entries.{Entry}
 use Rattle.broker_spec.specs.Times.{start_all}
-use Rattle.broker_spec.specs.IdentifierLaws.{WaitingAreLast, IsWaitingEntry}
+use Rattle.broker_spec.specs.IdentifierTheorems.{WaitingAreLast, IsWaitingEntry}
 use Rattle.broker_spec.proofs.LeastFree.{least-is-free}
 use Rattle.exactly_once.specs.Items.{SenderItem, busy, start_first, first_waiting}
 use Rattle.exactly_once.specs.Handshake.{sender_sends, with_items, Forward, Transit, Handshake}
@@ -23,54 +23,54 @@ use Rattle.std.specs.List.{AllByRecursion}
 
 -- items of which none waits
 abbrev pub NoneWaits : {V : Type 0} → List (SenderItem V) → Type 0
-NoneWaits (SenderItem.Waits v ∷ items) = ⊥
+NoneWaits (SenderItem.Queued v ∷ items) = ⊥
 NoneWaits (_ ∷ items) = NoneWaits items
 NoneWaits [] = Unit {0}
 
 none_more : {V : Type 0} (pre more : List (SenderItem V)) → NoneWaits pre → NoneWaits more → NoneWaits (pre ++ more)
 none_more [] more n m = m
-none_more (SenderItem.Waits v ∷ pre) more n m = elim n [ ]
+none_more (SenderItem.Queued v ∷ pre) more n m = elim n [ ]
 none_more (SenderItem.Sent v id ∷ pre) more n m = none_more pre more n m
 none_more (SenderItem.Released v id ∷ pre) more n m = none_more pre more n m
-none_more (SenderItem.Finished v ∷ pre) more n m = none_more pre more n m
+none_more (SenderItem.Done v ∷ pre) more n m = none_more pre more n m
 
 first_after : {V : Type 0} (pre more : List (SenderItem V)) → NoneWaits pre → first_waiting (pre ++ more) ≡ first_waiting more
 first_after [] more n = refl
-first_after (SenderItem.Waits v ∷ pre) more n = elim n [ ]
+first_after (SenderItem.Queued v ∷ pre) more n = elim n [ ]
 first_after (SenderItem.Sent v id ∷ pre) more n = first_after pre more n
 first_after (SenderItem.Released v id ∷ pre) more n = first_after pre more n
-first_after (SenderItem.Finished v ∷ pre) more n = first_after pre more n
+first_after (SenderItem.Done v ∷ pre) more n = first_after pre more n
 
 start_after : {V : Type 0} (id : ℕ) (pre more : List (SenderItem V)) → NoneWaits pre → start_first id (pre ++ more) ≡ pre ++ start_first id more
 start_after id [] more n = refl
-start_after id (SenderItem.Waits v ∷ pre) more n = elim n [ ]
+start_after id (SenderItem.Queued v ∷ pre) more n = elim n [ ]
 start_after id (SenderItem.Sent v i ∷ pre) more n = ap (λ l. SenderItem.Sent v i ∷ l) (start_after id pre more n)
 start_after id (SenderItem.Released v i ∷ pre) more n = ap (λ l. SenderItem.Released v i ∷ l) (start_after id pre more n)
-start_after id (SenderItem.Finished v ∷ pre) more n = ap (λ l. SenderItem.Finished v ∷ l) (start_after id pre more n)
+start_after id (SenderItem.Done v ∷ pre) more n = ap (λ l. SenderItem.Done v ∷ l) (start_after id pre more n)
 
 -- what waits is not busy
 waiting_free : (es : List Entry) → AllByRecursion IsWaitingEntry es → busy (items_of_entries es) ≡ []
 waiting_free [] w = refl
-waiting_free (Entry.Waits made p ∷ es) w = by (is_qos2 p.qos) (waiting_free es w.1)
+waiting_free (Entry.Queued made p ∷ es) w = by (is_qos2 p.qos) (waiting_free es w.1)
   where
-    by : (b : Bool) → busy (items_of_entries es) ≡ [] → busy (if b then SenderItem.Waits p ∷ items_of_entries es else items_of_entries es) ≡ []
+    by : (b : Bool) → busy (items_of_entries es) ≡ [] → busy (if b then SenderItem.Queued p ∷ items_of_entries es else items_of_entries es) ≡ []
     by true ih = ih
     by false ih = ih
-waiting_free (Entry.Started made p id start ∷ es) w = elim w.0 [ ]
+waiting_free (Entry.Sent made p id start ∷ es) w = elim w.0 [ ]
 waiting_free (Entry.Released made p id start release ∷ es) w = elim w.0 [ ]
-waiting_free (Entry.Finished made p id start release finish ∷ es) w = elim w.0 [ ]
+waiting_free (Entry.Done made p id start release finish ∷ es) w = elim w.0 [ ]
 
 -- ---- what starts
 
 -- the identifiers and publications of the QoS 2 entries that start
 abbrev pub rows_started : ℕ → List ℕ → List Entry → List (ℕ × Publication)
-rows_started w ids (Entry.Waits made p ∷ es) =
+rows_started w ids (Entry.Queued made p ∷ es) =
     if nat_lt (length ids) w
     then (if is_qos2 p.qos then (least_free ids, p) ∷ rows_started w (least_free ids ∷ ids) es else rows_started w (least_free ids ∷ ids) es)
     else []
-rows_started w ids (Entry.Started made p id start ∷ es) = rows_started w (id ∷ ids) es
+rows_started w ids (Entry.Sent made p id start ∷ es) = rows_started w (id ∷ ids) es
 rows_started w ids (Entry.Released made p id start release ∷ es) = rows_started w (id ∷ ids) es
-rows_started w ids (Entry.Finished made p id start release finish ∷ es) = rows_started w ids es
+rows_started w ids (Entry.Done made p id start release finish ∷ es) = rows_started w ids es
 rows_started w ids [] = []
 
 abbrev pub sending_all : List (ℕ × Publication) → Transit Publication → Transit Publication
@@ -109,29 +109,29 @@ in_front h pre items item rows s =
 
 -- the start of one that waits
 starts_one : (h : Handshake Publication) (pre : List (SenderItem Publication)) (id : ℕ) (p : Publication) (es : List Entry) (ids : List ℕ)
-    → h.items ≡ pre ++ SenderItem.Waits p ∷ items_of_entries es → NoneWaits pre → Covers ids pre → has_id id ids ≡ false → AllByRecursion IsWaitingEntry es
+    → h.items ≡ pre ++ SenderItem.Queued p ∷ items_of_entries es → NoneWaits pre → Covers ids pre → has_id id ids ≡ false → AllByRecursion IsWaitingEntry es
     → HandshakeTrace h (with_items (start_first id h.items) (sender_sends (Forward.Publish id p) h.transit) h) × (start_first id h.items ≡ (pre ++ SenderItem.Sent p id ∷ []) ++ items_of_entries es)
 starts_one h pre id p es ids e n c free w =
     let fresh : has_id id (busy h.items) ≡ false =
-    ap (λ l. has_id id (busy l)) e ∙ ap (has_id id) (busy_append pre (SenderItem.Waits p ∷ items_of_entries es) ∙ ap (λ l. busy pre ++ l) (waiting_free es w) ∙ append-nil (busy pre)) ∙ c id free in
-    let first : first_waiting h.items ≡ Some p = ap first_waiting e ∙ first_after pre (SenderItem.Waits p ∷ items_of_entries es) n in (
+    ap (λ l. has_id id (busy l)) e ∙ ap (has_id id) (busy_append pre (SenderItem.Queued p ∷ items_of_entries es) ∙ ap (λ l. busy pre ++ l) (waiting_free es w) ∙ append-nil (busy pre)) ∙ c id free in
+    let first : first_waiting h.items ≡ Some p = ap first_waiting e ∙ first_after pre (SenderItem.Queued p ∷ items_of_entries es) n in (
       goes_on stays (starts id p fresh first),
-      ap (start_first id) e ∙ start_after id pre (SenderItem.Waits p ∷ items_of_entries es) n ∙ sym (append_assoc pre (SenderItem.Sent p id ∷ []) (items_of_entries es)),
+      ap (start_first id) e ∙ start_after id pre (SenderItem.Queued p ∷ items_of_entries es) n ∙ sym (append_assoc pre (SenderItem.Sent p id ∷ []) (items_of_entries es)),
     )
 
 waits_after : (es : List Entry) → AllByRecursion IsWaitingEntry es → WaitingAreLast es
 waits_after [] w = tt
-waits_after (Entry.Waits made p ∷ es) w = w.1
-waits_after (Entry.Started made p id start ∷ es) w = elim w.0 [ ]
+waits_after (Entry.Queued made p ∷ es) w = w.1
+waits_after (Entry.Sent made p id start ∷ es) w = elim w.0 [ ]
 waits_after (Entry.Released made p id start release ∷ es) w = elim w.0 [ ]
-waits_after (Entry.Finished made p id start release finish ∷ es) w = elim w.0 [ ]
+waits_after (Entry.Done made p id start release finish ∷ es) w = elim w.0 [ ]
 
 -- all starts of a place
 pub all_starts : (w n : ℕ) (ids : List ℕ) (pre : List (SenderItem Publication)) (es : List Entry) (h : Handshake Publication)
     → h.items ≡ pre ++ items_of_entries es → NoneWaits pre → Covers ids pre → WaitingAreLast es
     → Starts h (pre ++ items_of_entries (start_all w n ids es)) (rows_started w ids es)
 all_starts w n ids pre [] h e nw c l = record { after = h; run = stays; items_are = e; accepted = refl; received = refl; transit = refl }
-all_starts w n ids pre (Entry.Started made p id start ∷ es) h e nw c l =
+all_starts w n ids pre (Entry.Sent made p id start ∷ es) h e nw c l =
     by (is_qos2 p.qos) e (λ e'. all_starts w n (id ∷ ids) pre es h e' nw (covers_more ids pre id c) l)
     (λ e'. all_starts w n (id ∷ ids) (pre ++ SenderItem.Sent p id ∷ []) es h e' (none_more pre (SenderItem.Sent p id ∷ []) nw tt) (covers_one ids pre (SenderItem.Sent p id) id refl c) l)
   where
@@ -151,24 +151,24 @@ all_starts w n ids pre (Entry.Released made p id start release ∷ es) h e nw c 
         → Starts h (pre ++ (if b then SenderItem.Released p id ∷ items_of_entries (start_all w n (id ∷ ids) es) else items_of_entries (start_all w n (id ∷ ids) es))) (rows_started w (id ∷ ids) es)
     by true e f g = in_front h pre (items_of_entries (start_all w n (id ∷ ids) es)) (SenderItem.Released p id) (rows_started w (id ∷ ids) es) (g (e ∙ sym (append_assoc pre (SenderItem.Released p id ∷ []) (items_of_entries es))))
     by false e f g = f e
-all_starts w n ids pre (Entry.Finished made p id start release finish ∷ es) h e nw c l =
+all_starts w n ids pre (Entry.Done made p id start release finish ∷ es) h e nw c l =
     by (is_qos2 p.qos) e (λ e'. all_starts w n ids pre es h e' nw c l)
-    (λ e'. all_starts w n ids (pre ++ SenderItem.Finished p ∷ []) es h e' (none_more pre (SenderItem.Finished p ∷ []) nw tt) (covers_free ids pre (SenderItem.Finished p) refl c) l)
+    (λ e'. all_starts w n ids (pre ++ SenderItem.Done p ∷ []) es h e' (none_more pre (SenderItem.Done p ∷ []) nw tt) (covers_free ids pre (SenderItem.Done p) refl c) l)
   where
-    by : (b : Bool) → h.items ≡ pre ++ (if b then SenderItem.Finished p ∷ items_of_entries es else items_of_entries es)
+    by : (b : Bool) → h.items ≡ pre ++ (if b then SenderItem.Done p ∷ items_of_entries es else items_of_entries es)
         → (h.items ≡ pre ++ items_of_entries es → Starts h (pre ++ items_of_entries (start_all w n ids es)) (rows_started w ids es))
-        → (h.items ≡ (pre ++ SenderItem.Finished p ∷ []) ++ items_of_entries es → Starts h ((pre ++ SenderItem.Finished p ∷ []) ++ items_of_entries (start_all w n ids es)) (rows_started w ids es))
-        → Starts h (pre ++ (if b then SenderItem.Finished p ∷ items_of_entries (start_all w n ids es) else items_of_entries (start_all w n ids es))) (rows_started w ids es)
-    by true e f g = in_front h pre (items_of_entries (start_all w n ids es)) (SenderItem.Finished p) (rows_started w ids es) (g (e ∙ sym (append_assoc pre (SenderItem.Finished p ∷ []) (items_of_entries es))))
+        → (h.items ≡ (pre ++ SenderItem.Done p ∷ []) ++ items_of_entries es → Starts h ((pre ++ SenderItem.Done p ∷ []) ++ items_of_entries (start_all w n ids es)) (rows_started w ids es))
+        → Starts h (pre ++ (if b then SenderItem.Done p ∷ items_of_entries (start_all w n ids es) else items_of_entries (start_all w n ids es))) (rows_started w ids es)
+    by true e f g = in_front h pre (items_of_entries (start_all w n ids es)) (SenderItem.Done p) (rows_started w ids es) (g (e ∙ sym (append_assoc pre (SenderItem.Done p ∷ []) (items_of_entries es))))
     by false e f g = f e
-all_starts w n ids pre (Entry.Waits made p ∷ es) h e nw c l =
+all_starts w n ids pre (Entry.Queued made p ∷ es) h e nw c l =
     by (nat_lt (length ids) w)
     (two (is_qos2 p.qos) e
     (λ e'. all_starts w n (least_free ids ∷ ids) pre es h e' nw (covers_more ids pre (least_free ids) c) (waits_after es l))
     (λ k e'. all_starts w n (least_free ids ∷ ids) (pre ++ SenderItem.Sent p (least_free ids) ∷ []) es k e' (none_more pre (SenderItem.Sent p (least_free ids) ∷ []) nw tt)
     (covers_one ids pre (SenderItem.Sent p (least_free ids)) (least_free ids) refl c) (waits_after es l)))
   where
-    two : (b : Bool) → h.items ≡ pre ++ (if b then SenderItem.Waits p ∷ items_of_entries es else items_of_entries es)
+    two : (b : Bool) → h.items ≡ pre ++ (if b then SenderItem.Queued p ∷ items_of_entries es else items_of_entries es)
         → (h.items ≡ pre ++ items_of_entries es → Starts h (pre ++ items_of_entries (start_all w n (least_free ids ∷ ids) es)) (rows_started w (least_free ids ∷ ids) es))
         → ((k : Handshake Publication) → k.items ≡ (pre ++ SenderItem.Sent p (least_free ids) ∷ []) ++ items_of_entries es
         → Starts k ((pre ++ SenderItem.Sent p (least_free ids) ∷ []) ++ items_of_entries (start_all w n (least_free ids ∷ ids) es)) (rows_started w (least_free ids ∷ ids) es))
@@ -189,9 +189,9 @@ all_starts w n ids pre (Entry.Waits made p ∷ es) h e nw c l =
         }
 
     by : (room : Bool)
-        → Starts h (pre ++ items_of_entries (Entry.Started made p (least_free ids) n ∷ start_all w n (least_free ids ∷ ids) es))
+        → Starts h (pre ++ items_of_entries (Entry.Sent made p (least_free ids) n ∷ start_all w n (least_free ids ∷ ids) es))
         (if is_qos2 p.qos then (least_free ids, p) ∷ rows_started w (least_free ids ∷ ids) es else rows_started w (least_free ids ∷ ids) es)
-        → Starts h (pre ++ items_of_entries (if room then Entry.Started made p (least_free ids) n ∷ start_all w n (least_free ids ∷ ids) es else Entry.Waits made p ∷ es))
+        → Starts h (pre ++ items_of_entries (if room then Entry.Sent made p (least_free ids) n ∷ start_all w n (least_free ids ∷ ids) es else Entry.Queued made p ∷ es))
         (if room then (if is_qos2 p.qos then (least_free ids, p) ∷ rows_started w (least_free ids ∷ ids) es else rows_started w (least_free ids ∷ ids) es) else [])
     by true r = r
     by false r = record { after = h; run = stays; items_are = e; accepted = refl; received = refl; transit = refl }

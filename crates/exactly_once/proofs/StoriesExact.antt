@@ -1,7 +1,7 @@
 -- Every story keeps its promises: what is shown of its two handshakes and of the places of its list, in one.
 use Rattle.std.proofs.Common.{length, subst}
 use Rattle.broker_spec.specs.Place.{Client, Limits}
-use Rattle.broker_spec.specs.NobodyLaws.{IsSteady}
+use Rattle.broker_spec.specs.NobodyTheorems.{IsSteady}
 use Rattle.exactly_once.specs.Story.{Story}
 use Rattle.exactly_once.specs.StoryTrace.{StoryTrace}
 use Rattle.exactly_once.specs.Headline.{PublishedOnce, ExactlyOnce}

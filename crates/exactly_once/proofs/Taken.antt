@@ -25,24 +25,24 @@ pub record Took {V : Type 0} (m : Forward V) (received : ℕ → Bool) (old : Li
 
 sent_more : {V : Type 0} (i : ℕ) (items more : List (SenderItem V)) → has_sent i items ≡ true → has_sent i (items ++ more) ≡ true
 sent_more i [] more e = absurd (both_ways false refl e)
-sent_more i (SenderItem.Waits v ∷ items) more e = sent_more i items more e
+sent_more i (SenderItem.Queued v ∷ items) more e = sent_more i items more e
 sent_more i (SenderItem.Sent v id ∷ items) more e = or_then (i == id) (has_sent i items) (has_sent i (items ++ more)) e (sent_more i items more)
 sent_more i (SenderItem.Released v id ∷ items) more e = sent_more i items more e
-sent_more i (SenderItem.Finished v ∷ items) more e = sent_more i items more e
+sent_more i (SenderItem.Done v ∷ items) more e = sent_more i items more e
 
 released_more : {V : Type 0} (i : ℕ) (items more : List (SenderItem V)) → has_released i items ≡ true → has_released i (items ++ more) ≡ true
 released_more i [] more e = absurd (both_ways false refl e)
-released_more i (SenderItem.Waits v ∷ items) more e = released_more i items more e
+released_more i (SenderItem.Queued v ∷ items) more e = released_more i items more e
 released_more i (SenderItem.Sent v id ∷ items) more e = released_more i items more e
 released_more i (SenderItem.Released v id ∷ items) more e = or_then (i == id) (has_released i items) (has_released i (items ++ more)) e (released_more i items more)
-released_more i (SenderItem.Finished v ∷ items) more e = released_more i items more e
+released_more i (SenderItem.Done v ∷ items) more e = released_more i items more e
 
 now_sent : {V : Type 0} (items : List (SenderItem V)) (v : V) (id : ℕ) → has_sent id (items ++ SenderItem.Sent v id ∷ []) ≡ true
 now_sent [] v id = or_left (id == id) false (eq_same id)
-now_sent (SenderItem.Waits u ∷ items) v id = now_sent items v id
+now_sent (SenderItem.Queued u ∷ items) v id = now_sent items v id
 now_sent (SenderItem.Sent u i ∷ items) v id = or_right (id == i) (has_sent id (items ++ SenderItem.Sent v id ∷ [])) (now_sent items v id)
 now_sent (SenderItem.Released u i ∷ items) v id = now_sent items v id
-now_sent (SenderItem.Finished u ∷ items) v id = now_sent items v id
+now_sent (SenderItem.Done u ∷ items) v id = now_sent items v id
 
 pub meant_more : {V : Type 0} (old more : List (SenderItem V)) (m : Forward V) → IsMeant old m → IsMeant (old ++ more) m
 meant_more old more (Forward.Publish id v) h = tt

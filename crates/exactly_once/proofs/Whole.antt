@@ -2,7 +2,7 @@
 use Rattle.std.proofs.Common.{[], inl, refl}
 use Rattle.broker_spec.specs.Place.{Client, Limits}
 use Rattle.broker_spec.specs.Sessions.{current_connection, clean_session_of}
-use Rattle.broker_spec.specs.NobodyLaws.{IsSteady}
+use Rattle.broker_spec.specs.NobodyTheorems.{IsSteady}
 use Rattle.broker_spec.specs.Received.{received_of}
 use Rattle.broker_spec.specs.Times.{entries_of}
 use Rattle.exactly_once.specs.HandshakeInvariant.{IsGood}
@@ -57,8 +57,8 @@ subscriber_opens limits c =
 pub stories_are_sound : EventKeepsShape → EventPublishes → EventSubscribes → (limits : Limits) → IsSteady limits → (c : Client) (s : Story) → StoryTrace limits c s → IsSoundStory limits s
 stories_are_sound keeps publishes subscribes limits steady c s begins =
     record { shape = opening_shape limits c; publisher = publisher_opens limits c; subscriber = subscriber_opens limits c }
-stories_are_sound keeps publishes subscribes limits steady c s (begins_at list earlier own none numbers unsent apart) =
-    begun_is_sound limits (past_of limits list) c earlier own none unsent apart
+stories_are_sound keeps publishes subscribes limits steady c s (begins_at list earlier own none numbers queued apart) =
+    begun_is_sound limits (past_of limits list) c earlier own none queued apart
 stories_are_sound keeps publishes subscribes limits steady c s (goes_on {before = r} told happens) =
     let sound = stories_are_sound keeps publishes subscribes limits steady c r told in
     record {

@@ -5,7 +5,7 @@ pub mod First
 pub mod Answered
 pub mod Online
 pub mod Starting
-pub mod Unsent
+pub mod Queued
 pub mod Publishes
 pub mod Resent
 pub mod Confirms

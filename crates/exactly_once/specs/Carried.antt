@@ -2,7 +2,7 @@
 -- its j-th written packet.
 use Rattle.std.specs.Prelude.{ℕ, Bool, true, false, ◌==◌, if◌then◌else◌, List, [], ◌∷◌, ◌++◌, map, Option, Some, None, slice_get}
 use Rattle.packet_base.specs.declared.qos.QoS.{QoS}
-use Rattle.packet_base.specs.declared.qos.QoS.TheVariants as qualities
+use Rattle.packet_base.specs.declared.qos.QoS.TheVariants as qos_levels
 use Rattle.packet.specs.declared.packet.Packet.TheVariants as packets
 use Rattle.broker_spec.specs.Connection.{ConnectionName, same_connection}
 use Rattle.broker_spec.specs.Place.{Past}
@@ -56,13 +56,13 @@ new_numbers connections [] = []
 
 -- whether a QoS is 2
 abbrev pub is_qos2 : QoS → Bool
-is_qos2 qualities.AtMostOnce = false
-is_qos2 qualities.AtLeastOnce = false
-is_qos2 qualities.ExactlyOnce = true
+is_qos2 qos_levels.AtMostOnce = false
+is_qos2 qos_levels.AtLeastOnce = false
+is_qos2 qos_levels.ExactlyOnce = true
 
 -- the publication itself
 abbrev pub own_publication : Own → Publication
-own_publication (Own.Unsent number publication id) = publication
+own_publication (Own.Queued number publication id) = publication
 own_publication (Own.Sent number publication id) = publication
 own_publication (Own.Released number publication id) = publication
 own_publication (Own.Done number publication) = publication

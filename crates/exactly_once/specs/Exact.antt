@@ -10,7 +10,7 @@ use Rattle.exactly_once.specs.HandshakeSteps.{HandshakeTrace, opening_handshake}
 -- whether the receiver's PUBREC for an item has come to the sender
 abbrev pub is_pubrec_received : {V : Type 0} → SenderItem V → Bool
 is_pubrec_received (SenderItem.Released value id) = true
-is_pubrec_received (SenderItem.Finished value) = true
+is_pubrec_received (SenderItem.Done value) = true
 is_pubrec_received _ = false
 
 -- What is accepted is a prefix of the items, in order, and each that is released is among them.

@@ -6,28 +6,28 @@ use Rattle.exactly_once.specs.Handshake.{Forward, Backward, Transit, Handshake}
 
 -- an accepted item was sent, and until it is released the receiver knows its identifier
 abbrev pub IsOld : {V : Type 0} → (ℕ → Bool) → SenderItem V → Type 0
-IsOld received (SenderItem.Waits value) = ⊥
+IsOld received (SenderItem.Queued value) = ⊥
 IsOld received (SenderItem.Sent value id) = received id ≡ true
 IsOld received (SenderItem.Released value id) = Unit {0}
-IsOld received (SenderItem.Finished value) = Unit {0}
+IsOld received (SenderItem.Done value) = Unit {0}
 
 -- any other waits, or is sent with an identifier that the receiver does not know
 abbrev pub IsNew : {V : Type 0} → (ℕ → Bool) → SenderItem V → Type 0
-IsNew received (SenderItem.Waits value) = Unit {0}
+IsNew received (SenderItem.Queued value) = Unit {0}
 IsNew received (SenderItem.Sent value id) = received id ≡ false
 IsNew received (SenderItem.Released value id) = ⊥
-IsNew received (SenderItem.Finished value) = ⊥
+IsNew received (SenderItem.Done value) = ⊥
 
 -- the item was not sent yet
-abbrev pub IsUnsent : {V : Type 0} → SenderItem V → Type 0
-IsUnsent (SenderItem.Waits value) = Unit {0}
-IsUnsent _ = ⊥
+abbrev pub IsQueued : {V : Type 0} → SenderItem V → Type 0
+IsQueued (SenderItem.Queued value) = Unit {0}
+IsQueued _ = ⊥
 
 -- after one that waits, all wait
-abbrev pub UnsentAreLast : {V : Type 0} → List (SenderItem V) → Type 0
-UnsentAreLast (SenderItem.Waits value ∷ items) = Each IsUnsent items
-UnsentAreLast (_ ∷ items) = UnsentAreLast items
-UnsentAreLast [] = Unit {0}
+abbrev pub QueuedAreLast : {V : Type 0} → List (SenderItem V) → Type 0
+QueuedAreLast (SenderItem.Queued value ∷ items) = Each IsQueued items
+QueuedAreLast (_ ∷ items) = QueuedAreLast items
+QueuedAreLast [] = Unit {0}
 
 -- ---- what is in transit
 
@@ -107,7 +107,7 @@ pub record AreSides {V : Type 0} (items : List (SenderItem V)) (accepted : List 
   pub accepted_is : accepted ≡ map value_of old
   pub olds : Each (IsOld received) old
   pub news : Each (IsNew received) new
-  pub waits_last : UnsentAreLast new
+  pub waits_last : QueuedAreLast new
   pub apart : IsDistinct (busy (old ++ new))
   pub known : (id : ℕ) → received id ≡ true → has_id id (busy old) ≡ true
 

@@ -7,7 +7,7 @@ use Rattle.exactly_once.specs.Handshake.{Forward, Backward, Transit, Handshake, 
 -- one step of a handshake; Packet Identifiers are those of the sender
 pub data HandshakeStep {V : Type 0} (handshake : Handshake V) : Handshake V → Type 0 where
   adds : (value : V) → HandshakeStep handshake
-      (with_items (handshake.items ++ SenderItem.Waits value ∷ []) handshake.transit handshake)
+      (with_items (handshake.items ++ SenderItem.Queued value ∷ []) handshake.transit handshake)
   -- the first that waits starts with a free identifier: its PUBLISH is sent (MQTT 4.3.3)
   starts : (id : ℕ) (value : V) → has_id id (busy handshake.items) ≡ false →
       first_waiting handshake.items ≡ Some value →

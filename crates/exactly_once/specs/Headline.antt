@@ -14,9 +14,9 @@ use Rattle.broker_spec.specs.Entries.{Entry}
 use Rattle.broker_spec.specs.Readings.{publication_in}
 use Rattle.broker_spec.specs.Times.{entries_of}
 use Rattle.broker_spec.specs.AnswersInOrder.{answers_at}
-use Rattle.broker_spec.specs.OriginLaws.{is_from_publish}
-use Rattle.broker_spec.specs.EndingLaws.{StandsAt}
-use Rattle.broker_spec.specs.TakenLaws.{queued_at}
+use Rattle.broker_spec.specs.OriginTheorems.{is_from_publish}
+use Rattle.broker_spec.specs.EndingTheorems.{StandsAt}
+use Rattle.broker_spec.specs.TakenTheorems.{queued_at}
 use Rattle.broker_spec.specs.declared.command.Command.TheVariants as commands
 use Rattle.broker_spec.specs.declared.command.Output.TheVariants.{Send}
 use Rattle.lists.specs.Lists.{In, IsPrefixOf}

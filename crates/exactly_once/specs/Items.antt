@@ -5,17 +5,17 @@ use Rattle.std.specs.Prelude.{ℕ, Bool, false, ◌||◌, ◌==◌, if◌then◌
 
 -- one QoS 2 publication of a sender, with its state
 pub data SenderItem (V : Type 0) : Type 0 where
-  Waits : (value : V) → SenderItem V  -- it was not sent yet
+  Queued : (value : V) → SenderItem V  -- it was not sent yet
   Sent : (value : V) → (id : ℕ) → SenderItem V  -- its PUBLISH was sent, and no PUBREC came
   Released : (value : V) → (id : ℕ) → SenderItem V  -- PUBREC came, and no PUBCOMP
-  Finished : (value : V) → SenderItem V  -- PUBCOMP came
+  Done : (value : V) → SenderItem V  -- PUBCOMP came
 
 -- the publication of an item
 abbrev pub value_of : {V : Type 0} → SenderItem V → V
-value_of (SenderItem.Waits value) = value
+value_of (SenderItem.Queued value) = value
 value_of (SenderItem.Sent value id) = value
 value_of (SenderItem.Released value id) = value
-value_of (SenderItem.Finished value) = value
+value_of (SenderItem.Done value) = value
 
 -- identifiers in flight: those of sent and of released items
 abbrev pub busy : {V : Type 0} → List (SenderItem V) → List ℕ
@@ -51,17 +51,17 @@ item_released id item = item
 -- an item after a PUBCOMP with this identifier
 abbrev pub finishing : {V : Type 0} → ℕ → SenderItem V → SenderItem V
 finishing id (SenderItem.Released value other) =
-    if id == other then SenderItem.Finished value else SenderItem.Released value other
+    if id == other then SenderItem.Done value else SenderItem.Released value other
 finishing id item = item
 
 -- the first that waits starts
 abbrev pub start_first : {V : Type 0} → ℕ → List (SenderItem V) → List (SenderItem V)
-start_first id (SenderItem.Waits value ∷ items) = SenderItem.Sent value id ∷ items
+start_first id (SenderItem.Queued value ∷ items) = SenderItem.Sent value id ∷ items
 start_first id (item ∷ items) = item ∷ start_first id items
 start_first id [] = []
 
 -- the value of the first item that waits
 abbrev pub first_waiting : {V : Type 0} → List (SenderItem V) → Option V
-first_waiting (SenderItem.Waits value ∷ items) = Some value
+first_waiting (SenderItem.Queued value ∷ items) = Some value
 first_waiting (_ ∷ items) = first_waiting items
 first_waiting [] = None

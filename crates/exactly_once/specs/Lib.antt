@@ -6,7 +6,7 @@ pub mod StoryTrace
 pub mod Carried
 pub mod Acceptance
 pub mod Headline
-pub mod Laws
+pub mod Theorems
 pub mod Inside
 pub mod Rows
 pub mod InStep

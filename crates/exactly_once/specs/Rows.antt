@@ -1,7 +1,7 @@
 -- Definitions for the worked examples of worlds: a client that publishes to itself, and the list
 -- over a takeover.
 use Rattle.std.specs.Prelude.{true, false, List, [], ◌∷◌}
-use Rattle.packet_base.specs.declared.qos.QoS.TheVariants as qualities
+use Rattle.packet_base.specs.declared.qos.QoS.TheVariants as qos_levels
 use Rattle.packet.specs.declared.subscribe.Subscribe.{Subscribe}
 use Rattle.packet.specs.declared.packet.Packet.TheVariants as packets
 use Rattle.session_base.specs.declared.publication.Publication.{Publication}
@@ -21,12 +21,12 @@ second_connection = record { ballot = 2; count = 1 }
 
 -- what the writer publishes: one byte at QoS 2
 abbrev pub news : Publication
-news = record { retain = false; qos = qualities.ExactlyOnce; topic = 110 ∷ []; payload = 1 ∷ [] }
+news = record { retain = false; qos = qos_levels.ExactlyOnce; topic = 110 ∷ []; payload = 1 ∷ [] }
 
 -- the writer's SUBSCRIBE to the topic of `news`
 abbrev pub asks_for_news : Subscribe
 asks_for_news =
-    record { id = 1; filters = record { filter = 110 ∷ []; qos = qualities.ExactlyOnce } ∷ [] }
+    record { id = 1; filters = record { filter = 110 ∷ []; qos = qos_levels.ExactlyOnce } ∷ [] }
 
 -- the list of commands, the newest first: it has the publication twice, and the publication is new
 -- once

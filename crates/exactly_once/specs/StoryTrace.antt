@@ -6,14 +6,14 @@ use Rattle.broker_spec.specs.declared.command.Command.{Command}
 use Rattle.client_base.specs.Keeper.{Keeper, new_keeper, ids_in_use, Own}
 use Rattle.broker_spec.specs.Sessions.{clean_session_of}
 use Rattle.lists.specs.Lists.{IsDistinct}
-use Rattle.client_base.specs.OrderLaws.{AreNumbered}
+use Rattle.client_base.specs.OrderTheorems.{AreNumbered}
 use Rattle.exactly_once.specs.Story.{Story, no_story, StoryStep}
 
 -- publications that were never sent, numbered from this one on
-abbrev pub AreUnsent : ℕ → List Own → Type 0
-AreUnsent next (Own.Unsent number publication id ∷ own) = (number ≡ next) × AreUnsent (suc next) own
-AreUnsent next [] = Unit {0}
-AreUnsent next _ = ⊥
+abbrev pub AreQueued : ℕ → List Own → Type 0
+AreQueued next (Own.Queued number publication id ∷ own) = (number ≡ next) × AreQueued (suc next) own
+AreQueued next [] = Unit {0}
+AreQueued next _ = ⊥
 
 -- a client that was never served in this session, with what it published before it, and what it
 -- keeps
@@ -28,7 +28,7 @@ pub data StoryTrace (limits : Limits) (client : Client) : Story → Type 0 where
   -- the list may be any by which the client has no session; what it publishes in this one is unsent
   begins_at : (list : List Command) (earlier own : List Own) →
       clean_session_of (past_of limits list) client ≡ None →
-      AreNumbered 0 earlier → AreUnsent (length earlier) own →
+      AreNumbered 0 earlier → AreQueued (length earlier) own →
       IsDistinct (ids_in_use (unserved client earlier own)) →
       StoryTrace limits client
       (record {

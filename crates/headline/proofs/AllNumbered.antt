@@ -44,14 +44,14 @@ releases_numbered (id ∷ ids) = (refl, releases_numbered ids)
 
 again_numbered : (own : List Own) → Each IsNumbered (written_again own)
 again_numbered [] = tt
-again_numbered (Own.Unsent k p id ∷ own) = again_numbered own
+again_numbered (Own.Queued k p id ∷ own) = again_numbered own
 again_numbered (Own.Sent k p id ∷ own) = (refl, again_numbered own)
 again_numbered (Own.Released k p id ∷ own) = again_numbered own
 again_numbered (Own.Done k p ∷ own) = again_numbered own
 
 first_numbered : (own : List Own) → Each IsNumbered (written_first own)
 first_numbered [] = tt
-first_numbered (Own.Unsent k p id ∷ own) = (refl, first_numbered own)
+first_numbered (Own.Queued k p id ∷ own) = (refl, first_numbered own)
 first_numbered (Own.Sent k p id ∷ own) = first_numbered own
 first_numbered (Own.Released k p id ∷ own) = first_numbered own
 first_numbered (Own.Done k p ∷ own) = first_numbered own

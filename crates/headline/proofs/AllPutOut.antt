@@ -1,7 +1,7 @@
 -- A world reaches a state in which all that was written is read, and all that is agreed is sent.
 use Rattle.std.proofs.Common.{◌≡◌, ◌≤◌, ◌+◌, ℕ, zero, suc, true, List, [], ◌∷◌, length, map, set, Some, refl, sym, ap, ◌∙◌, subst, arith}
 use Rattle.std.specs.Prelude.{slice_get}
-use Rattle.agreement.specs.whole_logs.Applying.{outputs_between}
+use Rattle.agreement.specs.whole_logs.Application.{outputs_between}
 use Rattle.agreement.specs.World.{outputs}
 use Rattle.broker_spec.specs.declared.command.Command.{Command}
 use Rattle.broker_spec.specs.Commands.{past_of, usual_limits}

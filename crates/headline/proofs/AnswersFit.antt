@@ -18,7 +18,7 @@ use Rattle.broker_base.specs.Step.{step, steps_from}
 use Rattle.broker_base.specs.StepAnswers.{connection_of}
 use Rattle.broker_base.proofs.StepByStep.{usual_lists_stand}
 use Rattle.broker_base.specs.form.InRange.{IsBrokerState}
-use Rattle.broker_base.specs.form.RangeLaws.{CanBeSpelled}
+use Rattle.broker_base.specs.form.RangeTheorems.{CanBeSpelled}
 use Rattle.broker_base.proofs.of_form.EveryAnswer.{answers_are_spelled, lists_are_in_range}
 use Rattle.broker_base.proofs.of_form.States.{stays_in_range}
 use Rattle.exactly_once.specs.Sends.{put_to, sends_to}

@@ -6,7 +6,7 @@ use Rattle.broker_spec.specs.declared.command.Command.{Command}
 use Rattle.broker_spec.specs.declared.command.Command.TheVariants as commands
 use Rattle.broker_spec.specs.Connection.{ConnectionName, same_connection}
 use Rattle.broker_spec.specs.Entries.{Entry}
-use Rattle.broker_spec.specs.OriginLaws.{is_from_publish}
+use Rattle.broker_spec.specs.OriginTheorems.{is_from_publish}
 use Rattle.broker_spec.specs.Place.{Client, Limits, Past, Place}
 use Rattle.broker_spec.specs.Received.{is_new}
 use Rattle.broker_spec.specs.Times.{entries_of}

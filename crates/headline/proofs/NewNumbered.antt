@@ -7,7 +7,7 @@ use Rattle.lists.specs.Lists.{IsPrefixOf}
 use Rattle.session_base.specs.declared.publication.Publication.{Publication}
 use Rattle.client_base.specs.Keeper.{Own, all_own, number_in}
 use Rattle.client_base.proofs.NumbersStay.{AreAllNumbered, joined_numbers}
-use Rattle.client_base.specs.OrderLaws.{AreNumbered}
+use Rattle.client_base.specs.OrderTheorems.{AreNumbered}
 use Rattle.exactly_once.specs.Carried.{is_qos2, new_numbers, own_publication, own_publications, own_qos2_numbers}
 use Rattle.exactly_once.specs.Story.{Story}
 use Rattle.exactly_once.proofs.Ends.{Split, split_map}

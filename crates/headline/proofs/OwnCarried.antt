@@ -9,7 +9,7 @@ use Rattle.broker_spec.specs.declared.command.Command.{Command}
 use Rattle.broker_spec.specs.declared.command.Command.TheVariants as commands
 use Rattle.broker_spec.specs.Commands.{place_of}
 use Rattle.broker_spec.specs.Connection.{ConnectionName, same_connection}
-use Rattle.broker_spec.specs.EndingLaws.{StandsAt}
+use Rattle.broker_spec.specs.EndingTheorems.{StandsAt}
 use Rattle.broker_spec.specs.Owner.{owner_of}
 use Rattle.broker_spec.specs.Sessions.{current_connection}
 use Rattle.broker_spec.specs.Place.{Client, Limits, Mark, Past, Place, same_client}

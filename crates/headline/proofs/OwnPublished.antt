@@ -14,7 +14,7 @@ use Rattle.broker_spec.specs.Place.{Client}
 use Rattle.client_base.specs.Called.{adds_own}
 use Rattle.client_base.specs.Handled.{packet_handled}
 use Rattle.client_base.specs.Keeper.{Keeper, Own, all_own, ids_in_use, next_own_number}
-use Rattle.client_base.specs.OrderLaws.{AreNumbered}
+use Rattle.client_base.specs.OrderTheorems.{AreNumbered}
 use Rattle.exactly_once.specs.Carried.{own_publication, own_publications}
 use Rattle.exactly_once.specs.Sides.{ClientConnection, Side}
 use Rattle.exactly_once.specs.Story.{StoryStep, Story}
@@ -73,7 +73,7 @@ said_more keeper p =
   where
     new : Bool → Bool → Own
     new a on =
-        if a then (if on then Own.Sent (next_own_number keeper) p (least_free (ids_in_use keeper)) else Own.Unsent (next_own_number keeper) p (least_free (ids_in_use keeper)))
+        if a then (if on then Own.Sent (next_own_number keeper) p (least_free (ids_in_use keeper)) else Own.Queued (next_own_number keeper) p (least_free (ids_in_use keeper)))
         else Own.Done (next_own_number keeper) p
 
     same : (a on : Bool) → own_publication (new a on) ≡ p

@@ -14,13 +14,13 @@ use Rattle.broker_spec.specs.declared.command.Command.{Command}
 use Rattle.broker_spec.specs.declared.command.Command.TheVariants as commands
 use Rattle.broker_spec.specs.Commands.{usual_limits}
 use Rattle.broker_spec.specs.Connection.{ConnectionName}
-use Rattle.broker_spec.specs.EndingLaws.{EndsWithTheSession, StandsAt, connects_of}
-use Rattle.broker_spec.specs.OriginLaws.{is_from_publish}
+use Rattle.broker_spec.specs.EndingTheorems.{EndsWithTheSession, StandsAt, connects_of}
+use Rattle.broker_spec.specs.OriginTheorems.{is_from_publish}
 use Rattle.broker_spec.specs.declared.command.Output.TheVariants.{Send}
 use Rattle.broker_spec.specs.Place.{Client, Mark, Past, Place}
 use Rattle.broker_spec.specs.Readings.{publication_in}
 use Rattle.broker_spec.specs.Received.{is_exactly_once, is_new}
-use Rattle.broker_spec.specs.TakenLaws.{takes_publication}
+use Rattle.broker_spec.specs.TakenTheorems.{takes_publication}
 use Rattle.broker_spec.specs.Times.{entries_of}
 use Rattle.broker_spec.proofs.EntersOnce.{enters_once}
 use Rattle.broker_spec.proofs.EntersWhereTaken.{enters_where_taken}

@@ -21,7 +21,7 @@ use Rattle.headline.specs.node_moves.Moves.{NodeCall, done}
 use Rattle.headline.specs.node_moves.Moves.NodeCall.{takes, hands_out}
 use Rattle.headline.specs.node_moves.Puts.{spelled}
 use Rattle.headline.specs.node_group.Group.{Group, group_after_outcome, with_record}
-use Rattle.headline.specs.node_group.Putting.{recorded_in}
+use Rattle.headline.specs.node_group.Proposals.{recorded_in}
 use Rattle.headline.specs.node_group.Steps.{all_given}
 use Rattle.headline.specs.node_group.Steps.GroupStep.{node_acts}
 use Rattle.headline.proofs.of_node_group.Placed.{get_of_set}

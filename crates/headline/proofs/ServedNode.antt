@@ -6,7 +6,7 @@ use Rattle.std.proofs.Common.{◌≡◌, ℕ, false, List, [], ◌∷◌, ◌++�
 use Rattle.packet.specs.declared.connack.Connack.TheVariants as connacks
 use Rattle.packet.specs.declared.packet.Packet.{Packet}
 use Rattle.packet.specs.declared.packet.Packet.TheVariants as packets
-use Rattle.packet_base.specs.declared.qos.QoS.TheVariants as qualities
+use Rattle.packet_base.specs.declared.qos.QoS.TheVariants as qos_levels
 use Rattle.packet.specs.declared.suback.SubackCode.TheVariants as codes
 use Rattle.packet.specs.Connect.{connect_of}
 use Rattle.packet.specs.Delivery.{delivery_at}
@@ -16,10 +16,10 @@ use Rattle.packet.specs.Spelling.{spelling}
 use Rattle.packet.specs.Subscribe.{subscribe_of, subscription_at}
 use Rattle.packet.specs.Verdict.{verdict}
 use Rattle.packet_base.specs.Lists.{items_of}
-use Rattle.packet_base.specs.Reading.{id_at, length_at, number_at, text_at}
+use Rattle.packet_base.specs.Readers.{id_at, length_at, number_at, text_at}
 use Rattle.packet_base.specs.TopicFields.{filter_at, topic_at}
 use Rattle.session_base.specs.Publication.{publish_for}
-use Rattle.ballot_base.specs.Serving.{added, commit, commit_at, proposed}
+use Rattle.ballot_base.specs.Service.{added, commit, commit_at, proposed}
 use Rattle.machine.specs.Machine.{replay}
 use Rattle.broker_spec.specs.declared.command.Command.{Command}
 use Rattle.broker_spec.specs.declared.command.Command.TheVariants as commands
@@ -27,9 +27,9 @@ use Rattle.world_base.specs.declared.node_core.ConnectionStage.TheVariants.{Prop
 use Rattle.world_base.specs.declared.node_core.item.Item.TheVariants.{Opened, Bytes}
 use Rattle.world_base.specs.node_connections.Connections.{fresh}
 use Rattle.world_base.specs.node_core.Core.{CoreState, opening_core, rules}
-use Rattle.world_base.specs.node_core.Failing.{reports_failed}
-use Rattle.world_base.specs.node_core.Handing.{hands_over}
-use Rattle.world_base.specs.node_core.Reading.{changes, reads_next}
+use Rattle.world_base.specs.node_core.FailedConnections.{reports_failed}
+use Rattle.world_base.specs.node_core.PortOutput.{hands_over}
+use Rattle.world_base.specs.node_core.PacketInput.{changes, reads_next}
 use Rattle.world_base.specs.node_core.Step.{with_next_connection, settled}
 use Rattle.world_base.specs.node_core.Effects.{changes_named, proposes, repeated}
 use Rattle.headline.specs.node_moves.Moves.{done}
@@ -67,7 +67,7 @@ abbrev pub subscribe : Packet
 subscribe = packets.Subscribe asks_for_news
 
 abbrev pub suback : Packet
-suback = packets.Suback (record { id = 1; codes = codes.Granted qualities.ExactlyOnce ∷ [] })
+suback = packets.Suback (record { id = 1; codes = codes.Granted qos_levels.ExactlyOnce ∷ [] })
 
 abbrev pub publish : Packet
 publish = packets.Publish (publish_for false 1 news)

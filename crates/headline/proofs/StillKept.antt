@@ -3,7 +3,7 @@ use Rattle.std.proofs.Common.{◌≡◌, ◌+◌, ℕ, suc, Bool, true, false, i
 use Rattle.std.specs.Prelude.{slice_get}
 use Rattle.session_base.specs.declared.publication.Publication.{Publication}
 use Rattle.client_base.specs.History as history
-use Rattle.client_base.specs.History.{IsSentFirst, sent_of, unsent_of}
+use Rattle.client_base.specs.History.{IsSentFirst, sent_of, queued_of}
 use Rattle.client_base.specs.Keeper.{Keeper, Own}
 use Rattle.client_base.specs.State.{ClientState}
 use Rattle.client_base.specs.declared.unacknowledged_publication.UnacknowledgedPublication.{UnacknowledgedPublication}
@@ -19,31 +19,31 @@ use Rattle.headline.specs.Shown.{at_qos2, unacknowledged_of}
 
 -- those that wait, or are sent
 abbrev pub kept_values : List (SenderItem ℕ) → List ℕ
-kept_values (SenderItem.Waits v ∷ items) = v ∷ kept_values items
+kept_values (SenderItem.Queued v ∷ items) = v ∷ kept_values items
 kept_values (SenderItem.Sent v id ∷ items) = v ∷ kept_values items
 kept_values (SenderItem.Released v id ∷ items) = kept_values items
-kept_values (SenderItem.Finished v ∷ items) = kept_values items
+kept_values (SenderItem.Done v ∷ items) = kept_values items
 kept_values [] = []
 
 pub kept_both : (old new : List (SenderItem ℕ)) → kept_values (old ++ new) ≡ kept_values old ++ kept_values new
 kept_both [] new = refl
-kept_both (SenderItem.Waits v ∷ old) new = ap (λ (l : List ℕ). v ∷ l) (kept_both old new)
+kept_both (SenderItem.Queued v ∷ old) new = ap (λ (l : List ℕ). v ∷ l) (kept_both old new)
 kept_both (SenderItem.Sent v id ∷ old) new = ap (λ (l : List ℕ). v ∷ l) (kept_both old new)
 kept_both (SenderItem.Released v id ∷ old) new = kept_both old new
-kept_both (SenderItem.Finished v ∷ old) new = kept_both old new
+kept_both (SenderItem.Done v ∷ old) new = kept_both old new
 
 -- all that the receiver does not have are
 pub new_kept : (received : ℕ → Bool) (new : List (SenderItem ℕ)) → Each (IsNew received) new → kept_values new ≡ map value_of new
 new_kept received [] all = refl
-new_kept received (SenderItem.Waits v ∷ new) all = ap (λ (l : List ℕ). v ∷ l) (new_kept received new all.1)
+new_kept received (SenderItem.Queued v ∷ new) all = ap (λ (l : List ℕ). v ∷ l) (new_kept received new all.1)
 new_kept received (SenderItem.Sent v id ∷ new) all = ap (λ (l : List ℕ). v ∷ l) (new_kept received new all.1)
 new_kept received (SenderItem.Released v id ∷ new) all = absurd all.0
-new_kept received (SenderItem.Finished v ∷ new) all = absurd all.0
+new_kept received (SenderItem.Done v ∷ new) all = absurd all.0
 
 -- ---- of a client
 
 abbrev kept_own : List Own → List Publication
-kept_own (Own.Unsent k p id ∷ own) = p ∷ kept_own own
+kept_own (Own.Queued k p id ∷ own) = p ∷ kept_own own
 kept_own (Own.Sent k p id ∷ own) = p ∷ kept_own own
 kept_own (Own.Released k p id ∷ own) = kept_own own
 kept_own (Own.Done k p ∷ own) = kept_own own
@@ -53,23 +53,23 @@ abbrev publication_kept : UnacknowledgedPublication → Publication
 publication_kept k = k.publication
 
 -- if none was sent
-none_sent : (own : List Own) → sent_of own ≡ [] → map publication_kept (unsent_of own) ≡ kept_own own
+none_sent : (own : List Own) → sent_of own ≡ [] → map publication_kept (queued_of own) ≡ kept_own own
 none_sent [] e = refl
-none_sent (Own.Unsent k p id ∷ own) e = ap (λ (l : List Publication). p ∷ l) (none_sent own e)
+none_sent (Own.Queued k p id ∷ own) e = ap (λ (l : List Publication). p ∷ l) (none_sent own e)
 none_sent (Own.Sent k p id ∷ own) e = cc
 none_sent (Own.Released k p id ∷ own) e = none_sent own e
 none_sent (Own.Done k p ∷ own) e = none_sent own e
 
-kept_in_order : (own : List Own) → IsSentFirst own → map publication_kept (sent_of own ++ unsent_of own) ≡ kept_own own
+kept_in_order : (own : List Own) → IsSentFirst own → map publication_kept (sent_of own ++ queued_of own) ≡ kept_own own
 kept_in_order [] first = refl
-kept_in_order (Own.Unsent k p id ∷ own) first =
-    ap (λ (l : List UnacknowledgedPublication). map publication_kept (l ++ unsent_of (Own.Unsent k p id ∷ own))) first.0 ∙ ap (λ (l : List Publication). p ∷ l) (none_sent own first.0)
+kept_in_order (Own.Queued k p id ∷ own) first =
+    ap (λ (l : List UnacknowledgedPublication). map publication_kept (l ++ queued_of (Own.Queued k p id ∷ own))) first.0 ∙ ap (λ (l : List Publication). p ∷ l) (none_sent own first.0)
 kept_in_order (Own.Sent k p id ∷ own) first = ap (λ (l : List Publication). p ∷ l) (kept_in_order own first)
 kept_in_order (Own.Released k p id ∷ own) first = kept_in_order own first
 kept_in_order (Own.Done k p ∷ own) first = kept_in_order own first
 
 kept_is : (keeper : Keeper) (state : ClientState) → history.KeeperStandsFor keeper state → unacknowledged_of state ≡ kept_own keeper.own
-kept_is keeper state s = ap₂ (λ (a b : List UnacknowledgedPublication). map publication_kept (a ++ b)) s.sent s.unsent ∙ kept_in_order keeper.own s.sent_first
+kept_is keeper state s = ap₂ (λ (a b : List UnacknowledgedPublication). map publication_kept (a ++ b)) s.sent s.queued ∙ kept_in_order keeper.own s.sent_first
 
 -- ---- by number
 
@@ -99,9 +99,9 @@ one_two get false item k p items ps value is more = more
 pub two_numbered : (ps : List Publication) (n : ℕ) (own : List Own) → AreNumberedFrom n own → StandFrom ps n own
     → map (slice_get ps) (map value_of (items_of_own own)) ≡ some_of (at_qos2 (own_publications own))
 two_numbered ps n [] h stand = refl
-two_numbered ps n (Own.Unsent k p id ∷ own) h stand =
-    one_two (slice_get ps) (is_qos2 p.qos) (SenderItem.Waits k) k p (items_of_own own) (at_qos2 (own_publications own)) refl (first_is ps n k (Own.Unsent k p id) own h.0 stand)
-    (two_numbered ps (suc n) own h.1 (after ps n (Own.Unsent k p id) own stand))
+two_numbered ps n (Own.Queued k p id ∷ own) h stand =
+    one_two (slice_get ps) (is_qos2 p.qos) (SenderItem.Queued k) k p (items_of_own own) (at_qos2 (own_publications own)) refl (first_is ps n k (Own.Queued k p id) own h.0 stand)
+    (two_numbered ps (suc n) own h.1 (after ps n (Own.Queued k p id) own stand))
 two_numbered ps n (Own.Sent k p id ∷ own) h stand =
     one_two (slice_get ps) (is_qos2 p.qos) (SenderItem.Sent k id) k p (items_of_own own) (at_qos2 (own_publications own)) refl (first_is ps n k (Own.Sent k p id) own h.0 stand)
     (two_numbered ps (suc n) own h.1 (after ps n (Own.Sent k p id) own stand))
@@ -109,7 +109,7 @@ two_numbered ps n (Own.Released k p id ∷ own) h stand =
     one_two (slice_get ps) (is_qos2 p.qos) (SenderItem.Released k id) k p (items_of_own own) (at_qos2 (own_publications own)) refl (first_is ps n k (Own.Released k p id) own h.0 stand)
     (two_numbered ps (suc n) own h.2 (after ps n (Own.Released k p id) own stand))
 two_numbered ps n (Own.Done k p ∷ own) h stand =
-    one_two (slice_get ps) (is_qos2 p.qos) (SenderItem.Finished k) k p (items_of_own own) (at_qos2 (own_publications own)) refl (first_is ps n k (Own.Done k p) own h.0 stand)
+    one_two (slice_get ps) (is_qos2 p.qos) (SenderItem.Done k) k p (items_of_own own) (at_qos2 (own_publications own)) refl (first_is ps n k (Own.Done k p) own h.0 stand)
     (two_numbered ps (suc n) own h.1 (after ps n (Own.Done k p) own stand))
 
 -- one that it keeps, and one that it does not
@@ -127,9 +127,9 @@ none_kept get false item items ps kept more = more
 kept_numbered : (ps : List Publication) (n : ℕ) (own : List Own) → AreNumberedFrom n own → StandFrom ps n own
     → map (slice_get ps) (kept_values (items_of_own own)) ≡ some_of (at_qos2 (kept_own own))
 kept_numbered ps n [] h stand = refl
-kept_numbered ps n (Own.Unsent k p id ∷ own) h stand =
-    one_kept (slice_get ps) (is_qos2 p.qos) k p (SenderItem.Waits k) (items_of_own own) (at_qos2 (kept_own own)) refl (first_is ps n k (Own.Unsent k p id) own h.0 stand)
-    (kept_numbered ps (suc n) own h.1 (after ps n (Own.Unsent k p id) own stand))
+kept_numbered ps n (Own.Queued k p id ∷ own) h stand =
+    one_kept (slice_get ps) (is_qos2 p.qos) k p (SenderItem.Queued k) (items_of_own own) (at_qos2 (kept_own own)) refl (first_is ps n k (Own.Queued k p id) own h.0 stand)
+    (kept_numbered ps (suc n) own h.1 (after ps n (Own.Queued k p id) own stand))
 kept_numbered ps n (Own.Sent k p id ∷ own) h stand =
     one_kept (slice_get ps) (is_qos2 p.qos) k p (SenderItem.Sent k id) (items_of_own own) (at_qos2 (kept_own own)) refl (first_is ps n k (Own.Sent k p id) own h.0 stand)
     (kept_numbered ps (suc n) own h.1 (after ps n (Own.Sent k p id) own stand))
@@ -137,7 +137,7 @@ kept_numbered ps n (Own.Released k p id ∷ own) h stand =
     none_kept (slice_get ps) (is_qos2 p.qos) (SenderItem.Released k id) (items_of_own own) (at_qos2 (kept_own own)) refl
     (kept_numbered ps (suc n) own h.2 (after ps n (Own.Released k p id) own stand))
 kept_numbered ps n (Own.Done k p ∷ own) h stand =
-    none_kept (slice_get ps) (is_qos2 p.qos) (SenderItem.Finished k) (items_of_own own) (at_qos2 (kept_own own)) refl
+    none_kept (slice_get ps) (is_qos2 p.qos) (SenderItem.Done k) (items_of_own own) (at_qos2 (kept_own own)) refl
     (kept_numbered ps (suc n) own h.1 (after ps n (Own.Done k p) own stand))
 
 -- ---- both

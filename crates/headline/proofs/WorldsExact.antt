@@ -5,7 +5,7 @@ use Rattle.session_base.specs.declared.publication.Publication.{Publication}
 use Rattle.ballot_base.specs.declared.config.Config.{Config}
 use Rattle.broker_spec.specs.declared.command.Command.{Command}
 use Rattle.broker_spec.specs.Commands.{past_of, usual_limits}
-use Rattle.broker_spec.specs.EndingLaws.{EndsWithTheSession, connects_of}
+use Rattle.broker_spec.specs.EndingTheorems.{EndsWithTheSession, connects_of}
 use Rattle.broker_spec.specs.Place.{Client, Past}
 use Rattle.client_base.specs.History as history
 use Rattle.client_base.specs.Keeper.{Keeper, all_own}

@@ -10,12 +10,12 @@ use Rattle.broker_spec.specs.declared.command.Command.{Command}
 use Rattle.broker_spec.specs.declared.command.Command.TheVariants as commands
 use Rattle.broker_spec.specs.Commands.{past_of, usual_limits}
 use Rattle.broker_spec.specs.Connection.{ConnectionName}
-use Rattle.broker_spec.specs.EndingLaws.{EndsWithTheSession, StandsAt, connects_of}
-use Rattle.broker_spec.specs.OriginLaws.{is_from_publish}
+use Rattle.broker_spec.specs.EndingTheorems.{EndsWithTheSession, StandsAt, connects_of}
+use Rattle.broker_spec.specs.OriginTheorems.{is_from_publish}
 use Rattle.broker_spec.specs.Place.{Client, Mark, Past, Place}
 use Rattle.broker_spec.specs.Readings.{publication_in}
 use Rattle.broker_spec.specs.Subscriptions.{effective_qos}
-use Rattle.broker_spec.specs.TakenLaws.{queued_at, takes_publication}
+use Rattle.broker_spec.specs.TakenTheorems.{queued_at, takes_publication}
 use Rattle.broker_spec.specs.Times.{entries_of}
 use Rattle.client_base.specs.State.{ClientState}
 use Rattle.exactly_once.specs.InStep.{AreWelcome, IsFirstSession, sessions_begun}

@@ -13,7 +13,7 @@ use Rattle.broker_spec.specs.declared.command.Command.{Command}
 use Rattle.broker_spec.specs.declared.command.Command.TheVariants as commands
 use Rattle.broker_spec.specs.Commands.{usual_limits}
 use Rattle.broker_spec.specs.Connection.{ConnectionName}
-use Rattle.broker_spec.specs.EndingLaws.{StandsAt}
+use Rattle.broker_spec.specs.EndingTheorems.{StandsAt}
 use Rattle.broker_spec.specs.Entries.{Entry}
 use Rattle.broker_spec.specs.declared.command.Output.TheVariants.{Send}
 use Rattle.broker_spec.specs.Owner.{owner_of}
@@ -41,7 +41,7 @@ at_qos2 = filter is_at_qos2
 -- the client's publications for which no PUBACK or PUBREC came yet, the oldest first
 abbrev pub unacknowledged_of : ClientState → List Publication
 unacknowledged_of state =
-    map (λ (kept : UnacknowledgedPublication). kept.publication) (state.sent ++ state.unsent)
+    map (λ (kept : UnacknowledgedPublication). kept.publication) (state.sent ++ state.queued)
 
 -- the publication that is new at a place, if there is one (MQTT 4.3.3)
 abbrev pub new_at : Client → Command → Mark → List Publication

@@ -1,5 +1,5 @@
 pub mod World
-pub mod Carrying
+pub mod Transport
 pub mod ClientSteps
 pub mod Steps
 pub mod Carried

@@ -1,6 +1,6 @@
 pub mod Group
-pub mod Putting
-pub mod Losing
+pub mod Proposals
+pub mod Losses
 pub mod Steps
 pub mod GroupMoments
 pub mod Ballots

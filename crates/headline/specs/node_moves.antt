@@ -8,11 +8,11 @@ pub mod Closed
 pub mod Names
 pub mod Apart
 pub mod Settled
-pub mod Keeping
-pub mod Hearing
+pub mod BallotNames
+pub mod Receipts
 pub mod LossyMoves
 pub mod LossyParts
 pub mod LossyRuns
 pub mod ItemRuns
-pub mod LossyLaws
+pub mod LossyTheorems
 pub mod LossyNames

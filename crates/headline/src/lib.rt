@@ -3,11 +3,11 @@
 #![tactic(auto)]
 
 pub mod byte_world;
-mod laws;
 pub mod node_group;
 pub mod node_moves;
 pub mod packet_world;
 mod rows;
+mod theorems;
 
-pub use laws::{one_session_is_promised, worlds_are_exact};
 pub use rows::{a_client_is_served, a_publication_is_accepted};
+pub use theorems::{one_session_is_promised, worlds_are_exact};

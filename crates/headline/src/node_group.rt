@@ -1,8 +1,8 @@
 //! A group of nodes, as definitions and laws: nodes with their clients' connections, the messages
 //! between them, and one master. It connects what one node does with the agreement of all.
 
-mod connection_laws;
-mod laws;
+mod connection_theorems;
+mod theorems;
 
-pub use connection_laws::groups_carry_in_order;
-pub use laws::{groups_have_moments, groups_keep_the_order, puts_in_the_ballot_of_the_name};
+pub use connection_theorems::groups_carry_in_order;
+pub use theorems::{groups_have_moments, groups_keep_the_order, puts_in_the_ballot_of_the_name};

@@ -1,11 +1,11 @@
 //! Clients and nodes as the two ends of their connections, over one list of commands that only
 //! grows: what holds for every such world. Its functions do nothing; their contracts are the laws.
 
-mod laws;
 mod rows;
+mod theorems;
 
-pub use laws::{
+pub use rows::accepts_once_over_a_takeover;
+pub use theorems::{
     agreed_keeps_the_order, given_is_put_out, groups_put_out, groups_serve,
     packet_worlds_are_exact, worlds_are_served,
 };
-pub use rows::accepts_once_over_a_takeover;

@@ -6,13 +6,13 @@ use Rattle.command_line.specs.declared.fault.TableFault.TheVariants as tables
 use Rattle.command_line.specs.declared.job.Escape.{Escape}
 use Rattle.command_line.specs.declared.job.Job.{Job}
 use Rattle.command_line.specs.declared.job.Play.{Play}
-use Rattle.user_client.specs.Listening.{SubscriberView, PrintsAccepted, listening_anew, new_listening}
+use Rattle.user_client.specs.Subscriber.{SubscriberView, PrintsAccepted, listening_anew, new_listening}
 use Rattle.user_client.specs.declared.user_client_error.UserClientError.{UserClientError}
 use Rattle.jobs.specs.Done.{PrintsAll, SaysBye}
-use Rattle.jobs.specs.Failing.{FailsAt, FailsToServe}
+use Rattle.jobs.specs.Failures.{FailsAt, FailsToServe}
 use Rattle.jobs.specs.Errors.{error_of_client, exit_status, error_of_table}
 use Rattle.jobs.specs.Orders.{AreNumbers}
-use Rattle.jobs.specs.Transcripts.{IsScriptText, PlaysScript, PrintsPlayed, PrintsWay, PrintsWayOf}
+use Rattle.jobs.specs.Transcripts.{IsScriptText, PlaysScript, PrintsPlayed, PrintsRecovery, PrintsRecoveryOf}
 use Rattle.jobs.specs.declared.job_error.JobError.{JobError}
 use Rattle.jobs.specs.declared.job_error.JobError.TheVariants as errors
 
@@ -69,16 +69,16 @@ says_bye (Ok done) contents before after written = (before, written)
 says_bye (Err error) contents before after written = tt
 
 -- a way out for the members and the client that the words name
-pub way_of : (r : Result (Unit {0}) JobError) (job : Escape) (text members shown client : List ℕ) (old new : Option (List ℕ))
+pub recovery_of : (r : Result (Unit {0}) JobError) (job : Escape) (text members shown client : List ℕ) (old new : Option (List ℕ))
     → AreNumbers job.members.now members → shown ≡ members → client ≡ job.client.now
-    → OnOk r (PrintsWay text shown client old new) → OnOk r (PrintsWayOf job text old new)
-way_of (Ok done) job text members shown client old new are same is printed = (
+    → OnOk r (PrintsRecovery text shown client old new) → OnOk r (PrintsRecoveryOf job text old new)
+recovery_of (Ok done) job text members shown client old new are same is printed = (
   members,
   are,
-  subst (λ (c : List ℕ). PrintsWay text members c old new) is
-      (subst (λ (ms : List ℕ). PrintsWay text ms client old new) same printed),
+  subst (λ (c : List ℕ). PrintsRecovery text members c old new) is
+      (subst (λ (ms : List ℕ). PrintsRecovery text ms client old new) same printed),
 )
-way_of (Err error) job text members shown client old new are same is printed = tt
+recovery_of (Err error) job text members shown client old new are same is printed = tt
 
 -- the script of a text was played
 pub plays : (r : Result (Unit {0}) JobError) (job : Play) (escape : Option Escape) (text shown : List ℕ) (input old new : Option (List ℕ))

@@ -7,8 +7,8 @@ use Rattle.std.proofs.lemmas.List.{get_or-map as get_or-mapped}
 use Rattle.packet_base.specs.ClientId.{client_fault}
 use Rattle.script.specs.Fields.{Text, fields_of, parts_of, texts}
 use Rattle.jobs.specs.Orders.{AreNumbers, IsExpel, IsNoExpel, IsNoOrder, IsOrder, IsWordRefused, LacksNumber, OrderNothing, Orders, RefusesLine, named_node}
-use Rattle.jobs.specs.declared.obeying.Order.{Order}
-use Rattle.jobs.specs.declared.obeying.Order.TheVariants as orders
+use Rattle.jobs.specs.declared.orders.Order.{Order}
+use Rattle.jobs.specs.declared.orders.Order.TheVariants as orders
 use Rattle.jobs.specs.declared.word_fault.WordFault.{WordFault}
 use Rattle.jobs.proofs.FieldsGiven.{three_fields, two_fields}
 use Rattle.jobs.proofs.NumbersSaid.{passed}

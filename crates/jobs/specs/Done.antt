@@ -3,8 +3,8 @@ use Rattle.std.specs.Prelude.{◌≡◌, ◌∷◌, ◌++◌, ℕ, List, [], Opt
 use Rattle.std.specs.Io.KnownBytes.{Appends}
 use Rattle.command_line.specs.declared.job.Job.{Job}
 use Rattle.command_line.specs.declared.job.Job.TheVariants as jobs
-use Rattle.user_client.specs.Listening.{SubscriberView, PrintsAccepted, new_listening}
-use Rattle.jobs.specs.Failing.{CanPublish, CanSubscribe}
+use Rattle.user_client.specs.Subscriber.{SubscriberView, PrintsAccepted, new_listening}
+use Rattle.jobs.specs.Failures.{CanPublish, CanSubscribe}
 use Rattle.jobs.specs.Transcripts.{PlaysScript}
 
 -- the last that a writer took is the line `bye`

@@ -1,5 +1,5 @@
 pub mod Done
-pub mod Failing
+pub mod Failures
 pub mod Errors
 pub mod Orders
 pub mod Transcripts

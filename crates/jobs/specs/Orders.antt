@@ -11,8 +11,8 @@ use Rattle.packet_base.specs.ClientId.{client_fault}
 use Rattle.topics.specs.Refusals.{malformed_number}
 use Rattle.topics.specs.declared.malformed.MalformedKind.{MalformedKind}
 use Rattle.topics.specs.declared.malformed.MalformedKind.TheVariants as kinds
-use Rattle.jobs.specs.declared.obeying.Order.{Order}
-use Rattle.jobs.specs.declared.obeying.Order.TheVariants as orders
+use Rattle.jobs.specs.declared.orders.Order.{Order}
+use Rattle.jobs.specs.declared.orders.Order.TheVariants as orders
 use Rattle.jobs.specs.declared.word_fault.WordFault.{WordFault}
 use Rattle.jobs.specs.declared.word_fault.WordFault.TheVariants as faults
 

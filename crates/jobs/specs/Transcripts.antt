@@ -4,7 +4,7 @@ use Rattle.std.specs.Io.KnownBytes.{Appends}
 use Rattle.command_line.specs.declared.job.Escape.{Escape}
 use Rattle.command_line.specs.declared.job.Play.{Play}
 use Rattle.play.specs.Transcripts.{Plays}
-use Rattle.play.specs.Ways.{TellsWay}
+use Rattle.play.specs.Recoveries.{TellsRecovery}
 use Rattle.jobs.specs.Orders.{AreNumbers}
 
 -- the text's transcript was written, from a world in which this many events lost something
@@ -14,21 +14,21 @@ pub record Prints (text : List ℕ) (old new : Option (List ℕ)) (losses : ℕ)
   pub written : Appends old new transcript
 
 -- the lines of a way out were written
-pub record PrintsWay (text members : List ℕ) (client : List ℕ) (old new : Option (List ℕ))
+pub record PrintsRecovery (text members : List ℕ) (client : List ℕ) (old new : Option (List ℕ))
     : Type 0 where
   pub way : List ℕ
-  pub printed : TellsWay text members client [] way
+  pub printed : TellsRecovery text members client [] way
   pub written : Appends old new way
 
 -- the way out was written for the members and the client that the words name
-abbrev pub PrintsWayOf : Escape → List ℕ → Option (List ℕ) → Option (List ℕ) → Type 0
-PrintsWayOf job text old new = (members : List ℕ)
-    × AreNumbers job.members.now members × PrintsWay text members job.client.now old new
+abbrev pub PrintsRecoveryOf : Escape → List ℕ → Option (List ℕ) → Option (List ℕ) → Type 0
+PrintsRecoveryOf job text old new = (members : List ℕ)
+    × AreNumbers job.members.now members × PrintsRecovery text members job.client.now old new
 
 -- the transcript was written, or the way out if the words ask for one
 abbrev pub PrintsPlayed : Option Escape → List ℕ → Option (List ℕ) → Option (List ℕ) → Type 0
 PrintsPlayed None text old new = Prints text old new 0
-PrintsPlayed (Some job) text old new = PrintsWayOf job text old new
+PrintsPlayed (Some job) text old new = PrintsRecoveryOf job text old new
 
 -- the text is that of the input, where that is known, unless the words name a file
 abbrev pub IsScriptText : Play → Option (List ℕ) → List ℕ → Type 0

@@ -2,20 +2,20 @@
 #![tactic(auto)]
 
 mod job_error;
-mod obeying;
-mod performing;
-mod reading;
-mod refusing;
+mod job_runs;
+mod orders;
+mod refusals;
 mod scripts;
 mod serving_table;
-mod talking;
+mod tcp_clients;
+mod whole_input;
+mod whole_output;
 mod word_fault;
 mod words;
-mod writing;
 
 pub use job_error::JobError;
-pub use performing::{perform, print_fault};
-pub use refusing::refuse;
+pub use job_runs::{perform, print_fault};
+pub use refusals::refuse;
 pub use scripts::play_text;
 pub use serving_table::serve_table;
-pub use talking::{publish, subscribe};
+pub use tcp_clients::{publish, subscribe};

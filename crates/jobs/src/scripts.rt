@@ -3,14 +3,14 @@
 ghost use Rattle.std.specs.Prelude.{◌≡◌, ◌<◌, ℕ, IfOk, OnOk, IsErrOf};
 ghost use Rattle.script.specs.Scripts.{Refuses, lines_of};
 ghost use Rattle.script.specs.declared.error.ScriptFault.TheVariants.{Line};
-ghost use Rattle.play.specs.Ways.{HasNoWay};
-ghost use Rattle.jobs.specs.Transcripts.{IsScriptText, PlaysScript, Prints, PrintsWay, PrintsWayOf};
+ghost use Rattle.play.specs.Recoveries.{HasNoRecovery};
+ghost use Rattle.jobs.specs.Transcripts.{IsScriptText, PlaysScript, Prints, PrintsRecovery, PrintsRecoveryOf};
 
 use crate::job_error::JobError;
-use crate::reading::{bytes_of, rest_of};
+use crate::whole_input::{bytes_of, rest_of};
+use crate::whole_output::write;
 use crate::word_fault::WordFault;
 use crate::words::{client_of, members_of};
-use crate::writing::write;
 use ballot_base::errors::OpeningError;
 use command_line::{Escape, Play};
 use packet_base::ClientId;
@@ -36,7 +36,7 @@ where
 {
     let text = text_of(rt, job, input)?;
     match &job.escape {
-        Some(escape) => print_way(rt.alloc(), text.as_slice(), escape, output),
+        Some(escape) => print_recovery(rt.alloc(), text.as_slice(), escape, output),
         None => play_text(rt.alloc(), text.as_slice(), output),
     }
 }
@@ -56,14 +56,14 @@ where
 
 // Plays a script, and writes a way out of the world in which it ends, for the members and the
 // client that the words name.
-fn print_way<O: Write>(
+fn print_recovery<O: Write>(
     alloc: Global,
     text: &[u8],
     job: &Escape<'_>,
     output: &mut O,
 ) -> Result<(), JobError>
     ensures { OnOk result
-        (PrintsWayOf job.now text.now (O.contents output.old) (O.contents output.new)) }
+        (PrintsRecoveryOf job.now text.now (O.contents output.old) (O.contents output.new)) }
 {
     let members = match members_of(alloc, job.members) {
         Ok(members) => members,
@@ -88,11 +88,11 @@ fn escape_text<O: Write>(
     client: &ClientId,
     output: &mut O,
 ) -> Result<(), JobError>
-    ensures printed { OnOk result (PrintsWay text.now members.now client.now
+    ensures printed { OnOk result (PrintsRecovery text.now members.now client.now
         (O.contents output.old) (O.contents output.new)) }
 
     // If there is none, nothing is written.
-    ensures idle { IsErrOf result JobError.Idle → HasNoWay text.now members.now client.now }
+    ensures idle { IsErrOf result JobError.Idle → HasNoRecovery text.now members.now client.now }
     ensures untouched { IsErrOf result JobError.Idle
         → O.contents output.new ≡ O.contents output.old }
 

@@ -2,12 +2,12 @@
 
 ghost use Rattle.std.specs.Prelude.{◌≡◌, IfErr, OnOk};
 ghost use Rattle.jobs.specs.Done.{SaysBye};
-ghost use Rattle.jobs.specs.Failing.{FailsToServe, IsTable};
+ghost use Rattle.jobs.specs.Failures.{FailsToServe, IsTable};
 
 use crate::job_error::JobError;
-use crate::obeying::obey;
-use crate::reading::bytes_of;
-use crate::writing::write;
+use crate::orders::obey;
+use crate::whole_input::bytes_of;
+use crate::whole_output::write;
 use command_line::{ListeningNode, NodeTable, Serve, table};
 use server::serve_while;
 use std::fs::File;

@@ -32,14 +32,14 @@ pub(crate) fn named_node(word: &str) -> Result<u8, WordFault>
     Ok(word.parse::<u8>().unwrap_or(u8::MAX))
 }
 
-// Says whether a word is one decimal digit or more.
+// Returns true if a word is one decimal digit or more.
 fn is_decimal(word: &str) -> bool
     ensures { result ≡ is_decimal word.now }
 {
     !word.is_empty() && are_digits(word.as_bytes())
 }
 
-// Says whether each byte is a decimal digit.
+// Returns true if each byte is a decimal digit.
 fn are_digits(bytes: &[u8]) -> bool
     ensures { result ≡ list_all is_ascii_digit bytes.now }
 {

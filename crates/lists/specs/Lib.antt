@@ -1,2 +1,2 @@
 pub mod Lists
-pub mod Laws
+pub mod Theorems

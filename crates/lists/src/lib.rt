@@ -2,6 +2,6 @@
 //! identifiers that are distinct. Its functions do nothing; their contracts are the laws.
 #![tactic(auto)]
 
-mod laws;
+mod theorems;
 
-pub use laws::{identifiers_stay_apart, prefixes_join, prefixes_meet};
+pub use theorems::{identifiers_stay_apart, prefixes_join, prefixes_meet};

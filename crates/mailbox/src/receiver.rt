@@ -69,7 +69,7 @@ impl<T: Drop, J: Naming> Receiver<T, J> {
         self.counts.len()
     }
 
-    /// Says whether these are all lanes of this inbox, in the order of their numbers.
+    /// Returns true if these are all lanes of this inbox, in the order of their numbers.
     pub fn has_all(&self, lanes: &[Lane<T, J>]) -> bool
         ensures { IsTrue result ↔ AreAllLanes self.now lanes.now }
     {
@@ -198,7 +198,7 @@ impl<T: Drop, J: Naming> Receiver<T, J> {
         }
     }
 
-    // Says whether all that these lanes sent was taken.
+    // Returns true if all that these lanes sent was taken.
     fn has_taken_all(&mut self, lanes: &mut [Lane<T, J>]) -> bool
         requires { All (λ lane. lane.inbox ≡ self.old.inbox) lanes.old }
         ensures all { IsTrue result → All (IsDrained self.old.taken) lanes.new }

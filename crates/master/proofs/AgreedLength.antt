@@ -18,21 +18,21 @@ use Rattle.agreement.specs.Moments.{Moment, Moments, IsAgreed}
 use Rattle.agreement.specs.Agreement.{Holds}
 use Rattle.agreement.specs.Inside.Ballots.{Given, History, Line}
 use Rattle.agreement.specs.Inside.BallotsStand.{IsChain}
-use Rattle.agreement.specs.Inside.Ballots.Told.{told_as_primary}
+use Rattle.agreement.specs.Inside.Ballots.Acknowledged.{told_as_primary}
 use Rattle.agreement.specs.Inside.Chosen.{ChosenList, IsAgreedIn}
 use Rattle.agreement.specs.Inside.Serves.{Serves}
 use Rattle.agreement.specs.Inside.Sound.{IsSoundWorld}
-use Rattle.agreement.specs.Inside.Saying.{SpeaksTruth}
-use Rattle.agreement.specs.Inside.ToldLengths.{chosen_length, least_of, max_told, told_by, told_in, told_length}
+use Rattle.agreement.specs.Inside.MessageMeaning.{SpeaksTruth}
+use Rattle.agreement.specs.Inside.AcknowledgedLengths.{chosen_length, least_of, max_acknowledged, acknowledged_by, acknowledged_in, acknowledged_length}
 use Rattle.agreement.proofs.Agreed.AgreedExists.{least_each, least_most, least_top, newest_agreed}
-use Rattle.agreement.proofs.Agreed.MaxTold.{one_given, told_whole}
+use Rattle.agreement.proofs.Agreed.MaxAcknowledged.{one_given, told_whole}
 use Rattle.agreement.proofs.Agreed.MomentsAgree.{agreed_known, has_agreed, nodes_agree}
 use Rattle.agreement.proofs.Agreed.MomentsKnown.{moments_known}
 use Rattle.agreement.proofs.Frame.Bases.{chosen_told, one_line}
 use Rattle.agreement.proofs.Frame.Framing.{within_of}
 use Rattle.agreement.proofs.Frame.SaysLater.{told_less}
 use Rattle.agreement.proofs.Masters.Assigned.{at_most_newest}
-use Rattle.master.specs.Inside.{ToldIn, least_but_one, next_least}
+use Rattle.master.specs.Inside.{AcknowledgedIn, least_but_one, next_least}
 use Rattle.master.proofs.Untold.{told_none}
 use Rattle.master.proofs.Lawful.{AreLawful, moments_lawful, rising_above}
 
@@ -153,7 +153,7 @@ second_is told p top last least next (m ∷ ms) rising i none low bound =
 
 -- a primary says nothing by messages
 primary_silent : {S C O : Type 0} (w : GroupWorld S C O) (h : History C) (b : ℕ) (g : Given) (to from : ℕ) (body : Body C) → SpeaksTruth w h to from body →
-    h.given b ≡ Some g → (from ≡ g.primary) → told_by b body ≡ 0
+    h.given b ≡ Some g → (from ≡ g.primary) → acknowledged_by b body ≡ 0
 primary_silent w h b g to from (NewBallot x members a old) says given is = refl
 primary_silent w h b g to from (Join x a) says given is = refl
 primary_silent w h b g to from (State x log) says given is = refl
@@ -179,13 +179,13 @@ primary_silent w h b g to from (Held x held) says given is = by_ballot (cases_eq
 primary_silent w h b g to from (Commit x held) says given is = refl
 
 primary_told : {S C O : Type 0} (rules : Rules S C O) (w : GroupWorld S C O) (h : History C) (b : ℕ) (g : Given) → IsSoundWorld rules w h → h.given b ≡ Some g →
-    max_told g.primary b w.sent ≡ 0
+    max_acknowledged g.primary b w.sent ≡ 0
 primary_told {S = S} {C = C} rules w h b g s given = told_none g.primary b w.sent (λ x i. by_sender x i (cases_eq x.1.from g.primary))
   where
-    by_sender : (x : ℕ × Message C) → In x w.sent → (x.1.from ≡ g.primary) ⊎ (x.1.from ≡ g.primary → ⊥) → told_in g.primary b x.1 ≡ 0
+    by_sender : (x : ℕ × Message C) → In x w.sent → (x.1.from ≡ g.primary) ⊎ (x.1.from ≡ g.primary → ⊥) → acknowledged_in g.primary b x.1 ≡ 0
     by_sender x i (inl e) =
-        ap (λ k. cond k (told_by b x.1.body) 0) (eq-eqb x.1.from g.primary e) ∙ primary_silent w h b g x.0 x.1.from x.1.body (s.said x.0 x.1 i) given e
-    by_sender x i (inr ne) = ap (λ k. cond k (told_by b x.1.body) 0) (ne_eqb x.1.from g.primary ne)
+        ap (λ k. cond k (acknowledged_by b x.1.body) 0) (eq-eqb x.1.from g.primary e) ∙ primary_silent w h b g x.0 x.1.from x.1.body (s.said x.0 x.1 i) given e
+    by_sender x i (inr ne) = ap (λ k. cond k (acknowledged_by b x.1.body) 0) (ne_eqb x.1.from g.primary ne)
 
 -- the agreed list is the front that all members of the active ballot acknowledged
 pub record IsFront {S C O : Type 0} (rules : Rules S C O) (a : Moment S C O) (xs : List C) : Type 0 where
@@ -243,20 +243,20 @@ front_length : {S C O : Type 0} (rules : Rules S C O) (a : Moment S C O) (xs : L
 front_length rules a xs f =
     ap length f.is
     ∙ length-take-le (chosen_length a.world.sent a.master.active f.given f.line) f.line.list
-    (least_top (length f.line.list) (told_length a.world.sent a.master.active f.given f.line) f.given.members)
+    (least_top (length f.line.list) (acknowledged_length a.world.sent a.master.active f.given f.line) f.given.members)
 
 -- what another member acknowledged
 other_told : {S C O : Type 0} (a : Moment S C O) (g : Given) (l : Line C) (m : ℕ) → (m ≡ g.primary → ⊥) →
-    told_length a.world.sent a.master.active g l m ≡ max_told m a.master.active a.world.sent
-other_told a g l m ne = ap (λ k. cond k (length l.list) (max_told m a.master.active a.world.sent)) (ne_eqb m g.primary ne)
+    acknowledged_length a.world.sent a.master.active g l m ≡ max_acknowledged m a.master.active a.world.sent
+other_told a g l m ne = ap (λ k. cond k (length l.list) (max_acknowledged m a.master.active a.world.sent)) (ne_eqb m g.primary ne)
 
 primary_length : {S C O : Type 0} (a : Moment S C O) (g : Given) (l : Line C) (m : ℕ) → m ≡ g.primary →
-    told_length a.world.sent a.master.active g l m ≡ length l.list
-primary_length a g l m e = ap (λ k. cond k (length l.list) (max_told m a.master.active a.world.sent)) (eq-eqb m g.primary e)
+    acknowledged_length a.world.sent a.master.active g l m ≡ length l.list
+primary_length a g l m e = ap (λ k. cond k (length l.list) (max_acknowledged m a.master.active a.world.sent)) (eq-eqb m g.primary e)
 
 -- it lies within the ballot's list
 told_within : {S C O : Type 0} (rules : Rules S C O) (a : Moment S C O) (xs : List C) → (f : IsFront rules a xs) → (m : ℕ) → In m a.master.members →
-    told_length a.world.sent a.master.active f.given f.line m ≤ length f.line.list
+    acknowledged_length a.world.sent a.master.active f.given f.line m ≤ length f.line.list
 told_within rules a xs f m i =
     let s = f.serves.sound in
     let w = a.world in
@@ -265,12 +265,12 @@ told_within rules a xs f m i =
     let t = s.lines.told b f.active in
     let j : In m f.given.members = subst (λ ms. In m ms) (sym f.members) i in
     let told = told_less w h m b (length t.0.base) 0 (omega arith) (chosen_told w h b (length t.0.base) f.given m t.2 f.is_given j) in
-    within_of rules w h s m b (told_length w.sent b f.given f.line m) f.line f.lined
+    within_of rules w h s m b (acknowledged_length w.sent b f.given f.line m) f.line f.lined
     (told_whole w h m b f.given f.line f.is_given f.lined told)
 
 -- with two members and more, the agreed list is as long as what all but the primary acknowledged
-pub counted_length : {S C O : Type 0} (rules : Rules S C O) (config : Config) (a : Moment S C O) (moments : List (Moment S C O)) (xs : List C) (told : ToldIn) (top : ℕ) →
-    Moments rules config (a ∷ moments) → IsAgreed config (a ∷ moments) xs → told.ballot ≡ a.master.active → ((m : ℕ) → m < 16 → get_or told.held m 0 ≡ max_told m told.ballot a.world.sent) →
+pub counted_length : {S C O : Type 0} (rules : Rules S C O) (config : Config) (a : Moment S C O) (moments : List (Moment S C O)) (xs : List C) (told : AcknowledgedIn) (top : ℕ) →
+    Moments rules config (a ∷ moments) → IsAgreed config (a ∷ moments) xs → told.ballot ≡ a.master.active → ((m : ℕ) → m < 16 → get_or told.held m 0 ≡ max_acknowledged m told.ballot a.world.sent) →
     ((m : ℕ) → get_or told.held m 0 ≤ top) → (length a.master.members ≡ 1 → ⊥) →
     least_but_one told.held top top a.master.members ≡ length xs
 counted_length {S = S} {C = C} {O = O} rules config a moments xs told top came agreed active counted bound several =
@@ -287,8 +287,8 @@ counted_length {S = S} {C = C} {O = O} rules config a moments xs told top came a
     led : In f.given.primary a.master.members
     led = subst (λ ms. In f.given.primary ms) f.members (f.serves.sound.ballots.led a.master.active f.given f.is_given)
 
-    counts : (m : ℕ) → In m a.master.members → get_or told.held m 0 ≡ max_told m a.master.active a.world.sent
-    counts m i = counted m (rising_above 0 a.master.members m lawful.active i).1 ∙ ap (λ b. max_told m b a.world.sent) active
+    counts : (m : ℕ) → In m a.master.members → get_or told.held m 0 ≡ max_acknowledged m a.master.active a.world.sent
+    counts m i = counted m (rising_above 0 a.master.members m lawful.active i).1 ∙ ap (λ b. max_acknowledged m b a.world.sent) active
 
     none : get_or told.held f.given.primary 0 ≡ 0
     none = counts f.given.primary led ∙ primary_told rules a.world f.history a.master.active f.given f.serves.sound f.is_given
@@ -316,19 +316,19 @@ counted_length {S = S} {C = C} {O = O} rules config a moments xs told top came a
 
     -- what one of the others acknowledged, by both definitions
     same : (m : ℕ) → In m a.master.members → (m ≡ f.given.primary → ⊥) →
-        told_or top f.given.primary told.held m ≡ told_length a.world.sent a.master.active f.given f.line m
+        told_or top f.given.primary told.held m ≡ acknowledged_length a.world.sent a.master.active f.given f.line m
     same m i ne = told_or_other top f.given.primary told.held m ne ∙ counts m i ∙ sym (other_told a f.given f.line m ne)
 
-    chosen_each : (m : ℕ) → In m a.master.members → chosen ≤ told_length a.world.sent a.master.active f.given f.line m
+    chosen_each : (m : ℕ) → In m a.master.members → chosen ≤ acknowledged_length a.world.sent a.master.active f.given f.line m
     chosen_each m i =
-        least_each (length f.line.list) (told_length a.world.sent a.master.active f.given f.line) f.given.members m (subst (λ ms. In m ms) (sym f.members) i)
+        least_each (length f.line.list) (acknowledged_length a.world.sent a.master.active f.given f.line) f.given.members m (subst (λ ms. In m ms) (sym f.members) i)
 
     least_other : (m : ℕ) → In m a.master.members → least ≤ told_or top f.given.primary told.held m
     least_other m i = least_each top (told_or top f.given.primary told.held) a.master.members m i
 
     up : least ≤ chosen
     up =
-        least_most (length f.line.list) (told_length a.world.sent a.master.active f.given f.line) f.given.members least low
+        least_most (length f.line.list) (acknowledged_length a.world.sent a.master.active f.given f.line) f.given.members least low
         (λ m i. by_member m (subst (λ ms. In m ms) f.members i) (cases_eq m f.given.primary))
       where
         low : least ≤ length f.line.list
@@ -337,7 +337,7 @@ counted_length {S = S} {C = C} {O = O} rules config a moments xs told top came a
             omega (arith, a1, a2, a3)
 
         by_member : (m : ℕ) → In m a.master.members → (m ≡ f.given.primary) ⊎ (m ≡ f.given.primary → ⊥) →
-            least ≤ told_length a.world.sent a.master.active f.given f.line m
+            least ≤ acknowledged_length a.world.sent a.master.active f.given f.line m
         by_member m i (inl e) = let z = primary_length a f.given f.line m e in let y = low in omega (arith, z, y)
         by_member m i (inr ne) = let z = same m i ne in let y = least_other m i in omega (arith, z, y)
 
@@ -437,9 +437,9 @@ sole_length {S = S} {C = C} {O = O} rules config a moments xs came agreed m sole
     whole : length f.line.list ≡ length xs
     whole =
         sym (front_length rules a xs f
-        ∙ ap (λ ms. least_of (length f.line.list) (told_length a.world.sent a.master.active f.given f.line) ms) (f.members ∙ sole)
+        ∙ ap (λ ms. least_of (length f.line.list) (acknowledged_length a.world.sent a.master.active f.given f.line) ms) (f.members ∙ sole)
         ∙ (let e = primary_length a f.given f.line m (sym primary) in
-        let z : min (told_length a.world.sent a.master.active f.given f.line m) (length f.line.list) ≡ length f.line.list = omega (arith, e) in z))
+        let z : min (acknowledged_length a.world.sent a.master.active f.given f.line m) (length f.line.list) ≡ length f.line.list = omega (arith, e) in z))
 
     by_node : Holds a.master a.world xs → length (log_of (slice_get a.world.nodes (m - 1))) ≡ length xs
     by_node z =

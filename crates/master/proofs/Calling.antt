@@ -10,12 +10,12 @@ use Rattle.ballot_base.specs.Losses.Thinned.{none, keeps, loses}
 use Rattle.ballot_base.specs.Protocol.{Input, replica_step}
 use Rattle.ballot_base.specs.Protocol.Input.{Proposes, Ticks}
 use Rattle.ballot_base.specs.Replica.{ReplicaState, CountedReplica, is_active}
-use Rattle.ballot_base.specs.Sending.{Outcome}
-use Rattle.ballot_base.specs.Serving.{max_places, proposed}
+use Rattle.ballot_base.specs.StepOutcome.{Outcome}
+use Rattle.ballot_base.specs.Service.{max_places, proposed}
 use Rattle.ballot_base.proofs.StepRows.{added-log, proposed-adds, proposed-full, proposed-not_active}
 use Rattle.ballot_base.proofs.ThinnedEffects.{Thinned-same}
 use Rattle.ballot.proofs.TicksTaken.{ticked-state}
-use Rattle.master.specs.Inside.Losing.{InputStepOrLost, IsRead}
+use Rattle.master.specs.Inside.Losses.{InputStepOrLost, IsRead}
 
 -- an exact step is one in which nothing was lost
 loses_of : {S C O : Type 0} (rules : Rules S C O) {old : CountedReplica S C} {o : Outcome S C O} {new : CountedReplica S C} {given : List (Effect C O)} →

@@ -10,8 +10,8 @@ use Rattle.ballot_base.specs.Losses.{Loses, halted, one_more}
 use Rattle.ballot_base.specs.Protocol.{Input, replica_step}
 use Rattle.ballot_base.specs.Protocol.Input.{Receives, Proposes}
 use Rattle.ballot_base.specs.Replica.{ReplicaState, is_active, status_of}
-use Rattle.ballot_base.specs.Serving.{max_places}
-use Rattle.ballot_base.specs.Cutting.{can_cut}
+use Rattle.ballot_base.specs.Service.{max_places}
+use Rattle.ballot_base.specs.Compaction.{can_cut}
 use Rattle.ballot_base.specs.Logs.{places}
 use Rattle.master.specs.declared.event.Event.{Event}
 use Rattle.master.specs.declared.event.Event.TheVariants.{Assign, Deliver}
@@ -32,7 +32,7 @@ use Rattle.master.specs.Outcomes.{NodeOutcome, EventOutcome, running, can_take, 
 use Rattle.master.specs.Steps.{Freezes, GroupEventLosing, GroupEventOrLost, GroupLosesNothing}
 use Rattle.master.specs.Steps.GroupEventLosing.{nothing_happens, node_goes, master_goes}
 use Rattle.master.specs.Inside.{RunsAt, asks_for}
-use Rattle.master.specs.Inside.Losing.{GroupCutOrLost, GroupMasterStepOrLost, GroupNodeStepOrLost}
+use Rattle.master.specs.Inside.Losses.{GroupCutOrLost, GroupMasterStepOrLost, GroupNodeStepOrLost}
 
 -- the outcome for a node that runs
 pub takes_turn : {S C O : Type 0} (rules : Rules S C O) (w : CutGroupWorld S C O) (node at : ℕ) (input : Input C) (x : RunsAt w.nodes node at) →

@@ -8,7 +8,7 @@ use Rattle.machine.specs.Machine.{Rules}
 use Rattle.lists.specs.Lists.{In}
 use Rattle.ballot_base.specs.declared.message.Body.{Body}
 use Rattle.ballot_base.specs.declared.message.Body.TheVariants.{NewBallot, Join, State, Install, Installed, Activate, Activated, Superseded, Append, Held, Commit}
-use Rattle.ballot_base.specs.Changing.{install_effects, lacks, on_install, on_new_ballot, on_state, waits_for}
+use Rattle.ballot_base.specs.Transfer.{install_effects, lacks, on_install, on_new_ballot, on_state, waits_for}
 use Rattle.ballot_base.specs.declared.config.Config.{Config}
 use Rattle.ballot_base.specs.declared.message.Effect.{Effect}
 use Rattle.ballot_base.specs.Logs.{Log, places}
@@ -17,13 +17,13 @@ use Rattle.ballot_base.specs.declared.message.Message.{Message}
 use Rattle.ballot_base.specs.Protocol.{received}
 use Rattle.ballot_base.specs.Replica.{ReplicaState, others}
 use Rattle.ballot_base.specs.declared.status.Role.TheVariants.{Installing}
-use Rattle.ballot_base.specs.Sending.{Outcome, message_to_each, nothing_done}
-use Rattle.ballot_base.specs.Serving.{follows, on_append}
-use Rattle.ballot_base.specs.Taking.{taken}
+use Rattle.ballot_base.specs.StepOutcome.{Outcome, message_to_each, nothing_done}
+use Rattle.ballot_base.specs.Service.{follows, on_append}
+use Rattle.ballot_base.specs.TakenLog.{taken}
 use Rattle.ballot_base.proofs.ChangeRows.{on_install-answers, on_install-stays, on_install-takes, on_install-unread, on_new_ballot-joins, on_new_ballot-stays, on_state-stays, on_state-takes, on_state-unread}
 use Rattle.ballot_base.proofs.MessageRows.{on_append-elsewhere, on_append-gap, on_append-takes}
 use Rattle.agreement.specs.Inside.Ballots.{Given, History}
-use Rattle.agreement.specs.Inside.Saying.{IsOf, SpeaksTruth}
+use Rattle.agreement.specs.Inside.MessageMeaning.{IsOf, SpeaksTruth}
 use Rattle.agreement.specs.Moments.{Moment as WholeMoment, Moments as WholeMoments}
 use Rattle.agreement.specs.World.{GroupWorld as WholeWorld}
 use Rattle.agreement.specs.whole_logs.Messages.Body.{NewBallot as whole_new_ballot}
@@ -32,7 +32,7 @@ use Rattle.agreement.specs.cut_logs.Moments.{Moment, Moments, whole_moment}
 use Rattle.agreement.specs.cut_logs.World.{whole_sent}
 use Rattle.agreement.proofs.of_cut_logs.MomentsKept.{moments_stand}
 use Rattle.agreement.proofs.of_cut_logs.Views.{in_whole}
-use Rattle.master.specs.Copying.{has_numbers_alone}
+use Rattle.master.specs.Copies.{has_numbers_alone}
 
 -- ---- the members of the ballot before
 

@@ -21,14 +21,14 @@ use Rattle.agreement.specs.cut_logs.Masters.{assigned, activated}
 use Rattle.agreement.specs.cut_logs.Moments.{Moment, Moments, opening_moment}
 use Rattle.agreement.specs.cut_logs.Moments.Moments.{began, went_on}
 use Rattle.agreement.specs.cut_logs.Steps.{sends_from_master}
-use Rattle.master.specs.ToldLengths.{max_told, told_by, told_in}
+use Rattle.master.specs.AcknowledgedLengths.{max_acknowledged, acknowledged_by, acknowledged_in}
 use Rattle.master.proofs.Untold.{whole_untold}
 use Rattle.master.proofs.WholeTold.{max_told_whole}
 use Rattle.agreement.specs.cut_logs.Moments.{whole_moment}
 use Rattle.agreement.proofs.of_cut_logs.MomentsKept.{moments_stand}
 use Rattle.std.specs.Bool.{OnTrue, OnFalse}
 use Rattle.ballot_base.specs.Losses.{Loses, Thinned, halted, one_more}
-use Rattle.ballot_base.specs.Sending.{Outcome}
+use Rattle.ballot_base.specs.StepOutcome.{Outcome}
 use Rattle.ballot_base.specs.Protocol.{Input, replica_step}
 use Rattle.ballot_base.proofs.ThinnedEffects.{Thinned-same}
 use Rattle.agreement.specs.cut_logs.World.{MayTake}
@@ -36,68 +36,68 @@ use Rattle.master.specs.Group.{GroupState}
 use Rattle.agreement.specs.cut_logs.Masters.{MasterOutcome}
 use Rattle.master.specs.declared.activation.Activation.{Activation}
 use Rattle.master.specs.declared.activation.Activation.TheVariants.{Activated as Granted, Superseded as Refused}
-use Rattle.master.specs.Inside.{HasCounted, IsGroup, ToldIn, activation_answer, least_but_one, next_least, moment_of, world_of}
-use Rattle.master.specs.Inside.Losing.{GroupCutOrLost, GroupMasterStepOrLost, GroupNodeStepOrLost}
+use Rattle.master.specs.Inside.{HasCounted, IsGroup, AcknowledgedIn, activation_answer, least_but_one, next_least, moment_of, world_of}
+use Rattle.master.specs.Inside.Losses.{GroupCutOrLost, GroupMasterStepOrLost, GroupNodeStepOrLost}
 use Rattle.master.specs.Exact.{moment_after_event}
 use Rattle.master.specs.Outcomes.{cut_outcome}
 use Rattle.master.specs.Outcomes.EventOutcome.{by_cut}
 use Rattle.master.specs.Steps.{Freezes}
-use Rattle.ballot_base.specs.Cutting.{can_cut}
+use Rattle.ballot_base.specs.Compaction.{can_cut}
 use Rattle.master.proofs.Happening.{MayGo, IsMasterTurn, cut_may, master_may, master_turn_lost, node_may}
 use Rattle.master.proofs.Happening.IsTurn.{it_takes, it_stops}
 use Rattle.master.proofs.Happening.IsMasterTurn.{it_gives, it_answers}
 
 -- a message more
 pub max_told_more : {C : Type 0} (m b : ℕ) (sent more : List (ℕ × Message C)) →
-    max_told m b (sent ++ more) ≡ max (max_told m b sent) (max_told m b more)
-max_told_more m b [] more = let e : max_told m b more ≡ max 0 (max_told m b more) = omega arith in e
+    max_acknowledged m b (sent ++ more) ≡ max (max_acknowledged m b sent) (max_acknowledged m b more)
+max_told_more m b [] more = let e : max_acknowledged m b more ≡ max 0 (max_acknowledged m b more) = omega arith in e
 max_told_more m b (x ∷ sent) more =
     let e = max_told_more m b sent more in
-    ap (max (told_in m b x.1)) e
-    ∙ (let f : max (told_in m b x.1) (max (max_told m b sent) (max_told m b more)) ≡ max (max (told_in m b x.1) (max_told m b sent)) (max_told m b more) = omega arith in f)
+    ap (max (acknowledged_in m b x.1)) e
+    ∙ (let f : max (acknowledged_in m b x.1) (max (max_acknowledged m b sent) (max_acknowledged m b more)) ≡ max (max (acknowledged_in m b x.1) (max_acknowledged m b sent)) (max_acknowledged m b more) = omega arith in f)
 
 -- messages that say nothing
-pub max_told_none : {C : Type 0} (m b : ℕ) (sent : List (ℕ × Message C)) → ((x : ℕ × Message C) → In x sent → told_in m b x.1 ≡ 0) →
-    max_told m b sent ≡ 0
+pub max_told_none : {C : Type 0} (m b : ℕ) (sent : List (ℕ × Message C)) → ((x : ℕ × Message C) → In x sent → acknowledged_in m b x.1 ≡ 0) →
+    max_acknowledged m b sent ≡ 0
 max_told_none m b [] all = refl
 max_told_none m b (x ∷ sent) all =
     let e = all x here in let f = max_told_none m b sent (λ y i. all y (there i)) in omega (arith, e, f)
 
 -- what is counted stays so after a message that says nothing
-pub counted_still : {C : Type 0} (sent : List (ℕ × Message C)) (x : ℕ × Message C) (t : ToldIn) → ((m b : ℕ) → told_in m b x.1 ≡ 0) →
+pub counted_still : {C : Type 0} (sent : List (ℕ × Message C)) (x : ℕ × Message C) (t : AcknowledgedIn) → ((m b : ℕ) → acknowledged_in m b x.1 ≡ 0) →
     HasCounted sent t → HasCounted (sent ++ x ∷ []) t
 counted_still {C = C} sent x t none h m low =
     let e = max_told_more m t.ballot sent (x ∷ []) in
-    let f : max_told m t.ballot (x ∷ []) ≡ 0 = (let z = none m t.ballot in omega (arith, z)) in
+    let f : max_acknowledged m t.ballot (x ∷ []) ≡ 0 = (let z = none m t.ballot in omega (arith, z)) in
     let y = h m low in omega (arith, e, f, y)
 
 -- what one body acknowledges
-silent : {C : Type 0} (m b from : ℕ) (body : Body C) → told_by b body ≡ 0 → told_in m b (record { from = from; body = body }) ≡ 0
+silent : {C : Type 0} (m b from : ℕ) (body : Body C) → acknowledged_by b body ≡ 0 → acknowledged_in m b (record { from = from; body = body }) ≡ 0
 silent m b from body e = by_sender (cases_Bool (from == m))
   where
-    by_sender : ((from == m) ≡ true) ⊎ ((from == m) ≡ false) → cond (from == m) (told_by b body) 0 ≡ 0
-    by_sender (inl f) = ap (λ k. cond k (told_by b body) 0) f ∙ e
-    by_sender (inr f) = ap (λ k. cond k (told_by b body) 0) f
+    by_sender : ((from == m) ≡ true) ⊎ ((from == m) ≡ false) → cond (from == m) (acknowledged_by b body) 0 ≡ 0
+    by_sender (inl f) = ap (λ k. cond k (acknowledged_by b body) 0) f ∙ e
+    by_sender (inr f) = ap (λ k. cond k (acknowledged_by b body) 0) f
 
 -- the master acknowledges no length
 pub new_ballot_silent : (C : Type 0) (receiver from ballot previous : ℕ) (members old : List ℕ) (m b : ℕ) →
-    told_in {C = C} m b (record { from = from; body = NewBallot ballot members previous old }) ≡ 0
+    acknowledged_in {C = C} m b (record { from = from; body = NewBallot ballot members previous old }) ≡ 0
 new_ballot_silent C receiver from ballot previous members old m b = silent {C = C} m b from (NewBallot ballot members previous old) refl
 
 pub answer_silent : (C : Type 0) (from ballot : ℕ) (granted : Bool) (m b : ℕ) →
-    told_in {C = C} m b (record { from = from; body = cond granted (Activated ballot) (Superseded ballot) }) ≡ 0
+    acknowledged_in {C = C} m b (record { from = from; body = cond granted (Activated ballot) (Superseded ballot) }) ≡ 0
 answer_silent C from ballot true m b = silent {C = C} m b from (Activated ballot) refl
 answer_silent C from ballot false m b = silent {C = C} m b from (Superseded ballot) refl
 
 -- nothing was acknowledged in the ballot that comes next
 pub untold_next : {S C O : Type 0} (rules : Rules S C O) (config : Config) (a : Moment S C O) (moments : List (Moment S C O)) → Moments rules config (a ∷ moments) →
-    (m : ℕ) → max_told m (a.master.given + 1) a.world.sent ≡ 0
+    (m : ℕ) → max_acknowledged m (a.master.given + 1) a.world.sent ≡ 0
 untold_next {S = S} {C = C} {O = O} rules config a moments came m =
     let q = moments_stand rules config a moments came in
     max_told_whole m (a.master.given + 1) a.world.archive a.world.sent ∙ whole_untold rules config (whole_moment a) q.earlier q.kept.came m
 
 -- a group opens
-pub group_opens : {S C O : Type 0} (rules : Rules S C O) (nodes : ℕ) (config : Config) (a : Moment S C O) (told next : ToldIn) → can_open nodes config ≡ true →
+pub group_opens : {S C O : Type 0} (rules : Rules S C O) (nodes : ℕ) (config : Config) (a : Moment S C O) (told next : AcknowledgedIn) → can_open nodes config ≡ true →
     a ≡ opening_moment rules nodes config → told.ballot ≡ 1 → ((m : ℕ) → get_or told.held m 0 ≡ 0) → ((m : ℕ) → get_or next.held m 0 ≡ 0) →
     IsGroup rules a told next
 group_opens {S = S} {C = C} {O = O} rules nodes config a told next lawful is one none none_next =
@@ -113,7 +113,7 @@ group_opens {S = S} {C = C} {O = O} rules nodes config a told next lawful is one
     })
 
 -- a node did something
-pub group_goes : {S C O : Type 0} (rules : Rules S C O) (a v : Moment S C O) (told next told' next' : ToldIn) → IsGroup rules a told next → MayGo rules a v →
+pub group_goes : {S C O : Type 0} (rules : Rules S C O) (a v : Moment S C O) (told next told' next' : AcknowledgedIn) → IsGroup rules a told next → MayGo rules a v →
     v.master ≡ a.master → told'.ballot ≡ told.ballot → HasCounted v.world.sent told' → next'.ballot ≡ next.ballot → HasCounted v.world.sent next' →
     IsGroup rules v told' next'
 group_goes {S = S} {C = C} {O = O} rules a v told next told' next' g may same one counted two counted_next =
@@ -133,7 +133,7 @@ front_of {X = X} n xs ys more is at =
     ap (take n) is ∙ ap (λ k. take k (xs ++ ys)) at ∙ take-append-le (length xs) xs ys (omega arith) ∙ take-length xs
 
 -- the master gave a ballot: it was sent to its primary, or not
-pub group_gives : {S C O : Type 0} (rules : Rules S C O) (a v : Moment S C O) (config : Config) (told next next' : ToldIn) → IsGroup rules a told next →
+pub group_gives : {S C O : Type 0} (rules : Rules S C O) (a v : Moment S C O) (config : Config) (told next next' : AcknowledgedIn) → IsGroup rules a told next →
     refusal a.master config ≡ None → v.master ≡ assigning a.master config →
     (v.world ≡ sends_from_master a.world (assigned C a.master config)) ⊎ (v.world ≡ a.world) →
     next'.ballot ≡ a.master.given + 1 → ((m : ℕ) → get_or next'.held m 0 ≡ 0) → IsGroup rules v told next'
@@ -149,7 +149,7 @@ group_gives {S = S} {C = C} {O = O} rules a v config told next next' g granted m
         ballot ∙ ap (λ (y : ℕ × Config). y.0) both
 
     empty : HasCounted a.world.sent next'
-    empty m low = none m ∙ sym (untold_next rules g.config a g.moments g.came m) ∙ ap (λ b. max_told m b a.world.sent) (sym ballot)
+    empty m low = none m ∙ sym (untold_next rules g.config a g.moments g.came m) ∙ ap (λ b. max_acknowledged m b a.world.sent) (sym ballot)
 
     made : (w : CutGroupWorld S C O) → MayGo rules a (record { master = assigning a.master config; world = w }) → v.world ≡ w →
         HasCounted w.sent told → HasCounted w.sent next' → IsGroup rules v told next'
@@ -199,7 +199,7 @@ stays_or_turns m b (Some (x, config)) e = by_ballot (cases_Bool (b == x))
 
 -- the master answered: the counters of the ballot that waited are those of the active one now, if it
 -- is active now
-pub group_answers : {S C O : Type 0} (rules : Rules S C O) (a v : Moment S C O) (from b : ℕ) (told next told' next' : ToldIn) → IsGroup rules a told next →
+pub group_answers : {S C O : Type 0} (rules : Rules S C O) (a v : Moment S C O) (from b : ℕ) (told next told' next' : AcknowledgedIn) → IsGroup rules a told next →
     In (0, record { from = from; body = Activate b }) a.world.sent → v.master ≡ activating a.master b a.master.waiting →
     (v.world ≡ sends_from_master a.world (activated C a.master b from a.master.waiting)) ⊎ (v.world ≡ a.world) →
     ((v.master.active ≡ a.master.active) × (told' ≡ told) × (next' ≡ next))
@@ -213,7 +213,7 @@ group_answers {S = S} {C = C} {O = O} rules a v from b told next told' next' g s
     turns : Stays a.master v.master ⊎ Turns a.master v.master
     turns = subst (λ (k : MasterState). Stays a.master k ⊎ Turns a.master k) (sym master) (stays_or_turns a.master b a.master.waiting refl)
 
-    both : (P : ToldIn → Type 0) → P told → P next → P told' × P next'
+    both : (P : AcknowledgedIn → Type 0) → P told → P next → P told' × P next'
     both P x y = by_way way
       where
         by_way : ((v.master.active ≡ a.master.active) × (told' ≡ told) × (next' ≡ next))
@@ -227,9 +227,9 @@ group_answers {S = S} {C = C} {O = O} rules a v from b told next told' next' g s
         by_way : ((v.master.active ≡ a.master.active) × (told' ≡ told) × (next' ≡ next))
             ⊎ ((v.master.active ≡ a.master.active → ⊥) × (told' ≡ next) × (next' ≡ told)) → Stays a.master v.master ⊎ Turns a.master v.master →
             told'.ballot ≡ v.master.active
-        by_way (inl (s, e, f)) t = ap (λ (x : ToldIn). x.ballot) e ∙ g.active ∙ sym s
+        by_way (inl (s, e, f)) t = ap (λ (x : AcknowledgedIn). x.ballot) e ∙ g.active ∙ sym s
         by_way (inr (s, e, f)) (inl t) = absurd (s t.same_active)
-        by_way (inr (s, e, f)) (inr t) = ap (λ (x : ToldIn). x.ballot) e ∙ g.waits v.master.active t.config t.waited
+        by_way (inr (s, e, f)) (inr t) = ap (λ (x : AcknowledgedIn). x.ballot) e ∙ g.waits v.master.active t.config t.waited
 
     waits : (x : ℕ) (c : Config) → v.master.waiting ≡ Some (x, c) → next'.ballot ≡ x
     waits x c is = by_way way turns
@@ -237,13 +237,13 @@ group_answers {S = S} {C = C} {O = O} rules a v from b told next told' next' g s
         by_way : ((v.master.active ≡ a.master.active) × (told' ≡ told) × (next' ≡ next))
             ⊎ ((v.master.active ≡ a.master.active → ⊥) × (told' ≡ next) × (next' ≡ told)) → Stays a.master v.master ⊎ Turns a.master v.master →
             next'.ballot ≡ x
-        by_way (inl (s, e, f)) (inl t) = ap (λ (y : ToldIn). y.ballot) f ∙ g.waits x c (t.waits x c is)
+        by_way (inl (s, e, f)) (inl t) = ap (λ (y : AcknowledgedIn). y.ballot) f ∙ g.waits x c (t.waits x c is)
         by_way (inl (s, e, f)) (inr t) = absurd (t.none x c is)
         by_way (inr (s, e, f)) (inl t) = absurd (s t.same_active)
         by_way (inr (s, e, f)) (inr t) = absurd (t.none x c is)
 
     made : (w : CutGroupWorld S C O) → MayGo rules a (record { master = activating a.master b a.master.waiting; world = w }) → v.world ≡ w →
-        ((t : ToldIn) → HasCounted a.world.sent t → HasCounted w.sent t) → IsGroup rules v told' next'
+        ((t : AcknowledgedIn) → HasCounted a.world.sent t → HasCounted w.sent t) → IsGroup rules v told' next'
     made w may is keeps =
         let z = both (λ t. HasCounted w.sent t) (keeps told g.counted) (keeps next g.counted_next) in
         record {
@@ -268,18 +268,18 @@ group_answers {S = S} {C = C} {O = O} rules a v from b told next told' next' g s
     by_world (inr e) = made a.world (master_turn_lost rules a (activated C a.master b from a.master.waiting) acts) e (λ t h. h)
 
 -- one message more is received
-pub counted_next : {C : Type 0} (sent : List (ℕ × Message C)) (i : ℕ) (x : ℕ × Message C) (t u : ToldIn) → i < length sent → x ≡ get_or sent i x →
-    u.ballot ≡ t.ballot → ((m : ℕ) → m < 16 → get_or u.held m 0 ≡ max (get_or t.held m 0) (told_in m t.ballot x.1)) →
+pub counted_next : {C : Type 0} (sent : List (ℕ × Message C)) (i : ℕ) (x : ℕ × Message C) (t u : AcknowledgedIn) → i < length sent → x ≡ get_or sent i x →
+    u.ballot ≡ t.ballot → ((m : ℕ) → m < 16 → get_or u.held m 0 ≡ max (get_or t.held m 0) (acknowledged_in m t.ballot x.1)) →
     HasCounted (take i sent) t → HasCounted (take (i + 1) sent) u
 counted_next {C = C} sent i x t u below read ballot heard h m low =
     let now : take (i + 1) sent ≡ take i sent ++ x ∷ [] = take_more sent i x below ∙ ap (λ (y : ℕ × Message C). take i sent ++ y ∷ []) (sym read) in
     let e = max_told_more m t.ballot (take i sent) (x ∷ []) in
     let a = heard m low in let b = h m low in
-    a ∙ (let z : max (get_or t.held m 0) (told_in m t.ballot x.1) ≡ max_told m t.ballot (take i sent ++ x ∷ []) = omega (arith, b, e) in z)
-    ∙ ap (λ us. max_told m t.ballot us) (sym now) ∙ ap (λ k. max_told m k (take (i + 1) sent)) (sym ballot)
+    a ∙ (let z : max (get_or t.held m 0) (acknowledged_in m t.ballot x.1) ≡ max_acknowledged m t.ballot (take i sent ++ x ∷ []) = omega (arith, b, e) in z)
+    ∙ ap (λ us. max_acknowledged m t.ballot us) (sym now) ∙ ap (λ k. max_acknowledged m k (take (i + 1) sent)) (sym ballot)
 
 -- all of them were received
-pub counted_all : {C : Type 0} (sent : List (ℕ × Message C)) (i : ℕ) (t : ToldIn) → length sent ≤ i → HasCounted (take i sent) t → HasCounted sent t
+pub counted_all : {C : Type 0} (sent : List (ℕ × Message C)) (i : ℕ) (t : AcknowledgedIn) → length sent ≤ i → HasCounted (take i sent) t → HasCounted sent t
 counted_all {C = C} sent i t moments h = subst (λ us. HasCounted us t) (take_all i sent moments) h
 
 -- an item of a list
@@ -332,7 +332,7 @@ answer_is b true activation body e is = is ∙ ap (λ a. activation_answer a b) 
 answer_is b false activation body e is = is ∙ ap (λ a. activation_answer a b) e
 
 -- which counters correspond to the active ballot after an Activate
-pub turned : (told next told' next' : ToldIn) (before moment_after_event : ℕ) →
+pub turned : (told next told' next' : AcknowledgedIn) (before moment_after_event : ℕ) →
     (before ≡ moment_after_event → (told' ≡ told) × (next' ≡ next)) → ((before ≡ moment_after_event → ⊥) → (told' ≡ next) × (next' ≡ told)) →
     ((moment_after_event ≡ before) × (told' ≡ told) × (next' ≡ next)) ⊎ ((moment_after_event ≡ before → ⊥) × (told' ≡ next) × (next' ≡ told))
 turned told next told' next' before moment_after_event stays turns = by_ballot (cases_eq before moment_after_event)
@@ -343,7 +343,7 @@ turned told next told' next' before moment_after_event stays turns = by_ballot (
     by_ballot (inr ne) = inr (λ e. ne (sym e), (turns ne).0, (turns ne).1)
 
 -- a node took its step
-pub group_turns : {S C O : Type 0} (rules : Rules S C O) (a v : Moment S C O) (told next told' next' : ToldIn) (old new : GroupState S C O) (input : Input C)
+pub group_turns : {S C O : Type 0} (rules : Rules S C O) (a v : Moment S C O) (told next told' next' : AcknowledgedIn) (old new : GroupState S C O) (input : Input C)
     (n from : ℕ) (r : ReplicaState S C) (more : List (Effect C O)) (sent : List (ℕ × Message C)) → IsGroup rules a told next → old.moment ≡ a → new.moment ≡ v →
     slice_get a.world.nodes n ≡ Some r → r.stopped ≡ false → MayTake a.world n input →
     GroupNodeStepOrLost rules old (record { index = n; before = r; outcome = replica_step rules r input }) new →
@@ -385,7 +385,7 @@ more_than n xs ys more now is grown at =
     let e = ap length is ∙ ap length grown ∙ length-append xs ys in omega (arith, e, at)
 
 -- a node stopped
-pub group_stops : {S C O : Type 0} (rules : Rules S C O) (a v : Moment S C O) (told next : ToldIn) (old new : GroupState S C O)
+pub group_stops : {S C O : Type 0} (rules : Rules S C O) (a v : Moment S C O) (told next : AcknowledgedIn) (old new : GroupState S C O)
     (n : ℕ) (r : ReplicaState S C) → IsGroup rules a told next → old.moment ≡ a → new.moment ≡ v →
     slice_get a.world.nodes n ≡ Some r → r.stopped ≡ false →
     GroupNodeStepOrLost rules old (record { index = n; before = r; outcome = record { state = halted rules r; effects = [] } }) new →
@@ -471,7 +471,7 @@ pub in_whole : (xs : List ℕ) (i m : ℕ) → length xs ≤ i → In m xs → I
 in_whole xs i m moments j = subst (λ us. In m us) (sym (take_all i xs moments)) j
 
 -- a node cut its log, or memory ran out for that
-pub group_cuts : {S C O : Type 0} (rules : Rules S C O) (a v : Moment S C O) (told next : ToldIn) (old new : GroupState S C O)
+pub group_cuts : {S C O : Type 0} (rules : Rules S C O) (a v : Moment S C O) (told next : AcknowledgedIn) (old new : GroupState S C O)
     (n : ℕ) (r : ReplicaState S C) → IsGroup rules a told next → old.moment ≡ a → new.moment ≡ v →
     slice_get a.world.nodes n ≡ Some r → can_cut r ≡ true → GroupCutOrLost rules old (cut_outcome rules n r) new → v.world.sent ≡ a.world.sent →
     IsGroup rules v told next
@@ -493,7 +493,7 @@ group_cuts {S = S} {C = C} {O = O} rules a v told next old new n r g is_old is_n
 
 -- a group of which the record and the nodes are as they were
 pub group_kept : {S C O : Type 0} (rules : Rules S C O) (archive more : List C) (m : MasterState) (nodes later : List (CountedReplica S C)) (sent : List (ℕ × Message C))
-    (left : List (Effect C O)) (told next : ToldIn) → more ≡ archive →
+    (left : List (Effect C O)) (told next : AcknowledgedIn) → more ≡ archive →
     map (λ (z : CountedReplica S C). z.state) later ≡ map (λ (z : CountedReplica S C). z.state) nodes →
     IsGroup rules (moment_of archive m nodes sent left) told next → IsGroup rules (moment_of more m later sent left) told next
 group_kept {S = S} {C = C} {O = O} rules archive more m nodes later sent left told next kept same g =

@@ -13,7 +13,7 @@ use Rattle.ballot_base.specs.Losses.{Loses, Thinned, halted}
 use Rattle.ballot_base.specs.Protocol.{Input, replica_step}
 use Rattle.ballot_base.specs.Protocol.Input.{Receives, Proposes, Ticks}
 use Rattle.ballot_base.specs.Replica.{ReplicaState}
-use Rattle.ballot_base.specs.Sending.{Outcome}
+use Rattle.ballot_base.specs.StepOutcome.{Outcome}
 use Rattle.ballot_base.proofs.ThinnedEffects.{Thinned-same}
 use Rattle.agreement.specs.MasterState.{AssignRefusal, MasterState, refusal, master_after}
 use Rattle.agreement.specs.cut_logs.Masters.{MasterOutcome, activated, assigned}
@@ -23,7 +23,7 @@ use Rattle.agreement.specs.cut_logs.World.{MayTake}
 use Rattle.agreement.specs.cut_logs.Steps.MayHappen.{node_goes as node_moves, master_assigns, master_hears, assignment_lost, answer_lost}
 use Rattle.agreement.specs.cut_logs.World.{CutGroupWorld, moved, recorded}
 use Rattle.agreement.specs.cut_logs.World.{NodeGoes as goes}
-use Rattle.ballot_base.specs.Cutting.{can_cut, cut}
+use Rattle.ballot_base.specs.Compaction.{can_cut, cut}
 use Rattle.std.proofs.lemmas.Bool.{and_parts, ltb-true}
 use Rattle.master.specs.declared.event.Event.{Event}
 use Rattle.master.specs.declared.event.Event.TheVariants.{Propose, Assign, Deliver, Tick, Cut, Crash}

@@ -4,13 +4,13 @@ use Rattle.std.specs.Prelude.{◌&&◌}
 use Rattle.std.proofs.lemmas.Bool.{cases_lt}
 use Rattle.machine.specs.Machine.{Rules}
 use Rattle.lists.proofs.OfEach.{each_append, each_then}
-use Rattle.ballot_base.specs.Cutting.{can_cut}
+use Rattle.ballot_base.specs.Compaction.{can_cut}
 use Rattle.ballot_base.specs.declared.message.Effect.{Effect}
 use Rattle.ballot_base.specs.Losses.{one_more}
 use Rattle.ballot_base.specs.Protocol.{Input}
 use Rattle.ballot_base.specs.Replica.{CountedReplica, ReplicaState}
 use Rattle.master.specs.Inside.{CountsAtMost}
-use Rattle.master.specs.Inside.Losing.{InputStepOrLost}
+use Rattle.master.specs.Inside.Losses.{InputStepOrLost}
 
 -- a count that no loss raised
 pub quiet_count : (whole kept : Bool) (losses counted old : ℕ) → counted ≡ cond (whole && kept) losses (one_more losses) → kept ≡ true → old ≤ losses →

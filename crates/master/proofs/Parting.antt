@@ -9,8 +9,8 @@ use Rattle.ballot_base.specs.declared.message.Effect.TheVariants.{To, Out}
 use Rattle.ballot_base.specs.Losses.{Thinned}
 use Rattle.ballot_base.specs.Losses.Thinned.{none, keeps, loses}
 use Rattle.agreement.specs.cut_logs.World.{messages, outputs}
-use Rattle.ballot_base.specs.Sending.{is_message}
-use Rattle.master.specs.Inside.Losing.{Parted}
+use Rattle.ballot_base.specs.StepOutcome.{is_message}
+use Rattle.master.specs.Inside.Losses.{Parted}
 use Rattle.agreement.proofs.of_cut_logs.Effects.{messages-append, outputs-append}
 
 -- effects that are parted up to an index

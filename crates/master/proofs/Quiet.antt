@@ -12,8 +12,8 @@ use Rattle.ballot_base.specs.Losses.{SendsAndAddsNothing, halted}
 use Rattle.ballot_base.specs.Protocol.{Input, replica_step}
 use Rattle.ballot_base.specs.Protocol.Input.{Receives, Proposes, Ticks}
 use Rattle.ballot_base.specs.Replica.{ReplicaState, is_active}
-use Rattle.ballot_base.specs.Sending.{Outcome, nothing_done}
-use Rattle.ballot_base.specs.Serving.{max_places}
+use Rattle.ballot_base.specs.StepOutcome.{Outcome, nothing_done}
+use Rattle.ballot_base.specs.Service.{max_places}
 use Rattle.ballot.proofs.TicksTaken.{ticked-state}
 use Rattle.agreement.specs.MasterState.{AssignRefusal, refusal}
 use Rattle.agreement.specs.cut_logs.Masters.{MasterOutcome}
@@ -25,9 +25,9 @@ use Rattle.master.specs.Group.{GroupState}
 use Rattle.master.specs.Exact.{moment_after_event, gives, event_outcome}
 use Rattle.master.specs.Outcomes.{NodeOutcome, EventOutcome, can_take}
 use Rattle.master.specs.Outcomes.EventOutcome.{by_node, by_cut, by_master, unheeded}
-use Rattle.master.specs.Copying.{has_numbers_alone}
+use Rattle.master.specs.Copies.{has_numbers_alone}
 use Rattle.master.specs.Inside.{RunsAt}
-use Rattle.master.specs.Inside.Losing.{GroupNodeStepOrLost}
+use Rattle.master.specs.Inside.Losses.{GroupNodeStepOrLost}
 use Rattle.master.specs.Steps.{GroupEventOrLost, GroupTakesNoMemory, done_exactly}
 use Rattle.master.specs.Steps.GroupTakesNoMemory.{comes_to_nobody, goes_unheeded, sends_and_adds_nothing, stops_a_node}
 use Rattle.master.proofs.Calling.{proposal_busy}

@@ -9,14 +9,14 @@ use Rattle.ballot_base.specs.declared.message.Effect.{Effect}
 use Rattle.ballot_base.specs.Replica.{ReplicaState, CountedReplica, opening, status_of}
 use Rattle.ballot_base.specs.Losses.{SendsAndAddsNothing, Loses, Thinned, halted, one_more}
 use Rattle.ballot_base.specs.Losses.Thinned.{none, keeps, loses}
-use Rattle.ballot_base.specs.Sending.{Outcome}
+use Rattle.ballot_base.specs.StepOutcome.{Outcome}
 use Rattle.ballot_base.specs.Protocol.{Input, replica_step}
 use Rattle.ballot_base.specs.declared.config.Config.{Config}
 use Rattle.agreement.specs.MasterState.{MasterState, opening_master}
 use Rattle.agreement.specs.cut_logs.Moments.{Moment, opening_moment}
 use Rattle.ballot_base.specs.declared.status.Status.{Status}
 use Rattle.agreement.specs.cut_logs.World.{CutGroupWorld, messages, outputs, moved, recorded}
-use Rattle.ballot_base.specs.Cutting.{cut}
+use Rattle.ballot_base.specs.Compaction.{cut}
 use Rattle.agreement.specs.cut_logs.Moments.{opening_nodes, opening_world}
 use Rattle.master.specs.Outcomes.{NodeOutcome, cut_outcome, running, unless_stopped}
 use Rattle.master.specs.Group.{GroupState}
@@ -24,7 +24,7 @@ use Rattle.master.proofs.Archived.{recorded_by}
 use Rattle.master.proofs.Calling.{thinned_nothing}
 use Rattle.master.proofs.LossesCounted.{quiet_count}
 use Rattle.master.specs.Inside.{RunsAt, moment_of, world_of}
-use Rattle.master.specs.Inside.Losing.{IsRead, GroupCutOrLost, InputStepOrLost, Parted, GroupNodeStepOrLost}
+use Rattle.master.specs.Inside.Losses.{IsRead, GroupCutOrLost, InputStepOrLost, Parted, GroupNodeStepOrLost}
 
 -- messages that are missing of messages that are missing
 thinned_then : {C O : Type 0} {xs ys zs : List (Effect C O)} → Thinned xs ys → Thinned ys zs → Thinned xs zs

@@ -10,7 +10,7 @@ use Rattle.ballot_base.specs.Logs.{Log, places}
 use Rattle.ballot_base.specs.declared.message.Message.{Message}
 use Rattle.ballot_base.specs.Protocol.{Input, replica_step}
 use Rattle.ballot_base.specs.Protocol.Input.{Receives, Proposes, Ticks}
-use Rattle.ballot_base.specs.Sending.{nothing_done}
+use Rattle.ballot_base.specs.StepOutcome.{nothing_done}
 use Rattle.ballot_base.specs.Unread.{is_unread}
 use Rattle.ballot_base.specs.Replica.{ReplicaState}
 use Rattle.agreement.specs.whole_logs.Replica.{ReplicaState as WholeState}
@@ -24,14 +24,14 @@ use Rattle.agreement.proofs.of_cut_logs.Fronts.{whole_long}
 use Rattle.agreement.proofs.of_cut_logs.MomentsAgree.{snapshots_are_read}
 use Rattle.agreement.proofs.of_cut_logs.MomentsKept.{StandsFor, moments_stand}
 use Rattle.agreement.proofs.of_cut_logs.Views.{get_whole}
-use Rattle.master.specs.Inside.{HasCounted, HoldsAt, IsShort, ToldIn, held_by, least_but_one}
-use Rattle.master.specs.Inside.Losing.{IsRead}
+use Rattle.master.specs.Inside.{HasCounted, HoldsAt, IsShort, AcknowledgedIn, held_by, least_but_one}
+use Rattle.master.specs.Inside.Losses.{IsRead}
 use Rattle.master.proofs.AgreedLength.{counted_length, member_front, sole_length, some_long}
 use Rattle.master.proofs.Lawful.{AreLawful, moments_lawful}
 use Rattle.master.proofs.WholeTold.{counted_whole}
 
 -- with two members and more
-pub counted_as_seen : {S C O : Type 0} (rules : Rules S C O) (config : Config) (a : Moment S C O) (moments : List (Moment S C O)) (xs : List C) (told : ToldIn) (top : ℕ) →
+pub counted_as_seen : {S C O : Type 0} (rules : Rules S C O) (config : Config) (a : Moment S C O) (moments : List (Moment S C O)) (xs : List C) (told : AcknowledgedIn) (top : ℕ) →
     Moments rules config (a ∷ moments) → IsAgreed config (map whole_moment (a ∷ moments)) xs → told.ballot ≡ a.master.active → HasCounted a.world.sent told →
     ((m : ℕ) → get_or told.held m 0 ≤ top) → (length a.master.members ≡ 1 → ⊥) →
     least_but_one told.held top top a.master.members ≡ length xs

@@ -3,7 +3,7 @@ use Rattle.std.specs.Prelude.{◌≡◌, List, ◌∷◌, ◌++◌}
 use Rattle.machine.specs.Machine.{Rules}
 use Rattle.lists.specs.Lists.{IsPrefixOf}
 use Rattle.ballot_base.specs.declared.config.Config.{Config}
-use Rattle.agreement.specs.cut_logs.Agreeing.{Agrees, Holds, LeftInOrder}
+use Rattle.agreement.specs.cut_logs.AgreedLists.{Agrees, Holds, LeftInOrder}
 use Rattle.agreement.specs.cut_logs.Moments.{IsAgreed, Moment, Moments}
 
 -- the moments have continued up to one in which the nodes agree on the list that is agreed there.

@@ -1,5 +1,5 @@
 -- What the helpers of a group ensure about nodes, its moment and counters.
-pub mod Losing
+pub mod Losses
 use Rattle.std.specs.Prelude.{ℕ, false, ◌-◌, ◌<◌, ◌≤◌, ◌≡◌, List, [], ◌∷◌, length, map, min, get_or}
 use Rattle.std.specs.Prelude.{slice_get, Option, Some, None, nat_lt, if◌then◌else◌}
 use Rattle.machine.specs.Machine.{Rules}
@@ -13,7 +13,7 @@ use Rattle.lists.specs.Lists.{Each, In}
 use Rattle.ballot_base.specs.Replica.{ReplicaState, CountedReplica}
 use Rattle.master.specs.declared.activation.Activation.{Activation}
 use Rattle.master.specs.declared.activation.Activation.TheVariants as activation
-use Rattle.master.specs.ToldLengths.{max_told}
+use Rattle.master.specs.AcknowledgedLengths.{max_acknowledged}
 use Rattle.agreement.specs.MasterState.{MasterState}
 use Rattle.agreement.specs.cut_logs.Moments.{Moment, Moments}
 use Rattle.agreement.specs.cut_logs.World.{CutGroupWorld, outputs}
@@ -73,19 +73,20 @@ CountsAtMost {S} {C} losses nodes =
     Each (λ (replica : CountedReplica S C). replica.losses ≤ losses) nodes
 
 -- how many places the node of each number acknowledged in a ballot
-pub record ToldIn : Type 0 where
+pub record AcknowledgedIn : Type 0 where
   pub ballot : ℕ
   pub held : List ℕ
 
 -- these are the numbers that the messages say
-abbrev pub HasCounted : {C : Type 0} → List (ℕ × Message C) → ToldIn → Type 0
+abbrev pub HasCounted : {C : Type 0} → List (ℕ × Message C) → AcknowledgedIn → Type 0
 HasCounted sent told =
-    (member : ℕ) → member < 16 → get_or told.held member 0 ≡ max_told member told.ballot sent
+    (member : ℕ) → member < 16 →
+    get_or told.held member 0 ≡ max_acknowledged member told.ballot sent
 
 -- how a group came about, and what it counts: what was acknowledged in the active ballot, and in
 -- the ballot that waits
 pub record IsGroup {S C O : Type 0} (rules : Rules S C O) (moment : Moment S C O)
-    (told next : ToldIn) : Type 0 where
+    (told next : AcknowledgedIn) : Type 0 where
   pub config : Config
   pub moments : List (Moment S C O)
   pub came : Moments rules config (moment ∷ moments)

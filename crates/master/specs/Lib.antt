@@ -1,9 +1,9 @@
 pub mod Agreement
-pub mod Copying
+pub mod Copies
 pub mod Exact
 pub mod Group
 pub mod Inside
 pub mod Refusals
 pub mod Steps
-pub mod ToldLengths
+pub mod AcknowledgedLengths
 pub mod Outcomes

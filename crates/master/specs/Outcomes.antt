@@ -2,14 +2,14 @@
 use Rattle.std.specs.Prelude.{ℕ, zero, suc, Bool, true, List, [], slice_get, Option, Some, None}
 use Rattle.std.specs.Prelude.{◌&&◌, nat_lt, if◌then◌else◌}
 use Rattle.machine.specs.Machine.{Rules}
-use Rattle.ballot_base.specs.Cutting.{can_cut, cut}
+use Rattle.ballot_base.specs.Compaction.{can_cut, cut}
 use Rattle.ballot_base.specs.Logs.{places}
 use Rattle.ballot_base.specs.Losses.{halted}
 use Rattle.ballot_base.specs.Protocol.{Input, replica_step}
 use Rattle.ballot_base.specs.Protocol.Input.{Receives, Proposes, Ticks}
 use Rattle.ballot_base.specs.Replica.{ReplicaState, is_active}
-use Rattle.ballot_base.specs.Sending.{Outcome}
-use Rattle.ballot_base.specs.Serving.{max_places}
+use Rattle.ballot_base.specs.StepOutcome.{Outcome}
+use Rattle.ballot_base.specs.Service.{max_places}
 use Rattle.agreement.specs.cut_logs.Masters.{MasterOutcome}
 
 -- the node of a number, if it exists and has not stopped

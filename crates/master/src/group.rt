@@ -5,7 +5,7 @@ ghost use Rattle.std.specs.Prelude.{slice_get, map, List, ◌∷◌, ◌++◌, I
 ghost use Rattle.std.specs.Prelude.{IsErr, IsErrOf};
 ghost use Rattle.ballot_base.specs.Protocol.{replica_step};
 ghost use Rattle.ballot_base.specs.Protocol.Input.{Receives};
-ghost use Rattle.ballot_base.specs.Sending.{nothing_done};
+ghost use Rattle.ballot_base.specs.StepOutcome.{nothing_done};
 ghost use Rattle.ballot_base.specs.Losses.{SendsAndAddsNothing, one_more};
 ghost use Rattle.ballot_base.specs.Replica.{ReplicaState};
 ghost use Rattle.lists.specs.Lists.{In};
@@ -13,18 +13,18 @@ ghost use Rattle.agreement.specs.cut_logs.Moments.{IsAgreed, Moment, Moments, op
 ghost use Rattle.agreement.specs.cut_logs.World.{MayTake};
 ghost use Rattle.agreement.specs.World.{can_open};
 ghost use Rattle.master.specs.Agreement.{AgreesAfter};
-ghost use Rattle.master.specs.Copying.{has_numbers_alone};
+ghost use Rattle.master.specs.Copies.{has_numbers_alone};
 ghost use Rattle.master.specs.Exact.{event_outcome, group_step, group_run};
 ghost use Rattle.master.specs.Outcomes.{running};
 ghost use Rattle.master.specs.Inside.{HoldsAt, IsShort, RunsAt, held_by};
-ghost use Rattle.master.specs.Inside.Losing.{GroupNodeStepOrLost, input_of};
+ghost use Rattle.master.specs.Inside.Losses.{GroupNodeStepOrLost, input_of};
 ghost use Rattle.master.specs.Steps.{GroupTraceOrLost, GroupEventOrLost, GroupTakesNoMemory, GroupLosesNothing, done_exactly};
 
+use crate::acknowledged::Acknowledged;
 use crate::event::{Event, Idle};
 use crate::inputs::{Input, counted, part, step_replica};
 use crate::master::Master;
 use crate::opening::can_open;
-use crate::told::Told;
 use ballot::Replica;
 use ballot_base::errors::OpeningError;
 use ballot_base::{Config, Effect, Message};
@@ -32,7 +32,7 @@ use machine::Machine;
 use std::alloc::Global;
 use std::marker::Model;
 
-mod stepping;
+mod event_steps;
 
 /// A master and replicas of a machine that communicate only by their messages. All messages ever
 /// sent may arrive at any time, again and in any order, or never.
@@ -50,9 +50,9 @@ pub struct Group<M: Machine> {
     // The places below the bases of all logs.
     archive: Vec<M::Command>,
     // What was acknowledged in the active ballot.
-    told: Told,
+    told: Acknowledged,
     // What was acknowledged in the ballot that waits, if one does.
-    next: Told,
+    next: Acknowledged,
     // How many steps lost something, up to 2^64 - 1. No node has counted more.
     losses: u64,
 }
@@ -116,8 +116,8 @@ impl<M: Machine> Group<M> {
         for at in 0..nodes {
             opened.push(Replica::new(alloc, at + 1, &config)?)?;
         }
-        let told = Told::new(alloc, 1)?;
-        let next = Told::new(alloc, 1)?;
+        let told = Acknowledged::new(alloc, 1)?;
+        let next = Acknowledged::new(alloc, 1)?;
         let Ok(master) = Master::new(config) else {
             return Err(OpeningError::BadMembers);
         };
@@ -261,7 +261,7 @@ impl<M: Machine> Group<M> {
         Some(at)
     }
 
-    // Says whether a message that was sent would have an effect at a node. A message that would,
+    // Returns true if a message that was sent would have an effect at a node. A message that would,
     // and has more than numbers, makes the node send something or add to its log.
     fn heeds(&self, at: usize, message: &Message<M::Command>) -> bool
         requires at { at < length self.now.moment.world.nodes }

@@ -3,10 +3,10 @@
 ghost use Rattle.std.specs.Prelude.{◌≡◌, ◌≤◌, false, [], ◌∷◌, ◌++◌, length, take, drop};
 ghost use Rattle.std.specs.Prelude.{◌&&◌, if◌then◌else◌};
 ghost use Rattle.ballot_base.specs.Losses.{one_more};
-ghost use Rattle.ballot_base.specs.Sending.{is_message};
+ghost use Rattle.ballot_base.specs.StepOutcome.{is_message};
 ghost use Rattle.std.specs.Bool.{OnTrue, OnFalse};
 ghost use Rattle.agreement.specs.cut_logs.World.{messages};
-ghost use Rattle.master.specs.Inside.Losing.{InputStepOrLost, Parted, input_of};
+ghost use Rattle.master.specs.Inside.Losses.{InputStepOrLost, Parted, input_of};
 
 use ballot::Replica;
 use ballot_base::{Effect, Message};
@@ -46,7 +46,7 @@ pub fn step_replica<M: Machine>(
     replica.losses() == before && before < u64::MAX
 }
 
-// Says whether an effect is a message.
+// Returns true if an effect is a message.
 fn is_message<C, O>(effect: &Effect<C, O>) -> bool
     ensures { result ≡ is_message effect.now }
 {

@@ -1,26 +1,26 @@
 //! A group of replicas with all messages that they ever sent, and the proof that they agree.
 #![tactic(auto)]
 
+mod acknowledged;
 mod activation;
-mod copying;
+mod copies;
+mod cut_places;
 mod error;
 mod event;
 mod group;
 mod inputs;
 mod master;
+mod messages_sent;
 mod opening;
-mod recording;
-mod sending;
-mod told;
 
+pub use acknowledged::{Acknowledged, follow_ballot};
 pub use activation::Activation;
-pub use copying::{config_of, copy_of};
+pub use copies::{config_of, copy_of};
+pub use cut_places::record;
 pub use error::AssignError;
 pub use event::{Event, Idle};
 pub use group::Group;
 pub use inputs::counted;
 pub use master::Master;
+pub use messages_sent::{activation_answer, asks_for, send};
 pub use opening::can_open;
-pub use recording::record;
-pub use sending::{activation_answer, asks_for, send};
-pub use told::{Told, follow_ballot};

@@ -75,7 +75,7 @@ impl Master {
         })
     }
 
-    /// Says whether [`Master::assign`] accepts a configuration.
+    /// Returns true if [`Master::assign`] accepts a configuration.
     pub fn can_assign(&self, config: &Config) -> bool
         ensures { (result ≡ true) ↔ (refusal self.now config.now ≡ None) }
     {

@@ -6,14 +6,14 @@ ghost use Rattle.agreement.specs.World.{can_open};
 
 use ballot_base::{Config, MAX_NODE};
 
-/// Says whether this many nodes may open in a configuration.
+/// Returns true if this many nodes may open in a configuration.
 pub fn can_open(nodes: u8, config: &Config) -> bool
     ensures { result ≡ can_open nodes config.now }
 {
     nodes <= MAX_NODE && (config.is_lawful() && are_nodes(config.members.as_slice(), nodes))
 }
 
-// Says whether members are among the nodes.
+// Returns true if members are among the nodes.
 fn are_nodes(members: &[u8], nodes: u8) -> bool
     ensures { result ≡ list_all (λ member. nat_le member nodes) members.now }
 {

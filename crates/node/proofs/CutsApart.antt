@@ -1,7 +1,7 @@
 -- CutsApart.antt: nodes have their logs cut after different ticks, and each after one of any 50.
 use Rattle.std.proofs.Common.{◌+◌, ◌*◌, ◌-◌, ◌%◌, ◌≤◌, arith}
 use Rattle.std.proofs.lemmas.Bool.{eqb-true, eq-eqb}
-use Rattle.node.specs.Laws.{CutsComeApart, CutsComeOften}
+use Rattle.node.specs.Theorems.{CutsComeApart, CutsComeOften}
 
 pub cuts_apart : CutsComeApart
 cuts_apart node other ticks low lower one two =

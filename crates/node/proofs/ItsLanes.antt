@@ -4,7 +4,7 @@ use Rattle.std.proofs.Common.{◌≡◌, ℕ, ◌<◌, List, length}
 use Rattle.std.specs.Prelude.{slice_index_or}
 use Rattle.mailbox.specs.Ends.{LaneView}
 use Rattle.world_base.specs.declared.node_core.item.Item.{Item}
-use Rattle.node.specs.Running.{AreItsLanes, NodeView}
+use Rattle.node.specs.LockedNode.{AreItsLanes, NodeView}
 
 -- the lane at an index has the number of the inbox, and the index as its number
 abbrev pub Placed : ℕ → List (LaneView Item) → ℕ → Type 0

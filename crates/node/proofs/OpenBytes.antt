@@ -2,9 +2,9 @@
 use Rattle.std.proofs.Common.{◌≡◌, ℕ, ◌+◌, ◌≤◌, Bool, true, false, nat_le, nat_lt, min, if◌then◌else◌, List, [], ◌∷◌, Some, refl, arith}
 use Rattle.world_base.specs.declared.node_core.Status.{Status}
 use Rattle.node.specs.Intake.{IntakeView, is_agreed, took}
-use Rattle.node.specs.Counting.{Counts, Taken, bytes_behind, committed_of, held_of}
-use Rattle.node.specs.Counting.Counts.{admits, begins, shows, takes}
-use Rattle.node.specs.Laws.{OpenBytesAreCounted}
+use Rattle.node.specs.OpenBytes.{Counts, Taken, bytes_behind, committed_of, held_of}
+use Rattle.node.specs.OpenBytes.Counts.{admits, begins, shows, takes}
+use Rattle.node.specs.Theorems.{OpenBytesAreCounted}
 
 -- what is known about the bytes that were taken and their count
 record Known (all : List Taken) (intake : IntakeView) : Type 0 where

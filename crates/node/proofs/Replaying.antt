@@ -9,7 +9,7 @@ use Rattle.world_base.specs.declared.node_core.Handed.{Handed}
 use Rattle.world_base.specs.declared.node_core.item.Item.{Item}
 use Rattle.world_base.specs.declared.node_core.Port.{Port}
 use Rattle.world_base.specs.node_core.Core.{CountedCore}
-use Rattle.world_base.specs.node_core.Handing.{hands_over}
+use Rattle.world_base.specs.node_core.PortOutput.{hands_over}
 use Rattle.world_base.specs.node_core.Losses.{ItemStepOrLost}
 use Rattle.node.specs.State.{Replays}
 use Rattle.node.specs.State.Replays.{opens, steps, hands}

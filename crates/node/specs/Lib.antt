@@ -1,9 +1,9 @@
-pub mod Counting
+pub mod OpenBytes
 pub mod Intake
-pub mod Cutting
+pub mod CutTimes
 pub mod Growth
-pub mod Laws
+pub mod Theorems
 pub mod Overdue
-pub mod Running
+pub mod LockedNode
 pub mod Report
 pub mod State

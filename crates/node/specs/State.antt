@@ -8,7 +8,7 @@ use Rattle.ballot_base.specs.declared.message.Effect.{Effect}
 use Rattle.world_base.specs.declared.node_core.item.Item.{Item}
 use Rattle.world_base.specs.declared.node_core.Port.{Port}
 use Rattle.world_base.specs.node_core.Core.{CountedCore, opening_core}
-use Rattle.world_base.specs.node_core.Handing.{hands_over}
+use Rattle.world_base.specs.node_core.PortOutput.{hands_over}
 use Rattle.world_base.specs.node_core.Losses.{ItemStepOrLost}
 
 -- A chain from the first state of a node: one step for each item, in order, each with the lane from

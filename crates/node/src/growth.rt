@@ -15,7 +15,7 @@ const MAX_UNCUT_BYTES: u64 = 16_777_216;
 /// What a command of the log counts in addition to the bytes of its packet.
 const COMMAND_BYTES: u64 = 128;
 
-/// Says whether these bytes and commands count more than 16 MiB, and more than the snapshot has
+/// Returns true if these bytes and commands count more than 16 MiB, and more than the snapshot has
 /// bytes. Items brought them since the last cut.
 pub(crate) fn is_large(bytes: u64, commands: u64, snapshot: &[u8]) -> bool
     ensures { (all : ℕ) → bytes ≡ saturated all →

@@ -127,7 +127,7 @@ fn open_places(status: &Option<Status>) -> u64
     }
 }
 
-// Says whether everything in the first places of the log is agreed, or everything in the log.
+// Returns true if everything in the first places of the log is agreed, or everything in the log.
 fn is_agreed(earlier_end: u64, status: &Status) -> bool
     ensures { result ≡ is_agreed earlier_end status.now }
 {

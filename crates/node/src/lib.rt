@@ -1,23 +1,23 @@
 //! A node: a replica with its connections and the inbox from which its items come.
 #![tactic(auto)]
 
-mod cutting;
+mod cut_times;
 mod growth;
 mod intake;
-mod laws;
+mod locked_node;
 mod naming;
 mod node_state;
 mod overdue;
 mod permit;
 mod report;
-mod running;
+mod theorems;
 
 pub use ballot_base::errors::{OpeningError, ProposeError};
 pub use ballot_base::{Body, Config, Effect, MAX_NODE, Members, Message, Status};
 pub use broker_spec::{Command, ConnectionName, Output};
-pub use cutting::cuts_after;
+pub use cut_times::cuts_after;
 pub use intake::Intake;
-pub use laws::{cuts_come_apart, cuts_come_often, open_bytes_are_counted};
+pub use locked_node::{HasState, Node};
 pub use machine::Memory;
 pub use naming::NodeNaming;
 pub use node_base::devices::{Gate, NoGate, PIECE_BYTES};
@@ -25,6 +25,6 @@ pub use node_state::NodeState;
 pub use overdue::is_overdue;
 pub use permit::Permit;
 pub use report::Report;
-pub use running::{HasState, Node};
+pub use theorems::{cuts_come_apart, cuts_come_often, open_bytes_are_counted};
 pub use world_base::node_connections::{Handed, Piece, Port, Standing};
 pub use world_base::node_core::{Item, NodeCore};

@@ -7,8 +7,8 @@ ghost use Rattle.mailbox.specs.declared.lane.TheConstants.{MAX_SENT};
 ghost use Rattle.ballot_base.specs.Replica.{status_of};
 ghost use Rattle.lists.specs.Lists.{IsPrefixOf};
 ghost use Rattle.world_base.specs.node_connections.Stands.{standing_of};
-ghost use Rattle.world_base.specs.node_connections.Pending.{handed_after, pending_bytes};
-ghost use Rattle.world_base.specs.node_core.Handing.{hands_over, idle_ports, listed_at};
+ghost use Rattle.world_base.specs.node_connections.PendingOutput.{handed_after, pending_bytes};
+ghost use Rattle.world_base.specs.node_core.PortOutput.{hands_over, idle_ports, listed_at};
 ghost use Rattle.node.specs.Growth.{wants_cut};
 ghost use Rattle.node.specs.Report.{HasCapacity, ReportsAll};
 ghost use Rattle.node.specs.State.{Replays, TakesOne, next_taking};
@@ -86,7 +86,7 @@ impl<J: NodeNaming> NodeState<J> {
         self.receiver.lanes()
     }
 
-    /// Says whether these are all lanes of its inbox, in the order of their numbers.
+    /// Returns true if these are all lanes of its inbox, in the order of their numbers.
     pub fn has_all(&self, lanes: &[Lane<Item, J>]) -> bool
         ensures { IsTrue result ↔ AreAllLanes self.now.receiver lanes.now }
     {
@@ -222,8 +222,8 @@ impl<J: NodeNaming> NodeState<J> {
         self.core.status()
     }
 
-    /// Says whether the log is to be cut because of its size. It is if it has commands to drop, and
-    /// what was taken since the last cut counts more than 16 MiB and more than the snapshot has
+    /// Returns true if the log is to be cut because of its size. It is if it has commands to drop,
+    /// and what was taken since the last cut counts more than 16 MiB and more than the snapshot has
     /// bytes.
     pub fn wants_cut(&self) -> bool
         ensures { result ≡ wants_cut self.now.receiver.taken self.now.node.core }

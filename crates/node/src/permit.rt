@@ -1,7 +1,7 @@
 // The permit to take items of a node.
 
 ghost use Rattle.std.specs.Prelude.{◌≡◌, ◌↔◌, None, Some, IfSome, IsTrue, true};
-ghost use Rattle.node.specs.Running.{IsNext};
+ghost use Rattle.node.specs.LockedNode.{IsNext};
 
 use crate::naming::NodeNaming;
 use crate::node_state::NodeState;
@@ -27,7 +27,7 @@ pub struct Permit<'n> {
 
 impl<'n> Model for Permit<'n> {
     ghost use Rattle.std.specs.Prelude.{◌≡◌, IfSome};
-    ghost use Rattle.node.specs.Running.{Permit};
+    ghost use Rattle.node.specs.LockedNode.{Permit};
 
     ghost Value = { Permit };
 
@@ -80,8 +80,8 @@ impl<'n> Permit<'n> {
         self.taking
     }
 
-    /// Says whether the node's next taking is the one that a gate was asked for. Without a gate it
-    /// is.
+    /// Returns true if the node's next taking is the one that a gate was asked for. Without a gate
+    /// it is.
     pub fn is_for<J: NodeNaming>(&self, state: &NodeState<J>) -> bool
         ensures { IsTrue result ↔ IsNext self.now state.now }
     {

@@ -1,6 +1,6 @@
-pub mod Hearing
+pub mod Reports
 pub mod Inside
-pub mod Laws
+pub mod Theorems
 pub mod Life
 pub mod Whole
-pub mod Writing
+pub mod Written

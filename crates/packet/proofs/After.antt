@@ -12,12 +12,12 @@ use Rattle.packet_base.specs.declared.stop.Stop.{Stop}
 use Rattle.packet_base.specs.declared.stop.Stop.TheVariants as stops
 use Rattle.packet_base.specs.declared.header.Header.{Header}
 use Rattle.packet_base.specs.Header.{header_of}
-use Rattle.packet_base.specs.Reading.{AreBytes, length_at}
+use Rattle.packet_base.specs.Readers.{AreBytes, length_at}
 use Rattle.packet_base.specs.Outcome.{StopsBy}
 use Rattle.packet_base.proofs.LengthForms.{length_left}
 use Rattle.packet.specs.declared.packet.Packet.{Packet}
-use Rattle.packet.specs.declared.decoding.Step.{Step}
-use Rattle.packet.specs.declared.decoding.Step.TheVariants as steps
+use Rattle.packet.specs.declared.decoder.Step.{Step}
+use Rattle.packet.specs.declared.decoder.Step.TheVariants as steps
 use Rattle.packet.specs.declared.error.DecodeFault.{DecodeFault}
 use Rattle.packet.specs.declared.error.DecodeFault.TheVariants as faults
 use Rattle.packet.specs.Spelling.{Spells, max_body}

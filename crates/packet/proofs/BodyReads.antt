@@ -6,7 +6,7 @@ use Rattle.packet_base.specs.declared.header.DeliveryFlags.{DeliveryFlags}
 use Rattle.packet_base.specs.declared.header.Header.{Header}
 use Rattle.packet_base.specs.declared.header.Header.TheVariants as headers
 use Rattle.packet_base.specs.Spelling.{number, IsId}
-use Rattle.packet_base.specs.Reading.{AreBytes, ◌>>=◌, ended}
+use Rattle.packet_base.specs.Readers.{AreBytes, ◌>>=◌, ended}
 use Rattle.packet_base.proofs.Steps.{then_if, seq_if}
 use Rattle.packet_base.proofs.FieldsFound.{ended_found}
 use Rattle.packet.specs.declared.packet.Packet.{Packet}

@@ -3,7 +3,7 @@ use Rattle.std.proofs.Common.{◌≡◌, ℕ, ◌<◌, true, false, eqb, List, [
 use Rattle.std.specs.Prelude.{IfOk}
 use Rattle.std.proofs.lemmas.Bool.{eqb-true}
 use Rattle.packet_base.specs.declared.refusal_code.RefusalCode.TheVariants as codes
-use Rattle.packet_base.specs.Reading.{AreBytes, byte_at, ended}
+use Rattle.packet_base.specs.Readers.{AreBytes, byte_at, ended}
 use Rattle.packet_base.proofs.Steps.{then_if, seq_if, cond_if}
 use Rattle.packet_base.proofs.FieldsFound.{Splits, Splits-then, Splits-all, byte_found, ended_found}
 use Rattle.packet.specs.declared.connack.Connack.{Connack}

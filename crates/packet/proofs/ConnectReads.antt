@@ -7,7 +7,7 @@ use Rattle.std.proofs.lemmas.Bool.Decides.{Decides-eqb}
 use Rattle.std.proofs.lemmas.List.{append-nil}
 use Rattle.std.proofs.lemmas.Slice.Eq.{starts_is}
 use Rattle.packet_base.specs.Spelling.{number, text, bit}
-use Rattle.packet_base.specs.Reading.{AreBytes, byte_at, number_at, text_at, ended, is_text}
+use Rattle.packet_base.specs.Readers.{AreBytes, byte_at, number_at, text_at, ended, is_text}
 use Rattle.packet_base.proofs.Steps.{then_if, seq_if, check_if}
 use Rattle.packet_base.proofs.FieldsFound.{AreBytes-drop, Splits, Splits-then, byte_found, number_found, text_found, ended_found}
 use Rattle.packet_base.proofs.FieldsAgain.{number_again, text_again}

@@ -3,7 +3,7 @@ use Rattle.std.proofs.Common.{◌≡◌, ℕ, ◌^◌, ◌<◌, List, [], Ok, re
 use Rattle.std.specs.Prelude.{IfOk}
 use Rattle.std.proofs.lemmas.List.{append-nil}
 use Rattle.packet_base.specs.Spelling.{number, IsId}
-use Rattle.packet_base.specs.Reading.{AreBytes, id_at, ended}
+use Rattle.packet_base.specs.Readers.{AreBytes, id_at, ended}
 use Rattle.packet_base.proofs.Steps.{then_if, seq_if}
 use Rattle.packet_base.proofs.FieldsFound.{Splits, Splits-all, id_found, ended_found}
 use Rattle.packet_base.proofs.FieldsAgain.{id_again}

@@ -6,7 +6,7 @@ use Rattle.std.specs.List.{flat_map, All}
 use Rattle.std.proofs.lemmas.Bool.{eqb-true}
 use Rattle.topics.specs.Text.{is_filter}
 use Rattle.packet_base.specs.Spelling.{number, text}
-use Rattle.packet_base.specs.Reading.{AreBytes, byte_at, id_at}
+use Rattle.packet_base.specs.Readers.{AreBytes, byte_at, id_at}
 use Rattle.packet_base.specs.TopicFields.{filter_at}
 use Rattle.packet_base.specs.Lists.{list_of}
 use Rattle.packet_base.proofs.Steps.{then_if, cond_if}
@@ -14,7 +14,7 @@ use Rattle.packet_base.proofs.FieldsFound.{Splits, Splits-then, byte_found, id_f
 use Rattle.packet_base.proofs.FieldsAgain.{id_again, filter_again}
 use Rattle.packet_base.proofs.ListsRead.{IsItem, list_found, list_again}
 use Rattle.packet_base.specs.declared.qos.QoS.{QoS}
-use Rattle.packet_base.specs.declared.qos.QoS.TheVariants as qualities
+use Rattle.packet_base.specs.declared.qos.QoS.TheVariants as qos_levels
 use Rattle.packet.specs.declared.subscribe.Subscription.{Subscription}
 use Rattle.packet.specs.declared.subscribe.Subscribe.{Subscribe}
 use Rattle.packet.specs.declared.suback.SubackCode.{SubackCode}
@@ -69,9 +69,9 @@ granted_of_again : (code : SubackCode) → suback_code_of (granted_number code) 
 granted_of_again (return_codes.Granted qos) = at_level qos
   where
     at_level : (qos : QoS) → suback_code_of (qos_number qos) ≡ Ok (return_codes.Granted qos)
-    at_level qualities.AtMostOnce = refl
-    at_level qualities.AtLeastOnce = refl
-    at_level qualities.ExactlyOnce = refl
+    at_level qos_levels.AtMostOnce = refl
+    at_level qos_levels.AtLeastOnce = refl
+    at_level qos_levels.ExactlyOnce = refl
 granted_of_again return_codes.Failure = refl
 
 granted_again : (code : SubackCode) (rest : List ℕ) → Unit {0} → granted_at (granted code ++ rest) ≡ Ok (code, rest)

@@ -6,12 +6,12 @@ use Rattle.packet_base.specs.declared.stop.Stop.{Stop}
 use Rattle.packet_base.specs.declared.stop.Stop.TheVariants as stops
 use Rattle.packet_base.specs.declared.header.Header.{Header}
 use Rattle.packet_base.specs.Header.{header_of}
-use Rattle.packet_base.specs.Reading.{◌>>=◌, ◌>>◌, check, length_at}
+use Rattle.packet_base.specs.Readers.{◌>>=◌, ◌>>◌, check, length_at}
 use Rattle.packet_base.proofs.Growing.{StandsWithMore, grows_check, grows_same, grows_then, length_grows}
 use Rattle.packet.specs.declared.packet.Packet.{Packet}
 use Rattle.packet.specs.Spelling.{max_body}
 use Rattle.packet.specs.Verdict.{body_of, verdict}
-use Rattle.packet.specs.Laws.{FrontsAreUnfinished, FaultsStay}
+use Rattle.packet.specs.Theorems.{FrontsAreUnfinished, FaultsStay}
 use Rattle.packet.proofs.PacketReads.{verdict_again}
 use Rattle.packet.proofs.After.{ok_is}
 

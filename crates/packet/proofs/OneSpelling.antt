@@ -7,7 +7,7 @@ use Rattle.packet_base.specs.Spelling.{remaining_length}
 use Rattle.packet.specs.declared.packet.Packet.{Packet}
 use Rattle.packet.specs.Spelling.{header, body, spelling}
 use Rattle.packet.specs.Verdict.{verdict}
-use Rattle.packet.specs.Laws.{HasOneSpelling, SpellingSpells, NoneBeginsAnother}
+use Rattle.packet.specs.Theorems.{HasOneSpelling, SpellingSpells, NoneBeginsAnother}
 use Rattle.packet.proofs.PacketReads.{verdict_again}
 use Rattle.packet.proofs.After.{ok_is}
 

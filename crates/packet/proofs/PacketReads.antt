@@ -6,7 +6,7 @@ use Rattle.std.proofs.lemmas.List.{take_at, drop_at, length-append, length-take,
 use Rattle.packet_base.specs.declared.header.Header.{Header}
 use Rattle.packet_base.specs.Header.{first_byte, header_of}
 use Rattle.packet_base.specs.Spelling.{IsLength}
-use Rattle.packet_base.specs.Reading.{AreBytes, length_at}
+use Rattle.packet_base.specs.Readers.{AreBytes, length_at}
 use Rattle.packet_base.proofs.Steps.{then_if, check_if}
 use Rattle.packet_base.proofs.FieldsFound.{AreBytes-take}
 use Rattle.packet_base.proofs.LengthForms.{Heads, length_found, length_again, short_form}

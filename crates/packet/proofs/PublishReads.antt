@@ -5,7 +5,7 @@ use Rattle.topics.specs.Text.{is_topic}
 use Rattle.packet_base.specs.declared.header.DeliveryFlags.{DeliveryFlags}
 use Rattle.packet_base.specs.declared.header.DeliveryFlags.TheVariants as flags
 use Rattle.packet_base.specs.Spelling.{number, text}
-use Rattle.packet_base.specs.Reading.{AreBytes, id_at}
+use Rattle.packet_base.specs.Readers.{AreBytes, id_at}
 use Rattle.packet_base.specs.TopicFields.{topic_at}
 use Rattle.packet_base.proofs.Steps.{then_if}
 use Rattle.packet_base.proofs.FieldsFound.{Splits, Splits-then, id_found, topic_found}

@@ -5,7 +5,7 @@ use Rattle.packet_base.specs.declared.refusal_code.RefusalCode.TheVariants as co
 use Rattle.packet_base.specs.declared.stop.Stop.{Stop}
 use Rattle.packet_base.specs.RefusalCode.{code_number}
 use Rattle.packet_base.specs.Spelling.{bit}
-use Rattle.packet_base.specs.Reading.{◌>>=◌, ◌>>◌, malformed, byte_at, ended}
+use Rattle.packet_base.specs.Readers.{◌>>=◌, ◌>>◌, malformed, byte_at, ended}
 use Rattle.packet.specs.declared.connack.Connack.{Connack}
 use Rattle.packet.specs.declared.connack.Connack.TheVariants as connacks
 

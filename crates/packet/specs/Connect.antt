@@ -7,7 +7,7 @@ use Rattle.packet_base.specs.declared.refusal_code.RefusalCode.TheVariants as co
 use Rattle.packet_base.specs.declared.stop.Stop.{Stop}
 use Rattle.packet_base.specs.declared.stop.Stop.TheVariants as stops
 use Rattle.packet_base.specs.Spelling.{number, text, bit}
-use Rattle.packet_base.specs.Reading.{◌>>=◌, ◌>>◌, check, byte_at, number_at, text_at, ended}
+use Rattle.packet_base.specs.Readers.{◌>>=◌, ◌>>◌, check, byte_at, number_at, text_at, ended}
 use Rattle.packet_base.specs.ClientId.{has_client_length, is_client}
 use Rattle.packet.specs.declared.connect.Connect.{Connect}
 

@@ -4,17 +4,17 @@ use Rattle.packet_base.specs.declared.stop.Stop.{Stop}
 use Rattle.packet_base.specs.declared.header.DeliveryFlags.{DeliveryFlags}
 use Rattle.packet_base.specs.declared.header.DeliveryFlags.TheVariants as flags
 use Rattle.packet_base.specs.Spelling.{number, IsId}
-use Rattle.packet_base.specs.Reading.{◌>>=◌, id_at}
+use Rattle.packet_base.specs.Readers.{◌>>=◌, id_at}
 use Rattle.packet_base.specs.declared.qos.QoS.{QoS}
-use Rattle.packet_base.specs.declared.qos.QoS.TheVariants as qualities
+use Rattle.packet_base.specs.declared.qos.QoS.TheVariants as qos_levels
 use Rattle.packet.specs.declared.delivery.Delivery.{Delivery}
 use Rattle.packet.specs.declared.delivery.Delivery.TheVariants as deliveries
 
 -- the QoS of a delivery
 abbrev pub delivery_qos : Delivery → QoS
-delivery_qos deliveries.AtMostOnce = qualities.AtMostOnce
-delivery_qos (deliveries.AtLeastOnce dup id) = qualities.AtLeastOnce
-delivery_qos (deliveries.ExactlyOnce dup id) = qualities.ExactlyOnce
+delivery_qos deliveries.AtMostOnce = qos_levels.AtMostOnce
+delivery_qos (deliveries.AtLeastOnce dup id) = qos_levels.AtLeastOnce
+delivery_qos (deliveries.ExactlyOnce dup id) = qos_levels.ExactlyOnce
 
 -- the identifier, if the QoS has one
 abbrev pub id_of : Delivery → Option ℕ

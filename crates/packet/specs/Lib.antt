@@ -10,5 +10,5 @@ pub mod Unsubscribe
 pub mod Spelling
 pub mod Verdict
 pub mod Refusals
-pub mod Laws
+pub mod Theorems
 pub mod FaultRows

@@ -4,7 +4,7 @@ use Rattle.topics.specs.Text.{is_topic}
 use Rattle.packet_base.specs.declared.stop.Stop.{Stop}
 use Rattle.packet_base.specs.declared.header.DeliveryFlags.{DeliveryFlags}
 use Rattle.packet_base.specs.Spelling.{text}
-use Rattle.packet_base.specs.Reading.{◌>>=◌}
+use Rattle.packet_base.specs.Readers.{◌>>=◌}
 use Rattle.packet_base.specs.TopicFields.{topic_at}
 use Rattle.packet.specs.declared.publish.Publish.{Publish}
 use Rattle.packet.specs.Delivery.{delivery_id, FitsDelivery, delivery_at}

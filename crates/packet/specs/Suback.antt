@@ -3,7 +3,7 @@ use Rattle.std.specs.Prelude.{ℕ, ◌==◌, if◌then◌else◌, List, [], ◌�
 use Rattle.std.specs.List.{flat_map}
 use Rattle.packet_base.specs.declared.stop.Stop.{Stop}
 use Rattle.packet_base.specs.Spelling.{number, IsId}
-use Rattle.packet_base.specs.Reading.{◌>>=◌, byte_at, id_at}
+use Rattle.packet_base.specs.Readers.{◌>>=◌, byte_at, id_at}
 use Rattle.packet_base.specs.Lists.{list_of}
 use Rattle.packet.specs.declared.suback.SubackCode.{SubackCode}
 use Rattle.packet.specs.declared.suback.SubackCode.TheVariants as return_codes

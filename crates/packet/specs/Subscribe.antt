@@ -4,7 +4,7 @@ use Rattle.std.specs.List.{flat_map, All}
 use Rattle.topics.specs.Text.{is_filter}
 use Rattle.packet_base.specs.declared.stop.Stop.{Stop}
 use Rattle.packet_base.specs.Spelling.{number, text, IsId}
-use Rattle.packet_base.specs.Reading.{◌>>=◌, byte_at, id_at}
+use Rattle.packet_base.specs.Readers.{◌>>=◌, byte_at, id_at}
 use Rattle.packet_base.specs.TopicFields.{filter_at}
 use Rattle.packet_base.specs.Lists.{list_of}
 use Rattle.packet.specs.declared.subscribe.Subscription.{Subscription}

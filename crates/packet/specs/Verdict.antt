@@ -7,14 +7,14 @@ use Rattle.packet_base.specs.declared.stop.Stop.TheVariants as stops
 use Rattle.packet_base.specs.declared.header.Header.{Header}
 use Rattle.packet_base.specs.declared.header.Header.TheVariants as headers
 use Rattle.packet_base.specs.Header.{header_of}
-use Rattle.packet_base.specs.Reading.{◌>>=◌, ◌>>◌, check, ended, length_at}
+use Rattle.packet_base.specs.Readers.{◌>>=◌, ◌>>◌, check, ended, length_at}
 use Rattle.packet_base.specs.TopicFields.{topic_at}
 use Rattle.packet_base.specs.Lists.{begins_list}
 use Rattle.packet_base.specs.Outcome.{StopsBy}
 use Rattle.packet.specs.declared.packet.Packet.{Packet}
 use Rattle.packet.specs.declared.packet.Packet.TheVariants as packets
-use Rattle.packet.specs.declared.decoding.Step.{Step}
-use Rattle.packet.specs.declared.decoding.Step.TheVariants as steps
+use Rattle.packet.specs.declared.decoder.Step.{Step}
+use Rattle.packet.specs.declared.decoder.Step.TheVariants as steps
 use Rattle.packet.specs.declared.error.DecodeFault.{DecodeFault}
 use Rattle.packet.specs.declared.error.DecodeFault.TheVariants as faults
 use Rattle.packet.specs.Spelling.{max_body, Spells, IsPacket}

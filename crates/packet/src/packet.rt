@@ -95,15 +95,15 @@ impl Packet {
         }
     }
 
-    /// Says whether `encode` would answer `TooLarge`: whether the body has more than [`MAX_BODY`]
-    /// bytes.
+    /// Returns true if `encode` would answer `TooLarge`: whether the body has more than
+    /// [`MAX_BODY`] bytes.
     pub fn is_too_large(&self) -> bool
         ensures { IsTrue result ↔ IsTooLarge self.now }
     {
         self.body_len() > MAX_BODY
     }
 
-    /// Says whether no list of the packet is empty, which `encode` requires.
+    /// Returns true if no list of the packet is empty, which `encode` requires.
     pub fn has_no_empty_list(&self) -> bool
         ensures { IsTrue result ↔ IsListed self.now }
     {

@@ -7,7 +7,7 @@ use Rattle.std.proofs.lemmas.Str.{is_utf8-from_IsUtf8}
 use Rattle.topics.specs.Text.{contains_byte}
 use Rattle.topics.specs.declared.malformed.MalformedKind.{MalformedKind}
 use Rattle.topics.specs.declared.malformed.MalformedKind.TheVariants as kinds
-use Rattle.packet_base.specs.Reading.{is_text}
+use Rattle.packet_base.specs.Readers.{is_text}
 use Rattle.packet_base.specs.ClientId.{has_client_length, is_client}
 
 -- a text of the right length without U+0000 is one

@@ -9,7 +9,7 @@ use Rattle.packet_base.specs.Spelling.{number, text}
 use Rattle.topics.specs.declared.malformed.MalformedKind.{MalformedKind}
 use Rattle.topics.specs.declared.malformed.MalformedKind.TheVariants as kinds
 use Rattle.topics.specs.Text.{contains_byte, levels, has_length, has_no_wildcard, has_wildcards_in_place, is_shallow, topic_fault, filter_fault, is_topic, is_filter}
-use Rattle.packet_base.specs.Reading.{front_at, number_at, id_at, text_of, text_at, is_text}
+use Rattle.packet_base.specs.Readers.{front_at, number_at, id_at, text_of, text_at, is_text}
 use Rattle.packet_base.specs.TopicFields.{topic_at, filter_at}
 
 pub front_again : (front rest : List ℕ) (len : ℕ) → length front ≡ len → front_at len (front ++ rest) ≡ Ok (front, rest)

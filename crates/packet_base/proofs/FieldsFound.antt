@@ -9,7 +9,7 @@ use Rattle.std.specs.Str.{is_utf8}
 use Rattle.topics.specs.declared.malformed.MalformedKind.{MalformedKind}
 use Rattle.topics.specs.Text.{contains_byte, topic_fault, filter_fault, is_topic, is_filter}
 use Rattle.packet_base.specs.Spelling.{number, text}
-use Rattle.packet_base.specs.Reading.{AreBytes, ◌>>◌, byte_at, front_at, number_at, id_at, text_of, text_at, ended, is_text}
+use Rattle.packet_base.specs.Readers.{AreBytes, ◌>>◌, byte_at, front_at, number_at, id_at, text_of, text_at, ended, is_text}
 use Rattle.packet_base.specs.TopicFields.{faultless, topic_of, topic_at, filter_of, filter_at}
 use Rattle.packet_base.proofs.Steps.{then_if, check_if, cond_if}
 

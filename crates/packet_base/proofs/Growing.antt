@@ -2,7 +2,7 @@
 use Rattle.std.proofs.Common.{◌≡◌, ℕ, ◌-◌, Bool, true, false, cond, ltb, eqb, List, [], ◌∷◌, ◌++◌, Result, Ok, Err, refl, ap}
 use Rattle.packet_base.specs.declared.stop.Stop.{Stop}
 use Rattle.packet_base.specs.declared.stop.Stop.TheVariants as stops
-use Rattle.packet_base.specs.Reading.{◌>>=◌, ◌>>◌, check, length_at}
+use Rattle.packet_base.specs.Readers.{◌>>=◌, ◌>>◌, check, length_at}
 
 -- the outcome with more bytes after
 abbrev pub StandsWithMore : {A : Type 0} → List ℕ → Result (A × List ℕ) Stop → Result (A × List ℕ) Stop → Type 0

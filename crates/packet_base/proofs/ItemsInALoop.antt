@@ -5,7 +5,7 @@ use Rattle.std.proofs.lemmas.List.{append-nil}
 use Rattle.topics.specs.declared.malformed.MalformedKind.TheVariants as kinds
 use Rattle.packet_base.specs.declared.stop.Stop.{Stop}
 use Rattle.packet_base.specs.declared.stop.Stop.TheVariants as stops
-use Rattle.packet_base.specs.Reading.{◌>>=◌, byte_at}
+use Rattle.packet_base.specs.Readers.{◌>>=◌, byte_at}
 use Rattle.packet_base.specs.Lists.{ItemAt, items_of, items_at}
 use Rattle.packet_base.specs.Outcome.{StopsBy}
 

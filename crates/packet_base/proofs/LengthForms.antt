@@ -5,7 +5,7 @@ use Rattle.std.proofs.lemmas.Bool.{cases_lt, ltb-false, ltb-true, le-ltb, lt-ltb
 use Rattle.std.proofs.Math.Nat.{pow-succ'}
 use Rattle.std.proofs.Math.Dec.{eqb-suc-zero}
 use Rattle.packet_base.specs.Spelling.{IsLength, length_digits, remaining_length}
-use Rattle.packet_base.specs.Reading.{AreBytes, length_at}
+use Rattle.packet_base.specs.Readers.{AreBytes, length_at}
 use Rattle.packet_base.proofs.Steps.{then_if, check_if, cond_if}
 use Rattle.packet_base.proofs.Lengths.{length_longer}
 

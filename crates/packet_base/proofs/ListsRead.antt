@@ -6,7 +6,7 @@ use Rattle.std.proofs.lemmas.Bool.{eqb-true}
 use Rattle.std.proofs.lemmas.List.{length-append, nil_from_length}
 use Rattle.std.proofs.lemmas.List.Elements.{All-nil, All-cons, All-head, All-tail}
 use Rattle.std.proofs.Math.Dec.{eqb-suc-zero}
-use Rattle.packet_base.specs.Reading.{AreBytes}
+use Rattle.packet_base.specs.Readers.{AreBytes}
 use Rattle.packet_base.specs.Lists.{ItemAt, items_of, items_at, list_of}
 use Rattle.packet_base.proofs.Steps.{then_if, check_if, cond_if}
 use Rattle.packet_base.proofs.FieldsFound.{Splits}

@@ -4,7 +4,7 @@ use Rattle.std.specs.Prelude.{IfOk}
 use Rattle.std.proofs.lemmas.Bool.{eqb-true}
 use Rattle.packet_base.proofs.Steps.{cond_if}
 use Rattle.packet_base.specs.declared.qos.QoS.{QoS}
-use Rattle.packet_base.specs.declared.qos.QoS.TheVariants as qualities
+use Rattle.packet_base.specs.declared.qos.QoS.TheVariants as qos_levels
 use Rattle.packet_base.specs.QoS.{qos_number, qos_of}
 
 pub qos_found : (number : ℕ) → IfOk (qos_of number) (λ qos. number ≡ qos_number qos)
@@ -15,6 +15,6 @@ qos_found number =
     cond_if (eqb number 2) _ _ Q (eqb-true number 2) (λ _. tt)))
 
 pub qos_again : (qos : QoS) → qos_of (qos_number qos) ≡ Ok qos
-qos_again qualities.AtMostOnce = refl
-qos_again qualities.AtLeastOnce = refl
-qos_again qualities.ExactlyOnce = refl
+qos_again qos_levels.AtMostOnce = refl
+qos_again qos_levels.AtLeastOnce = refl
+qos_again qos_levels.ExactlyOnce = refl

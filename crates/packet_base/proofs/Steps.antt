@@ -2,7 +2,7 @@
 use Rattle.std.proofs.Common.{◌≡◌, Bool, true, false, cond, Result, Ok, Err, refl}
 use Rattle.std.specs.Prelude.{IfOk, IsTrue}
 use Rattle.packet_base.specs.declared.stop.Stop.{Stop}
-use Rattle.packet_base.specs.Reading.{◌>>=◌, ◌>>◌, check}
+use Rattle.packet_base.specs.Readers.{◌>>=◌, ◌>>◌, check}
 
 -- a step with a value, and what continues from it
 pub then_if : {A B : Type 0} (r : Result A Stop) (f : A → Result B Stop) (P : A → Type 0) (Q : B → Type 0) → IfOk r P → ((x : A) → P x → IfOk (f x) Q) → IfOk (r >>= f) Q

@@ -10,7 +10,7 @@ use Rattle.topics.specs.Text.{contains_byte, topic_fault, filter_fault, RefusesB
 use Rattle.packet_base.specs.declared.stop.Stop.{Stop}
 use Rattle.packet_base.specs.declared.stop.Stop.TheVariants as stops
 use Rattle.packet_base.specs.Outcome.{StopsBy}
-use Rattle.packet_base.specs.Reading.{◌>>=◌, ◌>>◌, check, number_at, front_at, is_text, text_of, text_at}
+use Rattle.packet_base.specs.Readers.{◌>>=◌, ◌>>◌, check, number_at, front_at, is_text, text_of, text_at}
 use Rattle.packet_base.specs.TopicFields.{faultless, topic_of, topic_at, filter_of, filter_at}
 use Rattle.packet_base.specs.Inside.{name_of, pattern_of}
 

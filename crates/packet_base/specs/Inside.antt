@@ -1,7 +1,7 @@
 -- Definitions for private clauses.
 use Rattle.std.specs.Prelude.{ℕ, ◌+◌, ◌^◌, List, Result}
 use Rattle.packet_base.specs.declared.stop.Stop.{Stop}
-use Rattle.packet_base.specs.Reading.{◌>>=◌, text_of}
+use Rattle.packet_base.specs.Readers.{◌>>=◌, text_of}
 use Rattle.packet_base.specs.TopicFields.{topic_of, filter_of}
 
 -- a bound that this many more bytes of a Remaining Length cannot reach

@@ -1,7 +1,7 @@
 pub mod RefusalCode
 pub mod Header
 pub mod Spelling
-pub mod Reading
+pub mod Readers
 pub mod Outcome
 pub mod Lists
 pub mod Inside

@@ -4,7 +4,7 @@ use Rattle.std.specs.Prelude.{length, Result, Ok}
 use Rattle.topics.specs.declared.malformed.MalformedKind.TheVariants as kinds
 use Rattle.packet_base.specs.declared.stop.Stop.{Stop}
 use Rattle.packet_base.specs.declared.stop.Stop.TheVariants as stops
-use Rattle.packet_base.specs.Reading.{◌>>=◌, ◌>>◌, check, byte_at, id_at}
+use Rattle.packet_base.specs.Readers.{◌>>=◌, ◌>>◌, check, byte_at, id_at}
 
 -- how an item is read: its value, and the bytes after it
 abbrev pub ItemAt : Type 0 → Type 0

@@ -2,22 +2,22 @@
 use Rattle.std.specs.Prelude.{ℕ, ◌==◌, nat_lt, if◌then◌else◌, Result, Ok, Option, Some, None}
 use Rattle.topics.specs.declared.malformed.MalformedKind.TheVariants as kinds
 use Rattle.packet_base.specs.declared.stop.Stop.{Stop}
-use Rattle.packet_base.specs.Reading.{malformed}
+use Rattle.packet_base.specs.Readers.{malformed}
 use Rattle.packet_base.specs.declared.qos.QoS.{QoS}
-use Rattle.packet_base.specs.declared.qos.QoS.TheVariants as qualities
+use Rattle.packet_base.specs.declared.qos.QoS.TheVariants as qos_levels
 
 -- the number of a QoS
 abbrev pub qos_number : QoS → ℕ
-qos_number qualities.AtMostOnce = 0
-qos_number qualities.AtLeastOnce = 1
-qos_number qualities.ExactlyOnce = 2
+qos_number qos_levels.AtMostOnce = 0
+qos_number qos_levels.AtLeastOnce = 1
+qos_number qos_levels.ExactlyOnce = 2
 
 -- the QoS of a number; there are three
 abbrev pub qos_of : ℕ → Result QoS Stop
 qos_of number =
-    if number == 0 then Ok qualities.AtMostOnce else
-    if number == 1 then Ok qualities.AtLeastOnce else
-    if number == 2 then Ok qualities.ExactlyOnce else malformed kinds.Qos
+    if number == 0 then Ok qos_levels.AtMostOnce else
+    if number == 1 then Ok qos_levels.AtLeastOnce else
+    if number == 2 then Ok qos_levels.ExactlyOnce else malformed kinds.Qos
 
 -- the lower QoS of two
 abbrev pub lower_qos : QoS → QoS → QoS

@@ -3,7 +3,7 @@ use Rattle.std.specs.Prelude.{ℕ, List, Result, Ok, Option, Some, None}
 use Rattle.topics.specs.Text.{topic_fault, filter_fault}
 use Rattle.topics.specs.declared.malformed.MalformedKind.{MalformedKind}
 use Rattle.packet_base.specs.declared.stop.Stop.{Stop}
-use Rattle.packet_base.specs.Reading.{◌>>=◌, ◌>>◌, malformed, text_at}
+use Rattle.packet_base.specs.Readers.{◌>>=◌, ◌>>◌, malformed, text_at}
 
 -- a text that its own checks passed, or the first of them that failed
 abbrev pub faultless : Option MalformedKind → Result (Unit {0}) Stop

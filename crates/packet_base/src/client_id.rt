@@ -72,7 +72,7 @@ impl ClientId {
     }
 }
 
-/// Says whether a text has 1 to 64 bytes.
+/// Returns true if a text has 1 to 64 bytes.
 pub fn has_client_length(text: &str) -> bool
     ensures { result ≡ has_client_length text.now }
 {

@@ -14,9 +14,9 @@ ghost use Rattle.std.specs.Prelude.{
 ghost use Rattle.packet_base.specs.Outcome.{Reads};
 ghost use Rattle.packet_base.specs.Lists.{ItemAt};
 
+use crate::field_writers::put_text;
 use crate::reader::Reader;
 use crate::stop::Stop;
-use crate::writing::put_text;
 use std::alloc::Global;
 use topics::Filter;
 

@@ -3,6 +3,7 @@
 #![tactic(auto)]
 
 mod client_id;
+mod field_writers;
 mod header;
 mod item;
 mod packet_id;
@@ -14,9 +15,9 @@ mod refusal_code;
 mod remaining_length;
 mod rows;
 mod stop;
-mod writing;
 
 pub use client_id::{ClientId, has_client_length};
+pub use field_writers::{put_byte, put_bytes, put_number, put_text};
 pub use header::{DeliveryFlags, Header};
 pub use item::ListItem;
 pub use packet_id::PacketId;
@@ -28,4 +29,3 @@ pub use refusal_code::RefusalCode;
 pub use remaining_length::{length_size, put_length, take_length};
 pub use rows::numbers_of_fields;
 pub use stop::{OUT_OF_MEMORY, Stop};
-pub use writing::{put_byte, put_bytes, put_number, put_text};

@@ -15,7 +15,7 @@ ghost use Rattle.std.specs.Prelude.{
 ghost use Rattle.std.specs.List.{AllZip, All, flat_map};
 ghost use Rattle.std.specs.Cmp.Lexicographic.{pointwise, lists_per, lists_equiv};
 ghost use Rattle.packet_base.specs.Outcome.{Gives, IsOutOfMemory};
-ghost use Rattle.packet_base.specs.Reading.{byte_at};
+ghost use Rattle.packet_base.specs.Readers.{byte_at};
 ghost use Rattle.packet_base.specs.Lists.{items_at, list_of};
 
 use crate::item::ListItem;

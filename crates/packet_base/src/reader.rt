@@ -2,8 +2,8 @@
 
 ghost use Rattle.std.specs.Prelude.{◌≡◌, ◌<◌, true, IfOk, IsOk, IsTrue, ◌==◌, nat_eq, length, drop};
 ghost use Rattle.std.specs.List.{starts_with};
-ghost use Rattle.packet_base.specs.Reading.{byte_at, front_at, number_at, id_at, text_at, text_of};
-ghost use Rattle.packet_base.specs.Reading.{ended, is_text};
+ghost use Rattle.packet_base.specs.Readers.{byte_at, front_at, number_at, id_at, text_at, text_of};
+ghost use Rattle.packet_base.specs.Readers.{ended, is_text};
 ghost use Rattle.packet_base.specs.TopicFields.{topic_at, filter_at};
 ghost use Rattle.packet_base.specs.Outcome.{Gives, Reads, TakesNoMemory, IsOutOfMemory};
 ghost use Rattle.packet_base.specs.Inside.{name_of, pattern_of};
@@ -38,7 +38,7 @@ impl<'a> Reader<'a> {
         Reader { rest: bytes }
     }
 
-    /// Says whether all bytes are read.
+    /// Returns true if all bytes are read.
     pub fn is_empty(&self) -> bool
         ensures { result ≡ (length self.now == 0) }
     {
@@ -93,7 +93,7 @@ impl<'a> Reader<'a> {
     }
 
     /// Reads a number of two bytes, the high one first (MQTT 1.5.2).
-    #[tactic(auto, unfolding(crate::specs::Reading::number_at))]
+    #[tactic(auto, unfolding(crate::specs::Readers::number_at))]
     pub fn number(&mut self) -> Result<u16, Stop>
         ensures exact { Reads (λ value. value) result self.new (number_at self.old) }
         ensures memory { TakesNoMemory result }
@@ -103,7 +103,7 @@ impl<'a> Reader<'a> {
     }
 
     /// Reads a Packet Identifier; zero is `Identifier` (MQTT 2.3.1).
-    #[tactic(auto, unfolding(crate::specs::Reading::id_at))]
+    #[tactic(auto, unfolding(crate::specs::Readers::id_at))]
     pub fn id(&mut self) -> Result<PacketId, Stop>
         ensures exact { Reads (λ value. value) result self.new (id_at self.old) }
         ensures memory { TakesNoMemory result }
@@ -117,7 +117,7 @@ impl<'a> Reader<'a> {
 
     /// Reads a text with its length before it (MQTT 1.5.3). Bytes that are not well-formed UTF-8,
     /// or contain U+0000, are `Text`.
-    #[tactic(auto, unfolding(crate::specs::Reading::text_at))]
+    #[tactic(auto, unfolding(crate::specs::Readers::text_at))]
     pub fn text(&mut self) -> Result<&'a str, Stop>
         ensures exact { Reads (λ text. text.now) result self.new (text_at self.old) }
         ensures checked { IfOk result (λ text. is_text text.now ≡ true) }
@@ -130,7 +130,7 @@ impl<'a> Reader<'a> {
 
     /// Reads a Topic Name with its length before it. A text with a fault is `Text`, `Topic` or
     /// `TooDeep` (MQTT 4.7).
-    #[tactic(auto, unfolding(crate::specs::TopicFields::topic_at, crate::specs::Reading::text_at), using(crate::proofs::Texts::topic_ends))]
+    #[tactic(auto, unfolding(crate::specs::TopicFields::topic_at, crate::specs::Readers::text_at), using(crate::proofs::Texts::topic_ends))]
     pub fn topic(&mut self, alloc: Global) -> Result<TopicName, Stop>
         ensures exact { Reads (λ value. value) result self.new (topic_at self.old) }
 
@@ -144,7 +144,7 @@ impl<'a> Reader<'a> {
 
     /// Reads a Topic Filter with its length before it. A text with a fault is `Text`, `Filter` or
     /// `TooDeep` (MQTT 4.7.1).
-    #[tactic(auto, unfolding(crate::specs::TopicFields::filter_at, crate::specs::Reading::text_at), using(crate::proofs::Texts::filter_ends))]
+    #[tactic(auto, unfolding(crate::specs::TopicFields::filter_at, crate::specs::Readers::text_at), using(crate::proofs::Texts::filter_ends))]
     pub fn filter(&mut self, alloc: Global) -> Result<Filter, Stop>
         ensures exact { Reads (λ value. value) result self.new (filter_at self.old) }
 

@@ -2,7 +2,7 @@
 
 ghost use Rattle.std.specs.Prelude.{◌≡◌, ◌+◌, ◌<◌, ◌≤◌, ◌^◌, ◌++◌, IfOk, vec_len, vec_capacity};
 ghost use Rattle.packet_base.specs.Spelling.{AppendsLength, length_bytes, remaining_length};
-ghost use Rattle.packet_base.specs.Reading.{length_at};
+ghost use Rattle.packet_base.specs.Readers.{length_at};
 ghost use Rattle.packet_base.specs.Outcome.{Gives, TakesNoMemory};
 ghost use Rattle.packet_base.specs.Inside.{length_limit};
 
@@ -22,7 +22,7 @@ pub fn take_length(bytes: &[u8]) -> Result<(u32, &[u8]), Stop>
 
 // Returns the length at the front, and the bytes after it, if at most `follow` bytes may follow the
 // next one.
-#[tactic(auto, unfolding(crate::specs::Reading::length_at), using(crate::proofs::Lengths::limits))]
+#[tactic(auto, unfolding(crate::specs::Readers::length_at), using(crate::proofs::Lengths::limits))]
 fn length_from(bytes: &[u8], follow: u8) -> Result<(u32, &[u8]), Stop>
     requires { follow < 4 }
     ensures exact { Gives (λ taken. (taken.0, taken.1.now)) result (length_at follow bytes.now) }

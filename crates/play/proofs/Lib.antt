@@ -1,4 +1,4 @@
 pub mod LinesAppended
 pub mod PlayedToTheEnd
 pub mod ScriptsOpen
-pub mod WaysTold
+pub mod RecoveriesTold

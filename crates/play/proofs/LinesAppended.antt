@@ -10,10 +10,10 @@ use Rattle.world_pipes.specs.declared.events.event.Event.{Event}
 use Rattle.world_pipes.specs.declared.clients.world_client.WorldClient.{WorldClient}
 use Rattle.world.specs.Found.{core_at}
 use Rattle.world_pipes.specs.clients.Clients.{is_named}
-use Rattle.world.specs.Asking.{EventAsks}
+use Rattle.world.specs.Requests.{EventAsks}
 use Rattle.world.specs.Trace.{StaysReached, KeepsGroup}
 use Rattle.world_pipes.specs.clients.NodesGoOn.StepsOfGroup.{rests}
-use Rattle.world.specs.Happening.{EventHappens}
+use Rattle.world.specs.Events.{EventHappens}
 use Rattle.world_pipes.specs.clients.Clients.{new_world_client}
 use Rattle.world.specs.StandsFor.{KeepsReached, FollowsModelAsking, asked_on}
 use Rattle.master.specs.declared.event.Idle.{Idle}

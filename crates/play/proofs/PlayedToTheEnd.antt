@@ -6,9 +6,9 @@ use Rattle.ballot_base.specs.declared.config.Config.{Config}
 use Rattle.headline.specs.packet_world.World.{ClientsAreApart}
 use Rattle.script.specs.Scripts.{IsScript, lines_of}
 use Rattle.script.specs.declared.script_line.ScriptLine.{ScriptLine}
-use Rattle.script.specs.declared.reading.Script.{Script}
+use Rattle.script.specs.declared.script_reader.Script.{Script}
 use Rattle.play.specs.Lines.{end_line}
-use Rattle.world.specs.Happening.{WorldOpens}
+use Rattle.world.specs.Events.{WorldOpens}
 use Rattle.world.specs.Trace.{AreReached}
 use Rattle.world.specs.StandsFor.{IsReached, asked_on}
 use Rattle.world.specs.World.{WorldState}

@@ -11,7 +11,7 @@ use Rattle.headline.specs.packet_world.World.{ClientsAreApart}
 use Rattle.script.specs.Scripts.{IsOpening, IsScript, are_distinct, are_members, has_client, is_lawful_opening}
 use Rattle.script.specs.Scripts.IsOpening.{world}
 use Rattle.script.specs.declared.opening.Opening.{Opening}
-use Rattle.script.specs.declared.reading.Script.{Script}
+use Rattle.script.specs.declared.script_reader.Script.{Script}
 
 lawful : (fields : List Text) (opening : Opening) → IsOpening fields opening
     → is_lawful_opening opening.nodes opening.config.members opening.config.primary ≡ true

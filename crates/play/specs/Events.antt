@@ -7,7 +7,7 @@ use Rattle.script.specs.declared.script_line.ScriptLine.{ScriptLine}
 use Rattle.script.specs.declared.script_line.ScriptLine.TheVariants as lines
 use Rattle.world_pipes.specs.declared.events.event.Event.{Event}
 use Rattle.world_pipes.specs.declared.events.event.Event.TheVariants as events
-use Rattle.world.specs.Found.{way_of}
+use Rattle.world.specs.Found.{pair_of}
 use Rattle.world.specs.Cannot.{down_of, up_of}
 use Rattle.world.specs.World.{WorldState}
 
@@ -52,8 +52,8 @@ event_of waiting (lines.Unsubscribe client filter) = Some (events.Unsubscribe cl
 
 -- how many bytes wait on the connection that a line names, the way that they are carried
 abbrev pub waiting_for : ScriptLine → WorldState → ℕ
-waiting_for (lines.CarryUp connection amount) world = length (up_of (way_of connection world))
-waiting_for (lines.CarryDown connection amount) world = length (down_of (way_of connection world))
+waiting_for (lines.CarryUp connection amount) world = length (up_of (pair_of connection world))
+waiting_for (lines.CarryDown connection amount) world = length (down_of (pair_of connection world))
 waiting_for _ world = 0
 
 -- the event that a line asks for in a world

@@ -1,6 +1,6 @@
 pub mod AcceptedLines
 pub mod Transcripts
-pub mod Ways
+pub mod Recoveries
 pub mod Events
 pub mod Errors
 pub mod Inside

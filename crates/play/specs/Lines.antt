@@ -2,7 +2,7 @@
 use Rattle.std.specs.Prelude.{ℕ, List, [], ◌∷◌, ◌++◌, codes}
 use Rattle.std.specs.Fmt.{decimal}
 use Rattle.client_base.specs.declared.accepted.Accepted.{Accepted}
-use Rattle.client_base.specs.printed.Printing.{printed_line, printed}
+use Rattle.client_base.specs.printed.Lines.{printed_line, printed}
 
 -- the line of an idle event, as `7 idle`
 abbrev pub idle_line : ℕ → List ℕ

@@ -5,12 +5,12 @@ use Rattle.session_base.specs.declared.publication.Publication.{Publication}
 use Rattle.master.specs.declared.event.Idle.{Idle}
 use Rattle.script.specs.Scripts.{IsScript, lines_of}
 use Rattle.script.specs.declared.script_line.ScriptLine.{ScriptLine}
-use Rattle.script.specs.declared.reading.Script.{Script}
+use Rattle.script.specs.declared.script_reader.Script.{Script}
 use Rattle.play.specs.Lines.{done_line, end_line, idle_line}
 use Rattle.world_pipes.specs.declared.events.event.Event.{Event}
 use Rattle.world.specs.Trace.{AreReached, StaysReached, KeepsGroup}
-use Rattle.world.specs.Happening.{EventHappens}
-use Rattle.world.specs.Asking.{EventAsks}
+use Rattle.world.specs.Events.{EventHappens}
+use Rattle.world.specs.Requests.{EventAsks}
 use Rattle.world.specs.StandsFor.{IsReached, KeepsReached, asked_on}
 use Rattle.world.specs.World.{WorldState}
 use Rattle.world_nodes.specs.Agreed.{AgreeOnSoMany}

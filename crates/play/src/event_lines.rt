@@ -2,7 +2,7 @@
 
 ghost use Rattle.std.specs.Prelude.{◌≡◌, ◌++◌, OnOk, codes};
 ghost use Rattle.std.specs.Fmt.{decimal};
-ghost use Rattle.play.specs.Ways.{event_line, members_text, more_members, one_field, two_fields};
+ghost use Rattle.play.specs.Recoveries.{event_line, members_text, more_members, one_field, two_fields};
 
 use ballot_base::Config;
 use packet_base::ClientId;

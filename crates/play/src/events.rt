@@ -3,7 +3,7 @@
 ghost use Rattle.std.specs.Prelude.{◌≡◌, true, Some, length, option_map, IfOk, IsErrOf, OnErr};
 ghost use Rattle.std.specs.List.{list_all};
 ghost use Rattle.world_pipes.specs.declared.events.event.Event.TheVariants as events;
-ghost use Rattle.world.specs.Found.{way_of};
+ghost use Rattle.world.specs.Found.{pair_of};
 ghost use Rattle.world.specs.Cannot.{down_of, up_of};
 ghost use Rattle.play.specs.Events.{asked_in, assign_of, count_of, is_byte, node_of};
 ghost use Rattle.play.specs.Inside.{IsCallOf, is_call};
@@ -86,7 +86,7 @@ fn assign(alloc: Global, members: &Numbers, primary: u64) -> Result<Option<Event
     Ok(Some(Event::Assign(Config { members, primary })))
 }
 
-// Says whether each of these numbers is a byte.
+// Returns true if each of these numbers is a byte.
 fn are_bytes(numbers: &[u64]) -> bool
     ensures { result ≡ list_all is_byte numbers.now }
 {
@@ -153,14 +153,14 @@ fn open(client: &ClientId, node: u64) -> Result<Option<Event>, PlayError>
 
 // Returns how many bytes of a connection are carried up.
 fn count_up(world: &World, connection: u64, amount: Amount) -> u64
-    ensures { result ≡ count_of (length (up_of (way_of connection world.now))) amount }
+    ensures { result ≡ count_of (length (up_of (pair_of connection world.now))) amount }
 {
     count_of(amount, world.up(connection))
 }
 
 // Returns how many bytes of a connection are carried down.
 fn count_down(world: &World, connection: u64, amount: Amount) -> u64
-    ensures { result ≡ count_of (length (down_of (way_of connection world.now))) amount }
+    ensures { result ≡ count_of (length (down_of (pair_of connection world.now))) amount }
 {
     count_of(amount, world.down(connection))
 }

@@ -5,11 +5,11 @@
 mod error;
 mod event_lines;
 mod events;
-mod leading_out;
 mod played_world;
-mod playing;
-mod writing;
+mod player;
+mod recovery_lines;
+mod transcript_lines;
 
 pub use error::PlayError;
-pub use leading_out::escape;
-pub use playing::play;
+pub use player::play;
+pub use recovery_lines::escape;

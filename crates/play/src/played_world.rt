@@ -3,7 +3,7 @@
 ghost use Rattle.std.specs.Prelude.{◌≡◌, ◌<◌, ◌++◌, ℕ, false, [], map, IfOk, OnOk, OnErr, IsErrOf};
 ghost use Rattle.agreement.specs.World.{can_open};
 ghost use Rattle.headline.specs.packet_world.World.{ClientsAreApart};
-ghost use Rattle.world.specs.Happening.{WorldOpens};
+ghost use Rattle.world.specs.Events.{WorldOpens};
 ghost use Rattle.world.specs.Trace.{AreReached};
 ghost use Rattle.world.specs.StandsFor.{IsReached, asked_on};
 ghost use Rattle.play.specs.Inside.{Appends, AreWritten, LineComesTo, EndsTranscript, LineWasWritten, lines_unwritten, names_of, new_recipient, written_at};
@@ -11,7 +11,7 @@ ghost use Rattle.play.specs.AcceptedLines.{accepted_by_client, accepted_lines, l
 
 use crate::error::PlayError;
 use crate::events::event_of;
-use crate::writing::{write_accepted, write_done, write_end, write_idle};
+use crate::transcript_lines::{write_accepted, write_done, write_end, write_idle};
 use client_base::Accepted;
 use master::Idle;
 use packet_base::ClientId;

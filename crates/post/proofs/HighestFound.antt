@@ -8,7 +8,7 @@ use Rattle.lists.proofs.OfEach.{each_append, each_then}
 use Rattle.lists.specs.Lists.{In}
 use Rattle.lists.specs.Lists.In.{here}
 use Rattle.post.specs.Primaries.{IsHighest, NoneIsHigher, NoneServes, higher, highest_from, serves}
-use Rattle.post.specs.declared.choosing.Shown.{Shown}
+use Rattle.post.specs.declared.recipients.Shown.{Shown}
 
 -- what is found among these nodes
 abbrev pub IsFound : Option Shown → List Shown → Type 0

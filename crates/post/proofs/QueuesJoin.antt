@@ -7,8 +7,8 @@ use Rattle.ballot_base.specs.declared.message.Effect.{Effect}
 use Rattle.ballot_base.specs.declared.message.Effect.TheVariants.{To, Out}
 use Rattle.ballot_base.specs.declared.message.Message.{Message}
 use Rattle.post.specs.outbox.Given.{Addressed}
-use Rattle.post.specs.Queuing.{QueuesAll, messages_of}
-use Rattle.post.specs.Queuing.QueuesAll.{none, one_more}
+use Rattle.post.specs.GivenMessages.{QueuesAll, messages_of}
+use Rattle.post.specs.GivenMessages.QueuesAll.{none, one_more}
 
 -- the messages of joined effects are the joined messages
 pub messages_join : (first next : List (Effect Command Output))

@@ -1,4 +1,4 @@
 pub mod outbox
 pub mod Numbers
 pub mod Primaries
-pub mod Queuing
+pub mod GivenMessages

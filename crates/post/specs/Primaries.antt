@@ -2,7 +2,7 @@
 use Rattle.std.specs.Prelude.{◌≡◌, ℕ, ◌≤◌, Bool, true, false, ◌&&◌, nat_lt, if◌then◌else◌, List, [], ◌∷◌, Option, Some, None}
 use Rattle.ballot_base.specs.Replica.{serves_in_role}
 use Rattle.lists.specs.Lists.{Each, In}
-use Rattle.post.specs.declared.choosing.Shown.{Shown}
+use Rattle.post.specs.declared.recipients.Shown.{Shown}
 
 -- the node serves clients: it is the active primary of its ballot, and has not stopped
 abbrev pub serves : Shown → Bool

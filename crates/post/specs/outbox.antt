@@ -1,8 +1,8 @@
 pub mod Given
-pub mod Laws
-pub mod Mastering
+pub mod Theorems
+pub mod MasterAnswers
 pub mod Queued
 pub mod Refusals
-pub mod Replacing
-pub mod Waiting
-pub mod Waking
+pub mod Replacement
+pub mod WaitingItems
+pub mod Urgency

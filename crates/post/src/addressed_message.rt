@@ -6,8 +6,8 @@ ghost use Rattle.ballot_base.specs.declared.message.Effect.TheVariants.{To};
 ghost use Rattle.node.specs.declared.Item.TheVariants.{Peer};
 ghost use Rattle.post.specs.outbox.Given.{IsMasterNumber};
 ghost use Rattle.post.specs.outbox.Queued.{WasGiven};
-ghost use Rattle.post.specs.outbox.Mastering.{answer_to, master_after_outcome, message_if};
-ghost use Rattle.post.specs.outbox.Replacing.{still_waiting};
+ghost use Rattle.post.specs.outbox.MasterAnswers.{answer_to, master_after_outcome, message_if};
+ghost use Rattle.post.specs.outbox.Replacement.{still_waiting};
 
 use crate::cluster::Cluster;
 use crate::outbox::{Answer, MessagingMaster, Outbox};

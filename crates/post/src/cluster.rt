@@ -4,14 +4,14 @@ ghost use Rattle.std.specs.Prelude.{◌≡◌, ◌&&◌, IfOk, IfSome, IsErrOf, 
 ghost use Rattle.ballot_base.specs.LawfulConfig.{is_lawful};
 ghost use Rattle.lists.specs.Lists.{has_id};
 ghost use Rattle.post.specs.outbox.Given.{IsMasterNumber};
-ghost use Rattle.post.specs.outbox.Mastering.{MayGet};
+ghost use Rattle.post.specs.outbox.MasterAnswers.{MayGet};
 ghost use Rattle.post.specs.Numbers.{are_nodes, is_node, peer_numbers};
 
 use crate::addressed_message::AddressedMessage;
-use crate::choosing::{Shown, primary_of};
+use crate::given_effects::{GivenEffects, Receivers, queue_all};
 use crate::outbox::{Answer, MessagingMaster, OrderError};
 use crate::peer::Peer;
-use crate::queuing::{GivenEffects, Receivers, queue_all};
+use crate::recipients::{Shown, primary_of};
 use ballot_base::errors::OpeningError;
 use ballot_base::{Config, MASTER, Status};
 use machine::Memory;
@@ -173,21 +173,21 @@ impl Cluster {
         None
     }
 
-    /// Says whether there are several nodes.
+    /// Returns true if there are several nodes.
     pub fn are_several(&self) -> bool
         ensures { result ≡ nat_lt 1 (length self.now) }
     {
         self.nodes.len() > 1
     }
 
-    // Says whether each of these numbers is that of a node.
+    // Returns true if each of these numbers is that of a node.
     fn has_all(&self, numbers: &[u8]) -> bool
         ensures { result ≡ are_nodes self.now numbers.now }
     {
         numbers.iter().all(|number| self.has(*number))
     }
 
-    // Says whether a node has this number.
+    // Returns true if a node has this number.
     fn has(&self, number: u8) -> bool
         ensures { result ≡ is_node self.now number }
     {
@@ -284,13 +284,13 @@ fn await_stop<R: Wait + Clock>(rt: &R, node: &Peer) {
     }
 }
 
-// Says whether a node has stopped, by its status after its last change.
+// Returns true if a node has stopped, by its status after its last change.
 fn has_stopped<R: Wait>(rt: &R, node: &Peer) -> bool {
     matches!(node.status(rt), Some(status) if status.stopped)
 }
 
-// Says whether the time is over that a node gets to stop, counted from `start`. It is over, too, if
-// the clock cannot be read.
+// Returns true if the time is over that a node gets to stop, counted from `start`. It is over, too,
+// if the clock cannot be read.
 fn had_its_time<R: Clock>(rt: &R, start: Instant) -> bool {
     match start.elapsed(rt) {
         Ok(time) => time.as_millis() >= u128::from(STOP_MILLIS),

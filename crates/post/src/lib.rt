@@ -4,15 +4,15 @@
 #![tactic(auto)]
 
 mod addressed_message;
-mod choosing;
 mod cluster;
+mod given_effects;
 pub mod outbox;
 mod peer;
-mod queuing;
+mod recipients;
 
 pub use crate::outbox::OrderError;
 pub use addressed_message::AddressedMessage;
 pub use cluster::Cluster;
+pub use given_effects::{GivenEffects, Receivers, queue_all};
 pub use master::Idle;
 pub use peer::{AdmittedBytes, Peer};
-pub use queuing::{GivenEffects, Receivers, queue_all};

@@ -1,17 +1,17 @@
 //! What waits for one node: messages of other nodes, answers of the master, and orders. It has the
 //! master, whose answers are messages, and the waker of the thread that takes what waits.
 
-mod laws;
 mod messaging_master;
 mod order_error;
 mod outbox;
-mod replacing;
+mod replacement;
+mod theorems;
+mod urgency;
 mod waker;
-mod waking;
 
-pub use laws::{later_commits_suffice, later_counts_suffice};
 pub use messaging_master::{Answer, MessagingMaster};
 pub use order_error::OrderError;
 pub use outbox::Outbox;
+pub use theorems::{later_commits_suffice, later_counts_suffice};
+pub use urgency::is_urgent;
 pub use waker::Waker;
-pub use waking::is_urgent;

@@ -3,7 +3,7 @@
 ghost use Rattle.std.specs.Prelude.{◌≡◌, ◌≤◌, IfOk, IfSome, IsErrOf, false, true};
 ghost use Rattle.ballot_base.specs.LawfulConfig.{is_lawful};
 ghost use Rattle.lists.specs.Lists.{Each};
-ghost use Rattle.post.specs.outbox.Mastering.{MayGet};
+ghost use Rattle.post.specs.outbox.MasterAnswers.{MayGet};
 ghost use Rattle.post.specs.outbox.Queued.{IsPosted, IsQueued};
 
 use crate::addressed_message::AddressedMessage;
@@ -218,7 +218,7 @@ impl Peer {
         outbox.take(alloc)
     }
 
-    /// Says whether something waits for the node.
+    /// Returns true if something waits for the node.
     pub fn is_wanted<R: Wait>(&self, rt: &R) -> bool {
         !self.outbox.lock(rt).is_empty()
     }

@@ -13,7 +13,7 @@ pub mod MomentsGoOn
 pub mod Premises
 pub mod AllAgreed
 pub mod Ways
-pub mod HasWayOut
+pub mod HasRecovery
 pub mod Answering
 mod Counted
 pub mod SameRows

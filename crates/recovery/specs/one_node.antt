@@ -1,6 +1,6 @@
-pub mod Answering
-pub mod Asking
+pub mod FirstAnswer
+pub mod ConnectRequest
 pub mod Delivery
 pub mod Opening
-pub mod Waiting
+pub mod AwaitedAnswer
 pub mod Welcome

@@ -1,9 +1,9 @@
-pub mod AnswerLaws
+pub mod AnswerTheorems
 pub mod Deliveries
-pub mod Following
+pub mod LedStates
 pub mod Inside
-pub mod Laws
+pub mod Theorems
 pub mod Lengths
 pub mod CutDeliveries
-pub mod CutLaws
-pub mod Answering
+pub mod CutTheorems
+pub mod NextAnswer

@@ -1,6 +1,6 @@
 //! What the CONNACK at the end of a way out does to a client. No code runs here; the law is the
 //! contract of a call that does nothing.
 
-mod laws;
+mod theorems;
 
-pub use laws::connack_serves;
+pub use theorems::connack_serves;

@@ -2,9 +2,9 @@
 //! client that comes back there. No code runs here; the laws are contracts of calls that do
 //! nothing.
 
-mod laws;
+mod theorems;
 
-pub use laws::{
+pub use theorems::{
     a_step_is_a_delivery, answer_alone_is_put_out, answer_is_put_out, asked_awaits_answer,
     connect_is_proposed, first_awaits_connect, first_is_opened, handing_keeps_it_waiting,
     handing_keeps_the_connect, kept_sessions_are_welcomed, messages_keep_it_waiting,

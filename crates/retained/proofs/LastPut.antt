@@ -8,7 +8,7 @@ use Rattle.lists.proofs.Tables.{found_put, found_without, put_rises, without_ris
 use Rattle.packet_base.specs.declared.qos.QoS.{QoS}
 use Rattle.retained.specs.declared.retained_publication.RetainedPublication.{RetainedPublication}
 use Rattle.retained.specs.Retained.{RetainedTopics, IsRising, publication_on, with_topic, after_put, is_empty, is_full_for, is_retaining_refused}
-use Rattle.retained.specs.Laws.{Put, After, is_on, last_on, kept_of, kept_of_payload, LastIsRetained, StaysInBounds}
+use Rattle.retained.specs.Theorems.{Put, After, is_on, last_on, kept_of, kept_of_payload, LastIsRetained, StaysInBounds}
 
 -- ---- the last publication
 

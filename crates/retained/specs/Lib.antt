@@ -1,4 +1,4 @@
 pub mod Retained
 pub mod Refusals
 pub mod Inside
-pub mod Laws
+pub mod Theorems

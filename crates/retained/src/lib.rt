@@ -3,12 +3,12 @@
 #![tactic(auto)]
 
 mod error;
-mod finding;
-mod laws;
 mod retained_publication;
 mod retained_store;
+mod search;
+mod theorems;
 
 pub use error::RetainedError;
-pub use laws::{last_is_retained, stays_in_bounds};
 pub use retained_publication::RetainedPublication;
 pub use retained_store::{MAX_TOPICS, RetainedStore};
+pub use theorems::{last_is_retained, stays_in_bounds};

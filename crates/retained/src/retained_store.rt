@@ -9,8 +9,8 @@ ghost use Rattle.retained.specs.Retained.{IsRising, publication_on, after_put, w
 ghost use Rattle.retained.specs.Retained.{without_topic, is_full_for, is_retaining_refused, matching_entries};
 
 use crate::error::RetainedError;
-use crate::finding::append_matching;
 use crate::retained_publication::RetainedPublication;
+use crate::search::append_matching;
 use packet_base::{Payload, QoS};
 use std::alloc::{AllocError, Global};
 use std::collections::BTreeMap;
@@ -60,7 +60,7 @@ impl RetainedStore {
         self.topics.len()
     }
 
-    /// Says whether no topic has a retained publication.
+    /// Returns true if no topic has a retained publication.
     pub fn is_empty(&self) -> bool
         ensures { IsTrue result ↔ (self.now ≡ []) }
     {
@@ -74,7 +74,7 @@ impl RetainedStore {
         self.topics.get(topic)
     }
 
-    /// Says whether [`RetainedStore::put`] would answer `RetainedFull`.
+    /// Returns true if [`RetainedStore::put`] would answer `RetainedFull`.
     pub fn refuses(&self, topic: &TopicName, payload: &Payload) -> bool
         ensures { result ≡ is_retaining_refused self.now topic.now payload.now }
     {
@@ -154,7 +154,7 @@ impl RetainedStore {
         self.topics.iter()
     }
 
-    // Says whether the topic is new and there is no room for a new one.
+    // Returns true if the topic is new and there is no room for a new one.
     fn is_full_for(&self, topic: &TopicName) -> bool
         ensures { result ≡ is_full_for self.now topic.now }
     {

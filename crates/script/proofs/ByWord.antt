@@ -7,7 +7,7 @@ use Rattle.script.specs.declared.error.FieldFault.{FieldFault}
 use Rattle.script.specs.declared.script_line.ScriptLine.{ScriptLine}
 use Rattle.script.specs.declared.script_line.ScriptLine.TheVariants as lines
 use Rattle.script.specs.Fields.{Text, parse_amount, parse_client, parse_filter, parse_number, parse_numbers}
-use Rattle.script.specs.Inside.LineReading.{line_by, one, parse_publish, parse_subscribe, two}
+use Rattle.script.specs.Inside.LineReader.{line_by, one, parse_publish, parse_subscribe, two}
 
 -- what was read of the fields is what the line says
 pub value_by : (word w : Text) (fields : List Text) (o : Option ScriptLine) (r : Result ScriptLine FieldFault) → word ≡ w

@@ -4,7 +4,7 @@ use Rattle.script.specs.Fields.{Text}
 use Rattle.script.specs.Scripts.{AreLines, IsFirstBad, IsScript, Refuses}
 use Rattle.script.specs.declared.error.ScriptFault.TheVariants as errors
 use Rattle.script.specs.declared.script_line.ScriptLine.{ScriptLine}
-use Rattle.script.specs.declared.reading.Script.{Script}
+use Rattle.script.specs.declared.script_reader.Script.{Script}
 
 none_is_bad : (lines : List Text) (script_lines : List ScriptLine) (index : ℕ) → AreLines lines script_lines → IsFirstBad lines index → ⊥
 none_is_bad [] script_lines index are bad = bad

@@ -8,7 +8,7 @@ use Rattle.script.specs.declared.script_line.ScriptLine.TheVariants as script_li
 use Rattle.script.specs.Fields.{Text, parse_amount, parse_client, parse_filter, parse_number, parse_numbers, parse_payload, parse_qos, parse_retain, parse_topic}
 use Rattle.script.specs.Lines as lines
 use Rattle.script.specs.Lines.{IsLine}
-use Rattle.script.specs.Inside.LineReading.{line_by, line_of, one, publication, publication_line, parse_publication, parse_publish, parse_subscribe, subscription_line, two, with}
+use Rattle.script.specs.Inside.LineReader.{line_by, line_of, one, publication, publication_line, parse_publication, parse_publish, parse_subscribe, subscription_line, two, with}
 use Rattle.script.proofs.ByWord.{by_assign, by_deliver, by_tick, by_cut, by_crash, by_open, by_up, by_down, by_abandon, by_disconnect, by_notice, by_publish, by_subscribe, by_unsubscribe, by_expel, by_none}
 
 -- the parts of what was made

@@ -7,7 +7,7 @@ use Rattle.script.specs.declared.error.FieldFault.{FieldFault}
 use Rattle.script.specs.declared.script_line.ScriptLine.{ScriptLine}
 use Rattle.script.specs.Fields.{Text, fields_of}
 use Rattle.script.specs.Scripts.{HasSomeForm, IsOtherLine}
-use Rattle.script.specs.Inside.LineReading.{line_of}
+use Rattle.script.specs.Inside.LineReader.{line_of}
 use Rattle.script.proofs.OneForm.{is_read, says}
 
 -- what was read of a line

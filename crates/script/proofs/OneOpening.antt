@@ -10,7 +10,7 @@ use Rattle.script.specs.declared.opening.Opening.{Opening}
 use Rattle.script.specs.Fields.{Text, parse_clients, fields_of, parse_number, parse_numbers}
 use Rattle.script.specs.Scripts as lines
 use Rattle.script.specs.Scripts.{HasOpening, IsOpening, IsOpeningLine, are_distinct, is_lawful_opening}
-use Rattle.script.specs.Inside.LineReading.{with}
+use Rattle.script.specs.Inside.LineReader.{with}
 use Rattle.script.specs.Inside.Worlds.{Values, checked, values, values_of, parse_world}
 use Rattle.script.proofs.OneForm.{made}
 

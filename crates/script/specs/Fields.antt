@@ -10,7 +10,7 @@ use Rattle.topics.specs.declared.malformed.MalformedKind.{MalformedKind}
 use Rattle.topics.specs.Text.{filter_fault, topic_fault}
 use Rattle.packet_base.specs.ClientId.{client_fault}
 use Rattle.packet_base.specs.declared.qos.QoS.{QoS}
-use Rattle.packet_base.specs.declared.qos.QoS.TheVariants as qualities
+use Rattle.packet_base.specs.declared.qos.QoS.TheVariants as qos_levels
 use Rattle.script.specs.declared.script_line.Amount.{Amount}
 use Rattle.script.specs.declared.script_line.Amount.TheVariants as amounts
 
@@ -43,9 +43,9 @@ parse_number text = if is_decimal text && nat_lt (digits_value 10 text) (2 ^ 64)
 abbrev pub qos_of_number : Option ℕ → Option QoS
 qos_of_number None = None
 qos_of_number (Some number) =
-    if number == 0 then Some qualities.AtMostOnce else
-    if number == 1 then Some qualities.AtLeastOnce else
-    if number == 2 then Some qualities.ExactlyOnce else None
+    if number == 0 then Some qos_levels.AtMostOnce else
+    if number == 1 then Some qos_levels.AtLeastOnce else
+    if number == 2 then Some qos_levels.ExactlyOnce else None
 
 -- a QoS is written as its number (MQTT 4.3)
 unfoldable pub parse_qos : Text → Option QoS

@@ -1,2 +1,2 @@
-pub mod LineReading
+pub mod LineReader
 pub mod Worlds

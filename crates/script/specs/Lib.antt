@@ -1,6 +1,6 @@
 pub mod Fields
 pub mod Lines
 pub mod Scripts
-pub mod Laws
+pub mod Theorems
 pub mod Faults
 pub mod Inside

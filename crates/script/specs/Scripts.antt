@@ -9,7 +9,7 @@ use Rattle.script.specs.declared.error.ScriptFault.{ScriptFault}
 use Rattle.script.specs.declared.error.ScriptFault.TheVariants as errors
 use Rattle.script.specs.declared.opening.Opening.{Opening}
 use Rattle.script.specs.declared.script_line.ScriptLine.{ScriptLine}
-use Rattle.script.specs.declared.reading.Script.{Script}
+use Rattle.script.specs.declared.script_reader.Script.{Script}
 
 -- a line feed, 10, after the last line may be missing
 abbrev pub without_last_feed : Text → Text

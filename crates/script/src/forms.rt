@@ -3,7 +3,7 @@
 ghost use Rattle.std.specs.Prelude.{◌≡◌, Some, None, IfOk, IsErrOf};
 ghost use Rattle.script.specs.declared.script_line.ScriptLine.TheVariants as lines;
 ghost use Rattle.script.specs.Fields.{parse_amount, parse_client, parse_filter, parse_number, parse_numbers, texts};
-ghost use Rattle.script.specs.Inside.LineReading.{one, only, parse_publication, parse_publish, parse_subscribe, two};
+ghost use Rattle.script.specs.Inside.LineReader.{one, only, parse_publication, parse_publish, parse_subscribe, two};
 
 use crate::error::FieldFault;
 use crate::script_line::ScriptLine;
@@ -188,7 +188,7 @@ pub(crate) fn publish(alloc: Global, fields: &[&str]) -> Result<ScriptLine, Fiel
 }
 
 // Returns the publication of the last four fields.
-#[tactic(auto, unfolding(crate::specs::Inside::LineReading::parse_publication))]
+#[tactic(auto, unfolding(crate::specs::Inside::LineReader::parse_publication))]
 fn publication(
     alloc: Global,
     topic_field: &str,

@@ -4,19 +4,19 @@
 mod error;
 mod fields;
 mod forms;
-mod laws;
-mod line_reading;
+mod line_reader;
 mod lines;
 mod numbers;
 mod opening;
-mod reading;
 mod script_line;
+mod script_reader;
+mod theorems;
 mod values;
 
 pub use error::ScriptFault;
 pub use fields::{fields_of, parts_of};
-pub use laws::{no_script_is_refused, one_meaning_a_line};
 pub use numbers::Numbers;
 pub use opening::Opening;
-pub use reading::{Script, read};
 pub use script_line::{Amount, ScriptLine};
+pub use script_reader::{Script, read};
+pub use theorems::{no_script_is_refused, one_meaning_a_line};

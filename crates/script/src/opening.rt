@@ -79,7 +79,7 @@ fn config(alloc: Global, count: u64, members: &[u64], primary: u64) -> Result<Co
     }
 }
 
-// Says whether each of the numbers is at most this one.
+// Returns true if each of the numbers is at most this one.
 fn are_members(count: u64, members: &[u64]) -> bool
     ensures { result ≡ are_members count members.now }
 {
@@ -101,7 +101,7 @@ fn members_from_numbers(alloc: Global, members: &[u64]) -> Result<Members, Field
         .ok_or(FieldFault::Memory)
 }
 
-// Says whether no two of the clients are the same.
+// Returns true if no two of the clients are the same.
 fn are_distinct(clients: &[ClientId]) -> bool
     ensures { result ≡ are_distinct clients.now }
 {
@@ -111,7 +111,7 @@ fn are_distinct(clients: &[ClientId]) -> bool
     !has_client(others, client) && are_distinct(others)
 }
 
-// Says whether one of the clients is this one.
+// Returns true if one of the clients is this one.
 fn has_client(clients: &[ClientId], client: &ClientId) -> bool
     ensures { result ≡ has_client clients.now client.now }
 {

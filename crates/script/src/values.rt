@@ -27,7 +27,7 @@ pub(crate) fn number(text: &str) -> Result<u64, FieldFault>
     }
 }
 
-// Says whether a plus is in front.
+// Returns true if a plus is in front.
 fn has_sign(text: &str) -> bool
     ensures { result ≡ (slice_index text.now 0 == 43) }
 {

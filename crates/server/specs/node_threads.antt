@@ -1,5 +1,5 @@
-pub mod Laws
+pub mod Theorems
 pub mod Named
-pub mod Serving
+pub mod LaneReports
 pub mod Turns
-pub mod Working
+pub mod ThreadLives

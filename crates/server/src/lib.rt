@@ -2,22 +2,22 @@
 //! served while a function of the caller runs, and closed.
 #![tactic(auto)]
 
-mod closing;
-mod listening;
 pub mod node_threads;
 mod opening;
 mod outcome;
 mod serve_error;
-mod starting;
+mod service;
+mod shutdown;
+mod thread_starts;
 
 pub use crate::node_threads::{NodeReport, THREADS};
 pub use ballot_base::errors::{OpeningError, ProposeError};
 pub use ballot_base::{Config, MAX_NODE, Members, Status};
-pub use listening::{serve_gated, serve_while};
 pub use machine::Memory;
 pub use master::Idle;
 pub use node_base::devices::{Gate, NoGate};
 pub use post::Cluster;
 pub use post::outbox::OrderError;
 pub use serve_error::ServeError;
+pub use service::{serve_gated, serve_while};
 pub use streams::{Listener, MAX_CONNECTIONS};

@@ -4,22 +4,22 @@
 //! node has for another is taken there by the same thread, if no other does so. Otherwise that
 //! node's own thread takes it, which also takes what the master has for it.
 
-mod admitting;
-mod helping;
+mod admission;
+mod help_turns;
 mod lane_reporter;
-mod laws;
+mod lane_slots;
+mod lane_threads;
 mod node_context;
 mod opened_node;
 mod own_lane;
 mod own_thread;
 mod served_node;
-mod serving;
 mod shared;
+mod theorems;
 mod turns;
-mod working;
 
-pub use laws::ports_differ;
+pub use lane_slots::THREADS;
 pub use node_context::NodeContexts;
 pub use opened_node::OpenedNode;
 pub use served_node::{NodeReport, ServedNode, start_all};
-pub use working::THREADS;
+pub use theorems::ports_differ;

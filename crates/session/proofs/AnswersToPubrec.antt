@@ -9,7 +9,7 @@ use Rattle.session_base.specs.declared.publication.Publication.{Publication}
 use Rattle.session_base.specs.declared.awaits.Awaits.{Awaits}
 use Rattle.session_base.specs.declared.awaits.Awaits.TheVariants as waits_for
 use Rattle.session_base.specs.Queue.{Flight, is_pubrec, is_released, awaits_pubrec, awaits_pubcomp, ids_of, released_with, on_pubrec}
-use Rattle.session_base.specs.Sending.{pubrec_sends}
+use Rattle.session_base.specs.EntryPackets.{pubrec_sends}
 
 same_number : (i j : ℕ) → (i == j) ≡ true → i ≡ j
 same_number i j e = grind arith

@@ -7,7 +7,7 @@ use Rattle.packet.specs.declared.packet.Packet.TheVariants as packets
 use Rattle.session_base.specs.declared.publication.Publication.{Publication}
 use Rattle.session_base.specs.Publication.{publish_for}
 use Rattle.session_base.specs.Queue.{Flight, fill, started_flight}
-use Rattle.session_base.specs.Sending.{fill_sends}
+use Rattle.session_base.specs.EntryPackets.{fill_sends}
 use Rattle.session.specs.Inside.{started_with, sends_with}
 
 open_window : (k w : ℕ) → k < w → nat_lt k w ≡ true

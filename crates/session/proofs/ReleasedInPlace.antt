@@ -11,7 +11,7 @@ use Rattle.lists.specs.Lists.{has_id, IsDistinct}
 use Rattle.session_base.specs.declared.awaits.Awaits.{Awaits}
 use Rattle.session_base.specs.declared.awaits.Awaits.TheVariants as waits_for
 use Rattle.session_base.specs.Queue.{Flight, is_released, awaits_pubrec, ids_of, released_with}
-use Rattle.session_base.specs.OrderLaws.{NoneReleased, IsReleasedFirst}
+use Rattle.session_base.specs.OrderTheorems.{NoneReleased, IsReleasedFirst}
 use Rattle.session.specs.Inside.{IsAwaited, with_released}
 
 same_number : (i j : ℕ) → (i == j) ≡ true → i ≡ j

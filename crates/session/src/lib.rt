@@ -3,14 +3,14 @@
 #![tactic(auto)]
 
 mod arrival;
+mod entry_packets;
 mod error;
-mod freezing;
+mod form_readers;
+mod form_writers;
 mod received;
-mod sending;
 mod session;
 mod session_queue;
 mod subscriptions;
-mod thawing;
 
 pub use arrival::Arrival;
 pub use error::EnqueueError;

@@ -34,7 +34,7 @@ impl Received {
         }
     }
 
-    /// Says whether the identifier is in the list.
+    /// Returns true if the identifier is in the list.
     pub(crate) fn contains(&self, id: PacketId) -> bool
         ensures { result ≡ has_id id self.now }
     {

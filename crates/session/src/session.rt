@@ -7,7 +7,7 @@ ghost use Rattle.session_base.specs.Identifiers.{max_id, with_id, without_id};
 ghost use Rattle.session_base.specs.Subscriptions.{is_subscribed, with_subscription};
 ghost use Rattle.session_base.specs.Subscriptions.{without_filter, granted_qos};
 ghost use Rattle.session_base.specs.Queue.{on_puback, on_pubrec, on_pubcomp, enqueue, room, filled};
-ghost use Rattle.session_base.specs.Sending.{fill_sends, resend, pubrec_sends};
+ghost use Rattle.session_base.specs.EntryPackets.{fill_sends, resend, pubrec_sends};
 ghost use Rattle.session_base.specs.Session.{empty_session, with_granted, with_received};
 ghost use Rattle.session_base.specs.Session.{with_queue, with_flights};
 ghost use Rattle.session.specs.declared.arrival.Arrival.TheVariants.{First, Again};
@@ -49,7 +49,7 @@ impl Drop for Session {
 
 impl Model for Session {
     ghost use Rattle.session_base.specs.Session.{SessionState};
-    ghost use Rattle.session_base.specs.OrderLaws.{IsReleasedFirst};
+    ghost use Rattle.session_base.specs.OrderTheorems.{IsReleasedFirst};
 
     ghost Value = { SessionState };
 
@@ -92,7 +92,7 @@ impl Session {
         Ok(Arrival::First)
     }
 
-    /// Says whether a QoS 2 PUBLISH with this identifier is a repeat.
+    /// Returns true if a QoS 2 PUBLISH with this identifier is a repeat.
     pub fn is_received(&self, id: PacketId) -> bool
         ensures { result ≡ has_id id self.now.received }
     {
@@ -232,7 +232,7 @@ impl Session {
         self.subscriptions.remove(filter);
     }
 
-    /// Says whether this filter is a subscription of the session.
+    /// Returns true if this filter is a subscription of the session.
     pub fn has_subscription(&self, filter: &Filter) -> bool
         ensures { result ≡ is_subscribed filter.now self.now.subscriptions }
     {

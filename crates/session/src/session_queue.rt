@@ -6,14 +6,14 @@ ghost use Rattle.std.specs.List.{list_any};
 ghost use Rattle.lists.specs.Lists.{has_id};
 ghost use Rattle.session_base.specs.Identifiers.{least_free, max_id};
 ghost use Rattle.session_base.specs.Session.{with_flights};
-ghost use Rattle.session_base.specs.OrderLaws.{IsReleasedFirst};
-ghost use Rattle.session_base.specs.Sending.{fill_sends, resend, pubrec_sends};
+ghost use Rattle.session_base.specs.OrderTheorems.{IsReleasedFirst};
+ghost use Rattle.session_base.specs.EntryPackets.{fill_sends, resend, pubrec_sends};
 ghost use Rattle.session.specs.Inside.{started_with, sends_with, IsAwaited, with_released};
 ghost use Rattle.session_base.specs.Queue.{empty_queue, is_released, awaits_pubrec, awaits_pubcomp};
 ghost use Rattle.session_base.specs.Queue.{on_puback, on_pubrec, on_pubcomp, released_with};
 ghost use Rattle.session_base.specs.Queue.{enqueue, room, filled, ids_of};
 
-use crate::sending::{
+use crate::entry_packets::{
     awaits_of, packet_anew, send_publish, waits_for_puback, waits_for_pubcomp, waits_for_pubrec,
 };
 use indexmap::IndexMap;
@@ -194,7 +194,7 @@ impl SessionQueue {
         Ok(())
     }
 
-    // Says whether an entry with this identifier waits for PUBREC.
+    // Returns true if an entry with this identifier waits for PUBREC.
     fn is_awaited(&self, id: PacketId) -> bool
         ensures test { result ≡ list_any (awaits_pubrec id) self.now.in_flight }
         ensures found { result ≡ true → IsAwaited id self.now.in_flight }
@@ -207,7 +207,7 @@ impl SessionQueue {
         }
     }
 
-    // Says whether an entry with this identifier is released.
+    // Returns true if an entry with this identifier is released.
     fn is_released(&self, id: PacketId) -> bool
         ensures { result ≡ list_any (awaits_pubcomp id) self.now.in_flight }
     {

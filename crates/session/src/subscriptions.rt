@@ -50,7 +50,7 @@ impl Subscriptions {
         &self.filters
     }
 
-    /// Says whether the filter is among them.
+    /// Returns true if the filter is among them.
     pub(crate) fn contains(&self, filter: &Filter) -> bool
         ensures { result ≡ is_subscribed filter.now self.now }
     {

@@ -1,6 +1,6 @@
 -- AnswersByQoS.antt: each entry is finished only by the answers of its QoS.
 use Rattle.std.proofs.Common.{◌≡◌, ℕ, true, ◌==◌, refl, arith}
-use Rattle.session_base.specs.OrderLaws.{AnswersFitTheQoS}
+use Rattle.session_base.specs.OrderTheorems.{AnswersFitTheQoS}
 
 same : (id : ℕ) → (id == id) ≡ true
 same id = grind arith

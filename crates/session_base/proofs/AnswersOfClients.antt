@@ -7,7 +7,7 @@ use Rattle.std.proofs.lemmas.List.Folds.{list_any-append}
 use Rattle.session_base.specs.declared.awaits.Awaits.{Awaits}
 use Rattle.session_base.specs.declared.awaits.Awaits.TheVariants as waits_for
 use Rattle.session_base.specs.Queue.{Flight, is_pubcomp, is_pubrec, is_released, awaits_puback, awaits_pubrec, awaits_pubcomp, released_with, on_pubrec}
-use Rattle.session_base.specs.OrderLaws.{OtherAnswersChangeNothing, SecondPubrecChangesNothing, ReleasedComesLast}
+use Rattle.session_base.specs.OrderTheorems.{OtherAnswersChangeNothing, SecondPubrecChangesNothing, ReleasedComesLast}
 
 -- ---- answers for which nothing waits
 

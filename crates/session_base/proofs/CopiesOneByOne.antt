@@ -5,7 +5,7 @@ use Rattle.session_base.specs.declared.publication.Publication.{Publication}
 use Rattle.session_base.specs.Publication.{is_answered}
 use Rattle.session_base.specs.Queue.{Flight, started_flight, fill}
 use Rattle.session_base.specs.Copies.{copies_left}
-use Rattle.session_base.specs.Laws.{IsFilledQueue, CopiesAreOneFill}
+use Rattle.session_base.specs.Theorems.{IsFilledQueue, CopiesAreOneFill}
 use Rattle.session_base.proofs.FillsOfQueues as fills
 
 shut : (k w : ℕ) → w ≤ k → nat_lt k w ≡ false

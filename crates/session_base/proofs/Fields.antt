@@ -8,7 +8,7 @@ use Rattle.packet_base.proofs.FieldsAgain.{front_again, id_again, topic_again, f
 use Rattle.packet_base.specs.QoS.{qos_number}
 use Rattle.packet.specs.Spelling.{max_body}
 use Rattle.packet_base.specs.declared.qos.QoS.{QoS}
-use Rattle.packet_base.specs.declared.qos.QoS.TheVariants as qualities
+use Rattle.packet_base.specs.declared.qos.QoS.TheVariants as qos_levels
 use Rattle.session_base.specs.declared.publication.Publication.{Publication}
 use Rattle.session_base.specs.declared.awaits.Awaits.{Awaits}
 use Rattle.session_base.specs.declared.awaits.Awaits.TheVariants as waits_for
@@ -26,9 +26,9 @@ flag_again false rest = refl
 
 pub qos_again : (q : QoS) (rest : List ℕ) → qos_at (qos_number q ∷ rest) ≡ Ok (q, rest)
 unfolding qos_at
-qos_again qualities.AtMostOnce rest = refl
-qos_again qualities.AtLeastOnce rest = refl
-qos_again qualities.ExactlyOnce rest = refl
+qos_again qos_levels.AtMostOnce rest = refl
+qos_again qos_levels.AtLeastOnce rest = refl
+qos_again qos_levels.ExactlyOnce rest = refl
 
 pub long_again : (n : ℕ) (rest : List ℕ) → n < 2 ^ 32 → long_number_at (long_number n ++ rest) ≡ Ok (n, rest)
 unfolding long_number_at
@@ -52,9 +52,9 @@ size_of p h = by p.qos h
 
     by : (q : QoS) → CanBeSent (record { retain = p.retain; qos = q; topic = p.topic; payload = p.payload }) →
         2 + length p.topic + (if is_answered q then 2 else 0) + length p.payload ≤ max_body
-    by qualities.AtMostOnce h = without_id h.2
-    by qualities.AtLeastOnce h = with_id h.2
-    by qualities.ExactlyOnce h = with_id h.2
+    by qos_levels.AtMostOnce h = without_id h.2
+    by qos_levels.AtLeastOnce h = with_id h.2
+    by qos_levels.ExactlyOnce h = with_id h.2
 
 regrouped : (a b c rest : List ℕ) → (a ++ (b ++ c)) ++ rest ≡ a ++ (b ++ (c ++ rest))
 regrouped a b c rest = append_assoc a (b ++ c) rest ∙ ap (λ (z : List ℕ). a ++ z) (append_assoc b c rest)
@@ -93,9 +93,9 @@ waits p q e a h = (ap is_answered e ∙ a, h)
 awaits_again : (id : ℕ) (awaits : Awaits) (rest : List ℕ) → IsInFlight (id, awaits) → awaits_at (awaits_bytes awaits ++ rest) ≡ Ok (awaits, rest)
 unfolding awaits_at sent_at
 awaits_again id (waits_for.Puback p) rest h =
-    rw (waiting_again p (waits p qualities.AtLeastOnce h.1 refl h.2) rest, ap is_qos1 h.1) refl
+    rw (waiting_again p (waits p qos_levels.AtLeastOnce h.1 refl h.2) rest, ap is_qos1 h.1) refl
 awaits_again id (waits_for.Pubrec p) rest h =
-    rw (waiting_again p (waits p qualities.ExactlyOnce h.1 refl h.2) rest, ap is_qos1 h.1) refl
+    rw (waiting_again p (waits p qos_levels.ExactlyOnce h.1 refl h.2) rest, ap is_qos1 h.1) refl
 awaits_again id waits_for.Pubcomp rest h = refl
 
 id_of : (id : ℕ) (awaits : Awaits) → IsInFlight (id, awaits) → IsId id

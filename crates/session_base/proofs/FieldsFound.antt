@@ -6,14 +6,14 @@ use Rattle.std.proofs.lemmas.List.{length-append}
 use Rattle.topics.specs.Text.{is_topic, is_filter}
 use Rattle.packet_base.specs.declared.stop.Stop.{Stop}
 use Rattle.packet_base.specs.Spelling.{IsId, number, text}
-use Rattle.packet_base.specs.Reading.{AreBytes, byte_at, front_at, number_at, id_at}
+use Rattle.packet_base.specs.Readers.{AreBytes, byte_at, front_at, number_at, id_at}
 use Rattle.packet_base.specs.TopicFields.{topic_at, filter_at}
 use Rattle.packet_base.proofs.Steps.{then_if, check_if}
 use Rattle.packet_base.proofs.FieldsFound.{Splits, byte_found, front_found, number_found, id_found, topic_found, filter_found}
 use Rattle.packet.specs.Spelling.{max_body}
 use Rattle.packet_base.specs.QoS.{qos_of}
 use Rattle.packet_base.specs.declared.qos.QoS.{QoS}
-use Rattle.packet_base.specs.declared.qos.QoS.TheVariants as qualities
+use Rattle.packet_base.specs.declared.qos.QoS.TheVariants as qos_levels
 use Rattle.session_base.specs.declared.publication.Publication.{Publication}
 use Rattle.session_base.specs.declared.awaits.Awaits.{Awaits}
 use Rattle.session_base.specs.declared.awaits.Awaits.TheVariants as waits_for
@@ -81,9 +81,9 @@ sent_of p topic h = by p.qos h
 
     by : (q : QoS) → 2 + length p.topic + (if is_answered q then 2 else 0) + length p.payload ≤ max_body →
         CanBeSent (record { retain = p.retain; qos = q; topic = p.topic; payload = p.payload })
-    by qualities.AtMostOnce k = ((topic, tt), tt, without_id k)
-    by qualities.AtLeastOnce k = ((topic, (omega arith, omega arith)), tt, with_id k)
-    by qualities.ExactlyOnce k = ((topic, (omega arith, omega arith)), tt, with_id k)
+    by qos_levels.AtMostOnce k = ((topic, tt), tt, without_id k)
+    by qos_levels.AtLeastOnce k = ((topic, (omega arith, omega arith)), tt, with_id k)
+    by qos_levels.ExactlyOnce k = ((topic, (omega arith, omega arith)), tt, with_id k)
 
 pub sized_found : (p : Publication) → is_topic p.topic ≡ true → IfOk (sized p) CanBeSent
 sized_found p topic = check_if (nat_le (body_length p) max_body) _ _ CanBeSent (λ test. sent_of p topic (leb-true _ _ test))
@@ -121,15 +121,15 @@ a_held_one bytes fits =
 abbrev Awaiting : Awaits → Type 0
 Awaiting awaits = (id : ℕ) → IsId id → IsInFlight (id, awaits)
 
-of_qos_1 : (q : QoS) → is_qos1 q ≡ true → is_answered q ≡ true → q ≡ qualities.AtLeastOnce
-of_qos_1 qualities.AtMostOnce e f = absurd (cc)
-of_qos_1 qualities.AtLeastOnce e f = refl
-of_qos_1 qualities.ExactlyOnce e f = absurd (cc)
+of_qos_1 : (q : QoS) → is_qos1 q ≡ true → is_answered q ≡ true → q ≡ qos_levels.AtLeastOnce
+of_qos_1 qos_levels.AtMostOnce e f = absurd (cc)
+of_qos_1 qos_levels.AtLeastOnce e f = refl
+of_qos_1 qos_levels.ExactlyOnce e f = absurd (cc)
 
-of_qos_2 : (q : QoS) → not (is_qos1 q) ≡ true → is_answered q ≡ true → q ≡ qualities.ExactlyOnce
-of_qos_2 qualities.AtMostOnce e f = absurd (cc)
-of_qos_2 qualities.AtLeastOnce e f = absurd (cc)
-of_qos_2 qualities.ExactlyOnce e f = refl
+of_qos_2 : (q : QoS) → not (is_qos1 q) ≡ true → is_answered q ≡ true → q ≡ qos_levels.ExactlyOnce
+of_qos_2 qos_levels.AtMostOnce e f = absurd (cc)
+of_qos_2 qos_levels.AtLeastOnce e f = absurd (cc)
+of_qos_2 qos_levels.ExactlyOnce e f = refl
 
 a_sent_one : (acknowledged : Bool) → IsFound (sent_at acknowledged) Awaiting
 unfolding sent_at

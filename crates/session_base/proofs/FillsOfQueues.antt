@@ -7,8 +7,8 @@ use Rattle.session_base.specs.declared.awaits.Awaits.TheVariants as waits_for
 use Rattle.session_base.specs.Publication.{is_qos1, publish_for}
 use Rattle.session_base.specs.Identifiers.{least_free}
 use Rattle.session_base.specs.Queue.{Flight, ids_of, started_flight, fill}
-use Rattle.session_base.specs.Sending.{fill_sends}
-use Rattle.session_base.specs.Laws.{publications_in_flight, first_sent, FillIsDone, FillStaysWithin, FillKeepsOrder, FillSendsWhatStarts, FillsJoin}
+use Rattle.session_base.specs.EntryPackets.{fill_sends}
+use Rattle.session_base.specs.Theorems.{publications_in_flight, first_sent, FillIsDone, FillStaysWithin, FillKeepsOrder, FillSendsWhatStarts, FillsJoin}
 
 -- ---- the window
 

@@ -4,7 +4,7 @@ use Rattle.std.specs.Prelude.{bytes_eq}
 use Rattle.std.specs.Cmp.Lexicographic.{bytes_decides}
 use Rattle.std.proofs.lemmas.Bool.{or_parts, or_from}
 use Rattle.session_base.specs.Subscriptions.{GrantedSubscription, is_subscribed, with_subscription, without_filter}
-use Rattle.session_base.specs.KeepingLaws.{AreFiltersApart, FiltersStayApart}
+use Rattle.session_base.specs.KeepingTheorems.{AreFiltersApart, FiltersStayApart}
 
 -- texts that differ do so either way round
 pub turned : (f g : List ℕ) → bytes_eq f g ≡ false → bytes_eq g f ≡ false

@@ -2,7 +2,7 @@
 use Rattle.std.proofs.Common.{◌≡◌, ◌∙◌, ℕ, Bool, true, false, ◌||◌, if◌then◌else◌, List, [], ◌∷◌, ◌++◌, refl, ap}
 use Rattle.std.specs.Prelude.{bytes_eq}
 use Rattle.session_base.specs.Subscriptions.{is_subscribed, with_subscription}
-use Rattle.session_base.specs.KeepingLaws.{filters_of, FiltersKeepTheirOrder}
+use Rattle.session_base.specs.KeepingTheorems.{filters_of, FiltersKeepTheirOrder}
 
 in_front : (first : List ℕ) (b : Bool) (xs ys : List (List ℕ)) → first ∷ (if b then xs else ys) ≡ (if b then first ∷ xs else first ∷ ys)
 in_front first true xs ys = refl

@@ -3,12 +3,12 @@
 use Rattle.std.proofs.Common.{◌≡◌, ℕ, zero, suc, Bool, nat_le, List, [], ◌∷◌, ◌++◌, ◌≤◌, length, Result, Ok, Err, refl, sym, ap, ◌∙◌, subst, arith, append_assoc, append-nil}
 use Rattle.std.specs.Prelude.{IfOk}
 use Rattle.packet_base.specs.declared.stop.Stop.{Stop}
-use Rattle.packet_base.specs.Reading.{number_at}
+use Rattle.packet_base.specs.Readers.{number_at}
 use Rattle.std.proofs.lemmas.Bool.{leb-true}
 use Rattle.packet_base.specs.Outcome.{Reads}
 use Rattle.packet_base.specs.Lists.{ItemAt}
 use Rattle.packet_base.proofs.Steps.{then_if, check_if}
-use Rattle.session_base.specs.OrderLaws.{IsReleasedFirst}
+use Rattle.session_base.specs.OrderTheorems.{IsReleasedFirst}
 use Rattle.session_base.specs.Queue.{Flight}
 use Rattle.session_base.specs.Counted.{counted_items_at, items_after}
 use Rattle.session_base.specs.Form.{may_follow, flight_at}

@@ -10,8 +10,8 @@ use Rattle.std.proofs.lemmas.Bool.{or_parts, or_from}
 use Rattle.std.proofs.lemmas.Cmp.{nat_cmp_total}
 use Rattle.lists.specs.Lists.{has_id, IsDistinct}
 use Rattle.session_base.specs.Subscriptions.{GrantedSubscription, is_subscribed}
-use Rattle.session_base.specs.KeepingLaws.{AreFiltersApart}
-use Rattle.session_base.specs.OrderLaws.{NoneReleased, IsReleasedFirst}
+use Rattle.session_base.specs.KeepingTheorems.{AreFiltersApart}
+use Rattle.session_base.specs.OrderTheorems.{NoneReleased, IsReleasedFirst}
 use Rattle.session_base.specs.Queue.{Flight, ids_of, is_released}
 use Rattle.session_base.proofs.FiltersApart.{turned}
 use Rattle.session_base.specs.Counted.{last_of}

@@ -7,13 +7,13 @@ use Rattle.std.specs.Ordering.{nat_cmp}
 use Rattle.std.proofs.lemmas.List.Elements.{All-from_recursion}
 use Rattle.std.proofs.lemmas.Map.Views.{length-le_from_below}
 use Rattle.packet_base.specs.Spelling.{IsId, number}
-use Rattle.packet_base.specs.Reading.{byte_at, number_at, id_at}
+use Rattle.packet_base.specs.Readers.{byte_at, number_at, id_at}
 use Rattle.packet_base.proofs.FieldsAgain.{number_again, id_again}
 use Rattle.session_base.specs.InRange.{IsGrantedSubscription, IsInFlight, MayWait}
 use Rattle.session_base.specs.Counted.{counted_bytes}
 use Rattle.session_base.specs.Form.{one_byte, granted_subscription_bytes, flight_bytes, publication_bytes, granted_subscription_at, flight_at, waiting_at, is_new_filter, is_above, may_follow, anything}
 use Rattle.session_base.specs.SessionForm.{state_at}
-use Rattle.session_base.specs.FormLaws.{FrozenIsRead}
+use Rattle.session_base.specs.FormTheorems.{FrozenIsRead}
 use Rattle.session_base.proofs.Counted.{IsReadAgain, counted_again}
 use Rattle.session_base.proofs.Fields.{held_again, flight_again, waiting_again}
 use Rattle.session_base.proofs.Follows.{filters_follow, received_follow, flights_follow, waiting_follow}

@@ -1,14 +1,14 @@
 -- A session that was read has a form.
 use Rattle.std.proofs.Common.{ℕ, ◌-◌, List, length, arith}
 use Rattle.packet_base.specs.Spelling.{IsId}
-use Rattle.packet_base.specs.Reading.{AreBytes, byte_at, number_at, id_at}
+use Rattle.packet_base.specs.Readers.{AreBytes, byte_at, number_at, id_at}
 use Rattle.packet_base.proofs.Steps.{then_if}
 use Rattle.session_base.specs.Session.{SessionState}
 use Rattle.session_base.specs.InRange.{IsGrantedSubscription, IsInFlight, MayWait}
 use Rattle.session_base.specs.Counted.{counted_items_at}
 use Rattle.session_base.specs.Form.{granted_subscription_at, flight_at, waiting_at, is_new_filter, is_above, may_follow, anything}
 use Rattle.session_base.specs.SessionForm.{state_at}
-use Rattle.session_base.specs.FormLaws.{HasForm, FitsIn, ReadHasForm}
+use Rattle.session_base.specs.FormTheorems.{HasForm, FitsIn, ReadHasForm}
 use Rattle.session_base.proofs.Found.{AreRead, counted_found}
 use Rattle.session_base.proofs.FieldsFound.{a_byte, a_number, an_id, a_held_one, a_flight, a_waiting_one}
 use Rattle.session_base.proofs.FollowsFound.{filters_are_apart, received_rise, flights_are_distinct, released_come_first}

@@ -6,7 +6,7 @@ use Rattle.session_base.specs.declared.publication.Publication.{Publication}
 use Rattle.lists.specs.Lists.{has_id, IsDistinct}
 use Rattle.session_base.specs.Identifiers.{free_from, least_free}
 use Rattle.session_base.specs.Queue.{Flight, ids_of, started_flight, fill}
-use Rattle.session_base.specs.Laws.{IsLeastFree, FillKeepsApart}
+use Rattle.session_base.specs.Theorems.{IsLeastFree, FillKeepsApart}
 use Rattle.session_base.proofs.CountedIdentifiers.{not_among, least_is_free}
 
 -- ---- identifiers

@@ -4,7 +4,7 @@ use Rattle.std.proofs.lemmas.List.{map-append, length-map}
 use Rattle.session_base.specs.declared.awaits.Awaits.TheVariants as waits_for
 use Rattle.lists.specs.Lists.{has_id, IsDistinct}
 use Rattle.session_base.specs.Queue.{Flight, is_released, awaits_puback, awaits_pubrec, awaits_pubcomp, released_with, on_pubrec, ids_of}
-use Rattle.session_base.specs.OrderLaws.{AnswersKeepApart}
+use Rattle.session_base.specs.OrderTheorems.{AnswersKeepApart}
 use Rattle.session_base.proofs.CountedIdentifiers.{one_if, count, count-append, SameIds, same_length, not_counted, not_among}
 use Rattle.session_base.proofs.PubrecAlone.{Found, find}
 

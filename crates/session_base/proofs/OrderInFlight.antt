@@ -6,8 +6,8 @@ use Rattle.session_base.specs.declared.publication.Publication.{Publication}
 use Rattle.session_base.specs.declared.awaits.Awaits.TheVariants as waits_for
 use Rattle.session_base.specs.Publication.{is_qos1}
 use Rattle.session_base.specs.Queue.{Flight, is_pubcomp, is_released, awaits_puback, awaits_pubrec, awaits_pubcomp, released_with, on_pubrec, started_flight, fill}
-use Rattle.session_base.specs.Sending.{sent_anew}
-use Rattle.session_base.specs.OrderLaws.{NoneReleased, IsReleasedFirst, KeepsReleasedFirst, ResendsInOrder}
+use Rattle.session_base.specs.EntryPackets.{sent_anew}
+use Rattle.session_base.specs.OrderTheorems.{NoneReleased, IsReleasedFirst, KeepsReleasedFirst, ResendsInOrder}
 use Rattle.session_base.proofs.AnswersOfClients.{first_no}
 
 -- ---- released first

@@ -6,7 +6,7 @@ use Rattle.packet_base.specs.declared.stop.Stop.TheVariants as stops
 use Rattle.topics.specs.declared.malformed.MalformedKind.TheVariants as kinds
 use Rattle.packet_base.specs.Outcome.{StopsBy}
 use Rattle.packet_base.specs.Lists.{ItemAt}
-use Rattle.packet_base.specs.Reading.{◌>>=◌, ◌>>◌}
+use Rattle.packet_base.specs.Readers.{◌>>=◌, ◌>>◌}
 use Rattle.packet_base.proofs.ItemsInALoop.{stops_at, stops_cases}
 use Rattle.session_base.specs.Counted.{check_form, items_after, AddsItem}
 

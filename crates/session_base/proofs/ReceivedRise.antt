@@ -8,7 +8,7 @@ use Rattle.std.specs.List.Sorted.{IsStrictlySortedBy}
 use Rattle.std.proofs.lemmas.Cmp.{nat_cmp_total}
 use Rattle.std.proofs.lemmas.List.Kept.{IsStrictlySortedBy-filter}
 use Rattle.session_base.specs.Identifiers.{with_id}
-use Rattle.session_base.specs.KeepingLaws.{ReceivedStayRising}
+use Rattle.session_base.specs.KeepingTheorems.{ReceivedStayRising}
 
 abbrev pub Above : ℕ → List ℕ → Type 0
 Above i ids = AllByRecursion (λ other. nat_cmp i other ≡ Less) ids

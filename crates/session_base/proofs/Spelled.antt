@@ -6,7 +6,7 @@ use Rattle.std.proofs.lemmas.Nat.{be_bytes_4}
 use Rattle.topics.specs.Text.{is_topic, is_filter}
 use Rattle.packet_base.specs.Lists.{ItemAt}
 use Rattle.packet_base.specs.Spelling.{number, text, bit}
-use Rattle.packet_base.specs.Reading.{AreBytes, byte_at, front_at, number_at, id_at}
+use Rattle.packet_base.specs.Readers.{AreBytes, byte_at, front_at, number_at, id_at}
 use Rattle.packet_base.specs.TopicFields.{topic_at, filter_at}
 use Rattle.packet_base.proofs.Steps.{then_if, check_if}
 use Rattle.packet_base.proofs.FieldsFound.{Splits, Splits-then, byte_found, front_found, number_found, id_found, topic_found, filter_found}
@@ -22,7 +22,7 @@ use Rattle.session_base.specs.Session.{SessionState}
 use Rattle.session_base.specs.Counted.{counted_bytes, counted_items_at, items_after}
 use Rattle.session_base.specs.Form.{long_number, one_byte, publication_bytes, granted_subscription_bytes, awaits_bytes, flight_bytes, state_bytes, flag_at, long_number_at, qos_at, body_length, sized, publication_at, granted_subscription_at, waiting_at, sent_at, awaits_at, flight_at, is_new_filter, is_above, may_follow, anything}
 use Rattle.session_base.specs.SessionForm.{state_at}
-use Rattle.session_base.specs.FormLaws.{ReadIsFrozen}
+use Rattle.session_base.specs.FormTheorems.{ReadIsFrozen}
 use Rattle.session_base.proofs.Found.{weaker}
 
 -- an item that is read is in front as it is written

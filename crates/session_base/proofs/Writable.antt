@@ -7,7 +7,7 @@ use Rattle.session_base.specs.Queue.{Flight}
 use Rattle.session_base.specs.Session.{SessionState}
 use Rattle.session_base.specs.InRange.{CanBeSent, MayWait, IsInFlight}
 use Rattle.session_base.specs.Form.{HasLength, IsWritable}
-use Rattle.session_base.specs.FormLaws.{HasForm}
+use Rattle.session_base.specs.FormTheorems.{HasForm}
 use Rattle.session_base.proofs.Fields.{size_of}
 use Rattle.session_base.proofs.FormAgain.{each, few_ids}
 

@@ -6,7 +6,7 @@ use Rattle.std.specs.List.{last_or}
 use Rattle.topics.specs.declared.malformed.MalformedKind.TheVariants as kinds
 use Rattle.packet_base.specs.declared.stop.Stop.{Stop}
 use Rattle.packet_base.specs.declared.stop.Stop.TheVariants as stops
-use Rattle.packet_base.specs.Reading.{◌>>=◌, ◌>>◌, check}
+use Rattle.packet_base.specs.Readers.{◌>>=◌, ◌>>◌, check}
 use Rattle.packet_base.specs.Lists.{ItemAt}
 
 -- continues if the test is true; otherwise the bytes are not of the form

@@ -4,7 +4,7 @@ use Rattle.std.specs.Prelude.{ℕ, ◌+◌, Bool, not, ◌==◌, nat_lt, nat_le,
 use Rattle.std.specs.Prelude.{length, Result, Ok}
 use Rattle.std.specs.Int.{w32, from_be_bytes}
 use Rattle.packet_base.specs.declared.stop.Stop.{Stop}
-use Rattle.packet_base.specs.Reading.{◌>>=◌, ◌>>◌, byte_at, front_at, id_at}
+use Rattle.packet_base.specs.Readers.{◌>>=◌, ◌>>◌, byte_at, front_at, id_at}
 use Rattle.packet_base.specs.TopicFields.{topic_at, filter_at}
 use Rattle.packet_base.specs.QoS.{qos_of}
 use Rattle.packet_base.specs.declared.qos.QoS.{QoS}
@@ -16,8 +16,8 @@ use Rattle.session_base.specs.Publication.{is_answered, is_qos1}
 use Rattle.session_base.specs.Subscriptions.{GrantedSubscription}
 use Rattle.session_base.specs.Queue.{Flight}
 use Rattle.session_base.specs.Counted.{check_form}
-pub use Rattle.session_base.specs.Writing.{long_number, one_byte, publication_bytes, granted_subscription_bytes}
-pub use Rattle.session_base.specs.Writing.{awaits_bytes, flight_bytes, state_bytes, HasLength, IsWritable}
+pub use Rattle.session_base.specs.Bytes.{long_number, one_byte, publication_bytes, granted_subscription_bytes}
+pub use Rattle.session_base.specs.Bytes.{awaits_bytes, flight_bytes, state_bytes, HasLength, IsWritable}
 pub use Rattle.session_base.specs.Follows.{is_new_filter, is_above_last, is_above, was_released}
 pub use Rattle.session_base.specs.Follows.{may_follow, anything}
 

@@ -3,7 +3,7 @@
 -- bytes its PUBLISH has after the header, counted by hand.
 use Rattle.std.specs.Prelude.{◌≡◌, ℕ, true, false, List, [], ◌∷◌, ◌++◌, codes}
 use Rattle.packet_base.specs.declared.qos.QoS.{QoS}
-use Rattle.packet_base.specs.declared.qos.QoS.TheVariants as qualities
+use Rattle.packet_base.specs.declared.qos.QoS.TheVariants as qos_levels
 use Rattle.session_base.specs.declared.publication.Publication.{Publication}
 use Rattle.session_base.specs.declared.awaits.Awaits.TheVariants as waits_for
 use Rattle.session_base.specs.Queue.{Queue}
@@ -13,22 +13,32 @@ use Rattle.session_base.specs.Form.{state_bytes}
 -- a publication at QoS 1
 abbrev pub at_least_once : Publication
 at_least_once =
-    record { retain = false; qos = qualities.AtLeastOnce; topic = codes "t/1"; payload = codes "x" }
+    record {
+      retain = false;
+      qos = qos_levels.AtLeastOnce;
+      topic = codes "t/1";
+      payload = codes "x";
+    }
 
 -- a publication at QoS 2
 abbrev pub exactly_once : Publication
 exactly_once =
-    record { retain = false; qos = qualities.ExactlyOnce; topic = codes "t/1"; payload = codes "y" }
+    record {
+      retain = false;
+      qos = qos_levels.ExactlyOnce;
+      topic = codes "t/1";
+      payload = codes "y";
+    }
 
 -- what waits: a retained copy at QoS 1, and a publication without a payload
 abbrev pub retained_in_row : Publication
 retained_in_row =
-    record { retain = true; qos = qualities.AtLeastOnce; topic = codes "t/2"; payload = codes "z" }
+    record { retain = true; qos = qos_levels.AtLeastOnce; topic = codes "t/2"; payload = codes "z" }
 
 -- a publication without a payload
 abbrev pub without_payload : Publication
 without_payload =
-    record { retain = false; qos = qualities.ExactlyOnce; topic = codes "t/1"; payload = [] }
+    record { retain = false; qos = qos_levels.ExactlyOnce; topic = codes "t/1"; payload = [] }
 
 -- three entries in flight, and two that wait
 abbrev pub full_queue : Queue
@@ -42,7 +52,7 @@ full_queue = record {
 -- a session with something in each part
 abbrev pub full_session : SessionState
 full_session = record {
-  subscriptions = (codes "t/#", qualities.AtMostOnce) ∷ (codes "t/1", qualities.ExactlyOnce) ∷ [];
+  subscriptions = (codes "t/#", qos_levels.AtMostOnce) ∷ (codes "t/1", qos_levels.ExactlyOnce) ∷ [];
   received = 1 ∷ 258 ∷ [];
   queue = full_queue;
 }

@@ -6,7 +6,7 @@ use Rattle.topics.specs.Text.{is_filter}
 use Rattle.packet_base.specs.Spelling.{IsId}
 use Rattle.packet.specs.Spelling.{IsPacket}
 use Rattle.packet.specs.declared.packet.Packet.TheVariants as packets
-use Rattle.packet_base.specs.declared.qos.QoS.TheVariants as qualities
+use Rattle.packet_base.specs.declared.qos.QoS.TheVariants as qos_levels
 use Rattle.session_base.specs.declared.publication.Publication.{Publication}
 use Rattle.session_base.specs.declared.awaits.Awaits.TheVariants as waits_for
 use Rattle.session_base.specs.Publication.{publish_for, is_answered}
@@ -24,9 +24,9 @@ MayWait publication = IsTrue (is_answered publication.qos) × CanBeSent publicat
 -- an entry in flight: PUBACK answers QoS 1, PUBREC answers QoS 2 (MQTT 4.3)
 abbrev pub IsInFlight : Flight → Type 0
 IsInFlight (id, waits_for.Puback publication) =
-    IsId id × (publication.qos ≡ qualities.AtLeastOnce) × CanBeSent publication
+    IsId id × (publication.qos ≡ qos_levels.AtLeastOnce) × CanBeSent publication
 IsInFlight (id, waits_for.Pubrec publication) =
-    IsId id × (publication.qos ≡ qualities.ExactlyOnce) × CanBeSent publication
+    IsId id × (publication.qos ≡ qos_levels.ExactlyOnce) × CanBeSent publication
 IsInFlight (id, waits_for.Pubcomp) = IsId id
 
 -- a subscription: a filter that is lawful

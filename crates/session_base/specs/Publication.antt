@@ -1,7 +1,7 @@
 -- Publications, and the packets that carry them (MQTT 3.3).
 use Rattle.std.specs.Prelude.{ℕ, Bool, true, false}
 use Rattle.packet_base.specs.declared.qos.QoS.{QoS}
-use Rattle.packet_base.specs.declared.qos.QoS.TheVariants as qualities
+use Rattle.packet_base.specs.declared.qos.QoS.TheVariants as qos_levels
 use Rattle.packet.specs.declared.delivery.Delivery.{Delivery}
 use Rattle.packet.specs.declared.delivery.Delivery.TheVariants as deliveries
 use Rattle.packet.specs.declared.publish.Publish.{Publish}
@@ -20,9 +20,9 @@ publication_of publish =
 
 -- how a publication is delivered at this QoS, with DUP and identifier if the QoS has them
 abbrev pub delivery_with : QoS → Bool → ℕ → Delivery
-delivery_with qualities.AtMostOnce dup id = deliveries.AtMostOnce
-delivery_with qualities.AtLeastOnce dup id = deliveries.AtLeastOnce dup id
-delivery_with qualities.ExactlyOnce dup id = deliveries.ExactlyOnce dup id
+delivery_with qos_levels.AtMostOnce dup id = deliveries.AtMostOnce
+delivery_with qos_levels.AtLeastOnce dup id = deliveries.AtLeastOnce dup id
+delivery_with qos_levels.ExactlyOnce dup id = deliveries.ExactlyOnce dup id
 
 -- the PUBLISH that carries it
 abbrev pub publish_for : Bool → ℕ → Publication → Publish
@@ -36,12 +36,12 @@ publish_for dup id publication =
 
 -- whether a publication of this QoS goes into a queue: QoS 1 and 2 are answered
 abbrev pub is_answered : QoS → Bool
-is_answered qualities.AtMostOnce = false
-is_answered qualities.AtLeastOnce = true
-is_answered qualities.ExactlyOnce = true
+is_answered qos_levels.AtMostOnce = false
+is_answered qos_levels.AtLeastOnce = true
+is_answered qos_levels.ExactlyOnce = true
 
 -- whether a QoS is 1: PUBACK is the whole answer
 abbrev pub is_qos1 : QoS → Bool
-is_qos1 qualities.AtMostOnce = false
-is_qos1 qualities.AtLeastOnce = true
-is_qos1 qualities.ExactlyOnce = false
+is_qos1 qos_levels.AtMostOnce = false
+is_qos1 qos_levels.AtLeastOnce = true
+is_qos1 qos_levels.ExactlyOnce = false

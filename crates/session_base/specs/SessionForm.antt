@@ -2,7 +2,7 @@
 use Rattle.std.specs.Prelude.{ℕ, ◌-◌, List}
 use Rattle.std.specs.Prelude.{length, Result, Ok}
 use Rattle.packet_base.specs.declared.stop.Stop.{Stop}
-use Rattle.packet_base.specs.Reading.{◌>>=◌, ◌>>◌, byte_at, number_at, id_at}
+use Rattle.packet_base.specs.Readers.{◌>>=◌, ◌>>◌, byte_at, number_at, id_at}
 use Rattle.session_base.specs.Identifiers.{max_id}
 use Rattle.session_base.specs.Session.{SessionState, max_entries, max_subscriptions}
 use Rattle.session_base.specs.Counted.{counted_items_at}

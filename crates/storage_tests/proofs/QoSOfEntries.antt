@@ -21,36 +21,36 @@ AllFit = AllByRecursion FitsItsQoS
 -- ---- the client's answers
 
 puback_fits : (n i : ℕ) (entry : Entry) → FitsItsQoS entry → FitsItsQoS (at_puback n i entry)
-puback_fits n i (Entry.Waits made p) h = h
-puback_fits n i (Entry.Started made p id start) h = by (i == id) (is_qos1 p.qos) refl
+puback_fits n i (Entry.Queued made p) h = h
+puback_fits n i (Entry.Sent made p id start) h = by (i == id) (is_qos1 p.qos) refl
   where
-    by : (a b : Bool) → is_qos1 p.qos ≡ b → FitsItsQoS (if a && b then Entry.Finished made p id start None n else Entry.Started made p id start)
+    by : (a b : Bool) → is_qos1 p.qos ≡ b → FitsItsQoS (if a && b then Entry.Done made p id start None n else Entry.Sent made p id start)
     by true true e = e
     by true false e = tt
     by false b e = tt
 puback_fits n i (Entry.Released made p id start release) h = h
-puback_fits n i (Entry.Finished made p id start release finish) h = h
+puback_fits n i (Entry.Done made p id start release finish) h = h
 
 pubrec_fits : (n i : ℕ) (entry : Entry) → FitsItsQoS entry → FitsItsQoS (at_pubrec n i entry)
-pubrec_fits n i (Entry.Waits made p) h = h
-pubrec_fits n i (Entry.Started made p id start) h = by (i == id) (is_qos1 p.qos) refl
+pubrec_fits n i (Entry.Queued made p) h = h
+pubrec_fits n i (Entry.Sent made p id start) h = by (i == id) (is_qos1 p.qos) refl
   where
-    by : (a b : Bool) → is_qos1 p.qos ≡ b → FitsItsQoS (if a && not b then Entry.Released made p id start n else Entry.Started made p id start)
+    by : (a b : Bool) → is_qos1 p.qos ≡ b → FitsItsQoS (if a && not b then Entry.Released made p id start n else Entry.Sent made p id start)
     by true true e = tt
     by true false e = e
     by false b e = tt
 pubrec_fits n i (Entry.Released made p id start release) h = h
-pubrec_fits n i (Entry.Finished made p id start release finish) h = h
+pubrec_fits n i (Entry.Done made p id start release finish) h = h
 
 pubcomp_fits : (n i : ℕ) (entry : Entry) → FitsItsQoS entry → FitsItsQoS (at_pubcomp n i entry)
-pubcomp_fits n i (Entry.Waits made p) h = h
-pubcomp_fits n i (Entry.Started made p id start) h = h
+pubcomp_fits n i (Entry.Queued made p) h = h
+pubcomp_fits n i (Entry.Sent made p id start) h = h
 pubcomp_fits n i (Entry.Released made p id start release) h = by (i == id)
   where
-    by : (a : Bool) → FitsItsQoS (if a then Entry.Finished made p id start (Some release) n else Entry.Released made p id start release)
+    by : (a : Bool) → FitsItsQoS (if a then Entry.Done made p id start (Some release) n else Entry.Released made p id start release)
     by true = h
     by false = h
-pubcomp_fits n i (Entry.Finished made p id start release finish) h = h
+pubcomp_fits n i (Entry.Done made p id start release finish) h = h
 
 each_fits : (f : Entry → Entry) → ((entry : Entry) → FitsItsQoS entry → FitsItsQoS (f entry)) → (entries : List Entry) → AllFit entries → AllFit (map f entries)
 each_fits f to [] h = tt
@@ -71,22 +71,22 @@ answered_fit command mark n c entries h = h
 
 -- ---- what is made and what starts
 
-more_fit : (n : ℕ) (entries : List Entry) (ps : List Publication) → AllFit entries → AllFit (entries ++ map (Entry.Waits n) ps)
+more_fit : (n : ℕ) (entries : List Entry) (ps : List Publication) → AllFit entries → AllFit (entries ++ map (Entry.Queued n) ps)
 more_fit n [] [] h = tt
 more_fit n [] (p ∷ ps) h = (tt, more_fit n [] ps h)
 more_fit n (entry ∷ entries) ps h = (h.0, more_fit n entries ps h.1)
 
 start_fits : (window n : ℕ) (busy : List ℕ) (entries : List Entry) → AllFit entries → AllFit (start_all window n busy entries)
 start_fits window n busy [] h = tt
-start_fits window n busy (Entry.Waits made p ∷ entries) h = by (nat_lt (length busy) window) (start_fits window n (least_free busy ∷ busy) entries h.1)
+start_fits window n busy (Entry.Queued made p ∷ entries) h = by (nat_lt (length busy) window) (start_fits window n (least_free busy ∷ busy) entries h.1)
   where
     by : (b : Bool) → AllFit (start_all window n (least_free busy ∷ busy) entries) →
-        AllFit (if b then Entry.Started made p (least_free busy) n ∷ start_all window n (least_free busy ∷ busy) entries else Entry.Waits made p ∷ entries)
+        AllFit (if b then Entry.Sent made p (least_free busy) n ∷ start_all window n (least_free busy ∷ busy) entries else Entry.Queued made p ∷ entries)
     by true rest = (tt, rest)
     by false rest = h
-start_fits window n busy (Entry.Started made p id start ∷ entries) h = (tt, start_fits window n (id ∷ busy) entries h.1)
+start_fits window n busy (Entry.Sent made p id start ∷ entries) h = (tt, start_fits window n (id ∷ busy) entries h.1)
 start_fits window n busy (Entry.Released made p id start release ∷ entries) h = (h.0, start_fits window n (id ∷ busy) entries h.1)
-start_fits window n busy (Entry.Finished made p id start release finish ∷ entries) h = (h.0, start_fits window n busy entries h.1)
+start_fits window n busy (Entry.Done made p id start release finish ∷ entries) h = (h.0, start_fits window n busy entries h.1)
 
 started_fit : (window n : ℕ) (current : Option ConnectionName) (entries : List Entry) → AllFit entries → AllFit (started window n current entries)
 started_fit window n (Some x) entries h = start_fits window n [] entries h

@@ -4,7 +4,7 @@ use Rattle.std.specs.Prelude.{◌≡◌, true, false, [], ◌∷◌, ◌++◌, S
 use Rattle.std.specs.List.{AllByRecursion}
 use Rattle.packet.specs.declared.delivery.Delivery.TheVariants as deliveries
 use Rattle.packet.specs.declared.packet.Packet.TheVariants as packets
-use Rattle.packet_base.specs.declared.qos.QoS.TheVariants as qualities
+use Rattle.packet_base.specs.declared.qos.QoS.TheVariants as qos_levels
 use Rattle.session_base.specs.Publication.{is_qos1}
 use Rattle.broker_spec.specs.Commands.{usual_limits}
 use Rattle.broker_spec.specs.Entries.{Entry}
@@ -19,9 +19,9 @@ use Rattle.broker_spec.specs.declared.command.Output.TheVariants.{Close}
 abbrev pub FitsItsQoS : Entry → Type 0
 FitsItsQoS (Entry.Released made publication id start release) =
     is_qos1 publication.qos ≡ false
-FitsItsQoS (Entry.Finished made publication id start None finish) =
+FitsItsQoS (Entry.Done made publication id start None finish) =
     is_qos1 publication.qos ≡ true
-FitsItsQoS (Entry.Finished made publication id start (Some release) finish) =
+FitsItsQoS (Entry.Done made publication id start (Some release) finish) =
     is_qos1 publication.qos ≡ false
 FitsItsQoS _ = Unit {0}
 
@@ -36,7 +36,7 @@ EntriesFitTheirQoS =
 abbrev pub AnswersOfAnotherQoSAreNothing : Type 0
 AnswersOfAnotherQoSAreNothing =
     AreAnswered usual_limits
-    (subscribed_at qualities.ExactlyOnce
+    (subscribed_at qos_levels.ExactlyOnce
     ++ gets 2 (publish (deliveries.AtLeastOnce false 7) false (codes "x"))
     ∷ gets 2 (publish (deliveries.ExactlyOnce false 8) false (codes "y")) ∷ [])
     (gets 1 (packets.Pubrec 1) ∷ gets 1 (packets.Puback 2) ∷ connect 3 b ∷ [])
@@ -48,7 +48,7 @@ AnswersOfAnotherQoSAreNothing =
 -- that begins a client's own or begins with it: b continues as it was.
 abbrev pub ExpelsOfNobodyAreNothing : Type 0
 ExpelsOfNobodyAreNothing =
-    AreAnswered usual_limits (subscribed_at qualities.ExactlyOnce ++ connect 4 (codes "bc")
+    AreAnswered usual_limits (subscribed_at qos_levels.ExactlyOnce ++ connect 4 (codes "bc")
     ∷ gets 2 (publish (deliveries.ExactlyOnce false 1) false (codes "x")) ∷ [])
     (commands.Expel (codes "c") ∷ commands.Expel [] ∷ commands.Expel (0 ∷ [])
     ∷ commands.Expel (codes "ba")
@@ -61,7 +61,7 @@ ExpelsOfNobodyAreNothing =
 -- when it comes back a new session begins
 abbrev pub ExpelledWhileAway : Type 0
 ExpelledWhileAway =
-    AreAnswered usual_limits (subscribed_at qualities.ExactlyOnce ++ commands.Lost (nth 1)
+    AreAnswered usual_limits (subscribed_at qos_levels.ExactlyOnce ++ commands.Lost (nth 1)
     ∷ gets 2 (publish (deliveries.ExactlyOnce false 1) false (codes "x")) ∷ [])
     (commands.Expel b ∷ commands.Expel b ∷ connect 3 b ∷ [])
     ([] ∷ [] ∷ (sends 3 (connack false) ∷ []) ∷ [])

@@ -3,7 +3,7 @@ use Rattle.std.proofs.Common.{◌≡◌, ℕ, zero, suc, ◌+◌, ◌≤◌, Boo
 use Rattle.std.proofs.lemmas.Bool.{cond-false, cond-true, le-leb, lt-leb}
 use Rattle.lists.specs.Lists.{Each}
 use Rattle.slab.specs.Slab.{Slab, get}
-use Rattle.streams.specs.Listing.{AddsBusy, busy_at, busy_between, is_lane_idle, connection_listed_at}
+use Rattle.streams.specs.ListedConnections.{AddsBusy, busy_at, busy_between, is_lane_idle, connection_listed_at}
 use Rattle.streams.specs.declared.idle_lanes.IdleLanes.{IdleLanes}
 use Rattle.streams.specs.declared.link.Link.{Link}
 

@@ -7,9 +7,9 @@ use Rattle.node_base.specs.declared.connection.flow.Flow.{Flow}
 use Rattle.node_base.specs.declared.connection.flow.Flow.TheVariants as flows
 use Rattle.node_base.specs.connection.Life.{Lives}
 use Rattle.node_base.specs.connection.Life.Lives.{begins, goes_on}
-use Rattle.node_base.specs.connection.Writing.{HandsAny, HandsSo}
-use Rattle.streams.specs.Laws.{TapsCountAll}
-use Rattle.streams.specs.Tapping.{HandsNone, HandsOut}
+use Rattle.node_base.specs.connection.Written.{HandsAny, HandsSo}
+use Rattle.streams.specs.Theorems.{TapsCountAll}
+use Rattle.streams.specs.Taps.{HandsNone, HandsOut}
 use Rattle.streams.specs.declared.port_tap.PortTap.{PortTap}
 
 -- a tap counts these bytes, and its port is that of another

@@ -5,11 +5,11 @@ use Rattle.node.specs.declared.Handed.{Handed}
 use Rattle.node.specs.declared.Port.{Port}
 use Rattle.world_base.specs.node_core.Core.{CountedCore}
 use Rattle.node.specs.Growth.{saturated}
-use Rattle.world_base.specs.node_connections.Pending.{handed_after, pending_bytes}
-use Rattle.world_base.specs.node_core.Handing.{listed_at}
+use Rattle.world_base.specs.node_connections.PendingOutput.{handed_after, pending_bytes}
+use Rattle.world_base.specs.node_core.PortOutput.{listed_at}
 use Rattle.node.specs.State.{Replays, NodeStateView}
-use Rattle.node_base.specs.connection.Writing.{HandsOver}
-use Rattle.streams.specs.Tapping.{NodesBegan, HandsOut}
+use Rattle.node_base.specs.connection.Written.{HandsOver}
+use Rattle.streams.specs.Taps.{NodesBegan, HandsOut}
 use Rattle.streams.specs.declared.port_tap.PortTap.{PortTap}
 
 pub handed_by_tap :

@@ -2,8 +2,8 @@
 use Rattle.std.proofs.Common.{◌≡◌, ℕ, List, ap, inl, inr}
 use Rattle.node_base.specs.declared.connection.flow.Flow.{Flow}
 use Rattle.node_base.specs.declared.connection.flow.Flow.TheVariants as flows
-use Rattle.node_base.specs.connection.Writing.{HandsAny, HandsSo}
-use Rattle.streams.specs.Tapping.{HandsOut}
+use Rattle.node_base.specs.connection.Written.{HandsAny, HandsSo}
+use Rattle.streams.specs.Taps.{HandsOut}
 use Rattle.streams.specs.declared.port_tap.PortTap.{PortTap}
 
 one_call : (before after : PortTap) (bytes : List ℕ) → HandsAny HandsOut before bytes after → after.port.0 ≡ before.port.0

@@ -1,6 +1,6 @@
 -- PortsTell.antt: ports tell lanes apart that are below 64.
 use Rattle.std.proofs.Common.{◌≡◌, ℕ, ◌%◌, ◌<◌, ◌==◌, ◌∙◌, ap, arith}
-use Rattle.streams.specs.Laws.{PortsTellLanes}
+use Rattle.streams.specs.Theorems.{PortsTellLanes}
 use Rattle.streams.specs.Ports.{port_of}
 
 lane_is : (lane count : ℕ) → lane < 64 → (port_of lane count).0 % 64 ≡ lane

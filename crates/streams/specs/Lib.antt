@@ -1,5 +1,5 @@
-pub mod Laws
-pub mod Listing
+pub mod Theorems
+pub mod ListedConnections
 pub mod Ports
 pub mod WriteTokens
-pub mod Tapping
+pub mod Taps

@@ -2,7 +2,7 @@
 use Rattle.std.specs.Prelude.{◌≡◌, ◌==◌, Option, None, Some, if◌then◌else◌}
 use Rattle.node.specs.declared.Port.{Port}
 use Rattle.node_base.specs.connection.Whole.{OutflowView, IsWhole}
-use Rattle.streams.specs.Tapping.{HandsNone, HandsOut}
+use Rattle.streams.specs.Taps.{HandsNone, HandsOut}
 use Rattle.streams.specs.declared.port_tap.PortTap.{PortTap}
 use Rattle.streams.specs.declared.socket.Socket.{Socket}
 

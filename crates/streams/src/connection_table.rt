@@ -2,9 +2,9 @@
 
 ghost use Rattle.std.specs.Prelude.{◌≡◌, ◌<◌, ◌≤◌, IfErr, IfSome, map};
 ghost use Rattle.std.specs.Arc.{arc_value};
-ghost use Rattle.streams.specs.Listing.{AddsBusy};
+ghost use Rattle.streams.specs.ListedConnections.{AddsBusy};
 
-use crate::closing::{Closed, Waiting};
+use crate::closed_listener::{Closed, Waiting};
 use crate::idle_lanes::IdleLanes;
 use crate::limits::MAX_CONNECTIONS;
 use crate::link::Link;
@@ -65,7 +65,7 @@ impl ConnectionTable {
         self.waiting.lock(rt).end(number)
     }
 
-    /// Says whether a thread waits for a client.
+    /// Returns true if a thread waits for a client.
     pub(crate) fn is_waited_at<R: Wait>(&self, rt: &R) -> bool {
         self.waiting.lock(rt).threads() > 0
     }

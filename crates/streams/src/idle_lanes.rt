@@ -12,7 +12,7 @@ use world_base::node_connections::Port;
 pub struct IdleLanes(pub u64);
 
 impl IdleLanes {
-    ghost use Rattle.streams.specs.Listing.{is_lane_idle};
+    ghost use Rattle.streams.specs.ListedConnections.{is_lane_idle};
     ghost use Rattle.streams.specs.Ports.{is_of_lane};
 
     /// Returns the lanes of these ports, and no others.
@@ -34,7 +34,7 @@ impl IdleLanes {
         IdleLanes(self.0 | bit(port))
     }
 
-    /// Says whether the lane of a port is one of these.
+    /// Returns true if the lane of a port is one of these.
     pub fn has(self, port: Port) -> bool
         ensures { result ≡ is_lane_idle self port }
     {

@@ -1,11 +1,10 @@
 //! The listener of a node, the streams of its connections, and the right to write on each.
 #![tactic(auto)]
 
-mod closing;
+mod cleanup;
+mod closed_listener;
 mod connection_table;
-mod forgetting;
 mod idle_lanes;
-mod laws;
 mod limits;
 mod link;
 mod links;
@@ -14,14 +13,14 @@ mod patient_reader;
 mod port_tap;
 mod ports;
 mod socket;
+mod theorems;
 mod write_slot;
 mod write_token;
 pub mod writer;
 
-pub use closing::Closed;
-pub use forgetting::forget;
+pub use cleanup::forget;
+pub use closed_listener::Closed;
 pub use idle_lanes::IdleLanes;
-pub use laws::{ports_tell_lanes, taps_count_all};
 pub use limits::MAX_CONNECTIONS;
 pub use link::{BlockedLink, Link};
 pub use links::TakenIndex;
@@ -30,4 +29,5 @@ pub use patient_reader::PatientReader;
 pub use port_tap::PortTap;
 pub use ports::port_of;
 pub use socket::Socket;
+pub use theorems::{ports_tell_lanes, taps_count_all};
 pub use write_token::WriteToken;

@@ -50,7 +50,7 @@ impl TakenIndex {
 }
 
 impl Links {
-    ghost use Rattle.streams.specs.Listing.{AddsBusy, busy_at, busy_between, connection_listed_at};
+    ghost use Rattle.streams.specs.ListedConnections.{AddsBusy, busy_at, busy_between, connection_listed_at};
 
     /// Returns a table without connections, with memory for all. The only error is that memory runs
     /// out.

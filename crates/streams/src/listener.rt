@@ -2,9 +2,9 @@
 
 ghost use Rattle.std.specs.Prelude.{◌≡◌, ◌<◌, ◌≤◌, IfErr, IfOk, IfSome, map};
 ghost use Rattle.std.specs.Arc.{arc_value};
-ghost use Rattle.streams.specs.Listing.{AddsBusy};
+ghost use Rattle.streams.specs.ListedConnections.{AddsBusy};
 
-use crate::closing::Closed;
+use crate::closed_listener::Closed;
 use crate::connection_table::ConnectionTable;
 use crate::idle_lanes::IdleLanes;
 use crate::limits::MAX_CONNECTIONS;
@@ -102,7 +102,7 @@ impl Listener {
         self.connections.closed(rt, self.number)
     }
 
-    /// Says whether the listener is closed.
+    /// Returns true if the listener is closed.
     pub fn is_closed<R: Wait>(&self, rt: &R) -> bool {
         self.closed(rt).is_some()
     }

@@ -1,10 +1,10 @@
 // The right to take the bytes of one port from a node.
 
 ghost use Rattle.std.specs.Prelude.{◌≡◌, ◌++◌, IfOk, OnErr, OnOk};
-ghost use Rattle.node_base.specs.connection.Writing.{HandsOver};
-ghost use Rattle.world_base.specs.node_connections.Pending.{pending_bytes};
-ghost use Rattle.world_base.specs.node_core.Handing.{hands_over, listed_at};
-ghost use Rattle.streams.specs.Tapping.{NodesBegan, HandsOut};
+ghost use Rattle.node_base.specs.connection.Written.{HandsOver};
+ghost use Rattle.world_base.specs.node_connections.PendingOutput.{pending_bytes};
+ghost use Rattle.world_base.specs.node_core.PortOutput.{hands_over, listed_at};
+ghost use Rattle.streams.specs.Taps.{NodesBegan, HandsOut};
 
 use machine::Memory;
 use node::{NodeNaming, NodeState};
@@ -23,7 +23,7 @@ pub struct PortTap {
 }
 
 impl Tap for PortTap {
-    ghost use Rattle.streams.specs.Tapping.{HandsOut, HandsNone};
+    ghost use Rattle.streams.specs.Taps.{HandsOut, HandsNone};
 
     ghost opens = { HandsNone };
 

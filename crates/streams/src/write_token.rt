@@ -1,8 +1,8 @@
 // The right to write on a connection's stream.
 
 ghost use Rattle.std.specs.Prelude.{◌≡◌, None};
-ghost use Rattle.node_base.specs.connection.Writing.{Flows};
-ghost use Rattle.streams.specs.Tapping.{HandsOut};
+ghost use Rattle.node_base.specs.connection.Written.{Flows};
+ghost use Rattle.streams.specs.Taps.{HandsOut};
 
 use crate::port_tap::PortTap;
 use crate::socket::Socket;

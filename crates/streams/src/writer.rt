@@ -3,8 +3,8 @@
 
 mod blocked_links;
 mod blocked_writer;
+mod stream_writes;
 mod writer;
-mod writing;
 
 pub use blocked_links::BlockedLinks;
 pub use writer::{FIRST_INDEX, Writer};

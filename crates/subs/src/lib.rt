@@ -1,15 +1,15 @@
 //! The index of all clients' subscriptions.
 #![tactic(auto)]
 
-mod finding;
-mod gathering;
 mod group;
-mod making;
+mod insertion;
 mod node;
 mod node_id;
 mod nodes;
-mod pruning;
+mod removal;
+mod row_groups;
 mod rows;
+mod search;
 mod slots;
 #[cfg(test)]
 mod tests;

@@ -127,7 +127,7 @@ impl Node {
         self.here.clear(client)
     }
 
-    /// Says whether the node has neither clients nor children.
+    /// Returns true if the node has neither clients nor children.
     pub(crate) fn is_empty(&self) -> bool
         ensures { IsTrue result → HoldsNothing self.now }
     {

@@ -164,7 +164,7 @@ impl Nodes {
     }
 }
 
-/// Says whether the level matches every rest: `#` with nothing after it (MQTT 4.7.1.2).
+/// Returns true if the level matches every rest: `#` with nothing after it (MQTT 4.7.1.2).
 #[tactic(auto, using(topics::proofs::LevelByLevel::is_last_levels))]
 pub(crate) fn is_all(level: &[u8], after: Option<&[u8]>) -> bool
     ensures { result ≡ is_all level.now (levels_of after.entry) }

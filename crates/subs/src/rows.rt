@@ -67,7 +67,7 @@ impl Rows {
         }
     }
 
-    /// Says whether there is no client.
+    /// Returns true if there is no client.
     pub(crate) fn is_empty(&self) -> bool
         ensures { IsTrue result → rows_as_list self.now ≡ [] }
     {

@@ -51,7 +51,7 @@ pub(crate) fn child(nodes: &Slab<Node>, at: NodeId, level: &[u8]) -> Option<Node
     }
 }
 
-/// Says whether the node holds nothing.
+/// Returns true if the node holds nothing.
 pub(crate) fn is_empty(nodes: &Slab<Node>, at: NodeId) -> bool
     ensures { IsTrue result → IsBare (shape_of nodes.now) at.number }
 {

@@ -9,8 +9,8 @@ ghost use Rattle.subs.specs.Inside.{cleared};
 ghost use Rattle.subs.specs.Walk.{GivesSome};
 ghost use Rattle.subs.specs.Shown.{content_of_nodes, IsSoundTree};
 
-use crate::gathering::{gather, nodes_of};
 use crate::nodes::Nodes;
+use crate::row_groups::{gather, nodes_of};
 use packet_base::{ClientId, QoS};
 use std::alloc::{AllocError, Global};
 use std::collections::BTreeMap;

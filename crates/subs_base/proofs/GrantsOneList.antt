@@ -8,22 +8,22 @@ use Rattle.std.specs.declared.cmp.Ordering.TheVariants.{Less, Equal}
 use Rattle.std.proofs.lemmas.Map.Keys.{sorted_head, sorted_tail}
 use Rattle.std.proofs.lemmas.List.Elements.{All-head, All-tail, All-contains, All-from_recursion, Contains-append_right, All-map, All-weaker}
 use Rattle.packet_base.specs.declared.qos.QoS.{QoS}
-use Rattle.packet_base.specs.declared.qos.QoS.TheVariants as qualities
+use Rattle.packet_base.specs.declared.qos.QoS.TheVariants as qos_levels
 use Rattle.packet_base.specs.QoS.{qos_number}
 use Rattle.subs_base.specs.Content.{Content}
 use Rattle.subs_base.specs.Granted.{Row, clients_of_rows, IsGreatest, IsGranted}
-use Rattle.subs_base.specs.Laws.{GrantsOneList}
+use Rattle.subs_base.specs.Theorems.{GrantsOneList}
 
 same_qos : (p q : QoS) → qos_number p ≡ qos_number q → p ≡ q
-same_qos qualities.AtMostOnce qualities.AtMostOnce e = refl
-same_qos qualities.AtMostOnce qualities.AtLeastOnce e = absurd (omega arith)
-same_qos qualities.AtMostOnce qualities.ExactlyOnce e = absurd (omega arith)
-same_qos qualities.AtLeastOnce qualities.AtMostOnce e = absurd (omega arith)
-same_qos qualities.AtLeastOnce qualities.AtLeastOnce e = refl
-same_qos qualities.AtLeastOnce qualities.ExactlyOnce e = absurd (omega arith)
-same_qos qualities.ExactlyOnce qualities.AtMostOnce e = absurd (omega arith)
-same_qos qualities.ExactlyOnce qualities.AtLeastOnce e = absurd (omega arith)
-same_qos qualities.ExactlyOnce qualities.ExactlyOnce e = refl
+same_qos qos_levels.AtMostOnce qos_levels.AtMostOnce e = refl
+same_qos qos_levels.AtMostOnce qos_levels.AtLeastOnce e = absurd (omega arith)
+same_qos qos_levels.AtMostOnce qos_levels.ExactlyOnce e = absurd (omega arith)
+same_qos qos_levels.AtLeastOnce qos_levels.AtMostOnce e = absurd (omega arith)
+same_qos qos_levels.AtLeastOnce qos_levels.AtLeastOnce e = refl
+same_qos qos_levels.AtLeastOnce qos_levels.ExactlyOnce e = absurd (omega arith)
+same_qos qos_levels.ExactlyOnce qos_levels.AtMostOnce e = absurd (omega arith)
+same_qos qos_levels.ExactlyOnce qos_levels.AtLeastOnce e = absurd (omega arith)
+same_qos qos_levels.ExactlyOnce qos_levels.ExactlyOnce e = refl
 
 -- a client has one greatest QoS
 same_greatest : (content : Content) (topic c : List ℕ) (p q : QoS) → IsGreatest content topic c p → IsGreatest content topic c q → p ≡ q

@@ -1,5 +1,5 @@
 pub mod Content
 pub mod Granted
-pub mod Laws
+pub mod Theorems
 pub mod ListIndex
 pub mod Inside

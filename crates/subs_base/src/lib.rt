@@ -2,10 +2,10 @@
 //! and the simple one.
 #![tactic(auto)]
 
-mod laws;
 mod list_index;
 mod sub_index;
+mod theorems;
 
-pub use laws::grants_one_list;
 pub use list_index::ListIndex;
 pub use sub_index::SubIndex;
+pub use theorems::grants_one_list;

@@ -1,5 +1,5 @@
 pub mod Refusals
 pub mod Text
 pub mod Matching
-pub mod Laws
+pub mod Theorems
 pub mod Inside

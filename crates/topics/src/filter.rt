@@ -95,7 +95,7 @@ fn fault_of(text: &[u8]) -> Option<MalformedKind>
     None
 }
 
-// Says whether the wildcards are in their places, as they are if there are none.
+// Returns true if the wildcards are in their places, as they are if there are none.
 #[tactic(auto, using(crate::proofs::OnePass::bare_is_in_place))]
 fn is_formed(text: &[u8], is_bare: bool) -> bool
     requires { is_bare ≡ has_no_wildcard text.now }
@@ -104,7 +104,7 @@ fn is_formed(text: &[u8], is_bare: bool) -> bool
     is_bare || has_wildcards_in_place(text)
 }
 
-// Says whether each wildcard is a level of its own, and `#` the last one (MQTT 4.7.1).
+// Returns true if each wildcard is a level of its own, and `#` the last one (MQTT 4.7.1).
 fn has_wildcards_in_place(text: &[u8]) -> bool
     ensures { result ≡ has_wildcards_in_place (levels text.now) }
 {
@@ -119,7 +119,7 @@ fn has_wildcards_in_place(text: &[u8]) -> bool
     true
 }
 
-// Says whether the level has no wildcard, or is one, `#` only as the last level.
+// Returns true if the level has no wildcard, or is one, `#` only as the last level.
 fn may_stand(level: &[u8], last: bool) -> bool
     ensures { result ≡ may_stand level.now last }
 {

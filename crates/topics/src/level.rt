@@ -20,7 +20,7 @@ pub fn split_level(text: &[u8]) -> (&[u8], Option<&[u8]>)
     (text, None)
 }
 
-/// Says whether no level follows.
+/// Returns true if no level follows.
 #[tactic(auto, using(crate::proofs::LevelByLevel::is_last_levels))]
 pub(crate) fn is_last(rest: Option<&[u8]>) -> bool
     ensures { result ≡ is_last (levels_of rest.entry) }
@@ -31,28 +31,28 @@ pub(crate) fn is_last(rest: Option<&[u8]>) -> bool
     }
 }
 
-/// Says whether a text has 1 to 65,535 bytes (MQTT 4.7.3).
+/// Returns true if a text has 1 to 65,535 bytes (MQTT 4.7.3).
 pub(crate) fn has_length(text: &[u8]) -> bool
     ensures { result ≡ has_length text.now }
 {
     !text.is_empty() && text.len() <= MAX_TEXT_BYTES
 }
 
-/// Says whether neither `+` nor `#` is in a text (MQTT 4.7.1).
+/// Returns true if neither `+` nor `#` is in a text (MQTT 4.7.1).
 pub fn has_no_wildcard(text: &[u8]) -> bool
     ensures { result ≡ has_no_wildcard text.now }
 {
     !text.contains(&b'+') && !text.contains(&b'#')
 }
 
-/// Says whether the level is the wildcard for any one level.
+/// Returns true if the level is the wildcard for any one level.
 pub(crate) fn is_plus(level: &[u8]) -> bool
     ensures { result ≡ bytes_eq level.now (codes "+") }
 {
     level == b"+".as_slice()
 }
 
-/// Says whether the level is the wildcard for every rest.
+/// Returns true if the level is the wildcard for every rest.
 pub(crate) fn is_hash(level: &[u8]) -> bool
     ensures { result ≡ bytes_eq level.now (codes "#") }
 {

@@ -10,7 +10,7 @@ use crate::filter::Filter;
 use crate::level::is_hash;
 use crate::topic_name::TopicName;
 
-/// Says whether the filter matches the topic (MQTT 4.7): `#` matches any number of levels,
+/// Returns true if the filter matches the topic (MQTT 4.7): `#` matches any number of levels,
 /// including none, `+` exactly one level, including an empty one, and any other level only itself.
 /// A filter that begins with a wildcard matches no topic that begins with `$`. Takes no memory; its
 /// time grows with the bytes of both texts, which no clause says.
@@ -22,7 +22,7 @@ pub fn matches(filter: &Filter, topic: &TopicName) -> bool
     is_match(filter.as_str().as_bytes(), topic.as_str().as_bytes())
 }
 
-// Says whether the text of a filter matches that of a topic (MQTT 4.7).
+// Returns true if the text of a filter matches that of a topic (MQTT 4.7).
 fn is_match(filter: &[u8], topic: &[u8]) -> bool
     requires { IsPair filter.now topic.now }
     ensures { result ≡ is_match filter.now topic.now }
@@ -30,8 +30,8 @@ fn is_match(filter: &[u8], topic: &[u8]) -> bool
     !is_hidden(filter, topic) && matches_levels(filter, topic)
 }
 
-// Says whether the texts match level by level: what both begin with is skipped, and so is each `+`
-// with the level that it matches.
+// Returns true if the texts match level by level: what both begin with is skipped, and so is each
+// `+` with the level that it matches.
 #[tactic(auto, using(crate::proofs::LeftInALoop::some_first))]
 fn matches_levels(filter: &[u8], topic: &[u8]) -> bool
     requires { IsPair filter.now topic.now }
@@ -77,7 +77,7 @@ fn after_level(text: &[u8]) -> &[u8]
     &[]
 }
 
-// Says whether what is left matches, once the next bytes differ.
+// Returns true if what is left matches, once the next bytes differ.
 fn ends_match(filter_rest: &[u8], topic_rest: &[u8]) -> bool
     ensures { result ≡ ends_match filter_rest.now topic_rest.now }
 {
@@ -88,7 +88,7 @@ fn ends_match(filter_rest: &[u8], topic_rest: &[u8]) -> bool
     }
 }
 
-// Says whether a text begins with a byte.
+// Returns true if a text begins with a byte.
 fn starts_with(byte: u8, text: &[u8]) -> bool
     ensures { result ≡ starts_with byte text.now }
 {
@@ -98,14 +98,14 @@ fn starts_with(byte: u8, text: &[u8]) -> bool
     }
 }
 
-// Says whether a filter begins with a wildcard.
+// Returns true if a filter begins with a wildcard.
 fn starts_with_wildcard(filter: &[u8]) -> bool
     ensures { result ≡ starts_with_wildcard filter.now }
 {
     starts_with(b'#', filter) || starts_with(b'+', filter)
 }
 
-// Says whether a filter begins with a wildcard and a topic with `$`, which do not match (MQTT
+// Returns true if a filter begins with a wildcard and a topic with `$`, which do not match (MQTT
 // 4.7.2).
 fn is_hidden(filter: &[u8], topic: &[u8]) -> bool
     ensures { result ≡ is_hidden filter.now topic.now }

@@ -3,8 +3,8 @@ use Rattle.std.proofs.Common.{◌≡◌, ℕ, List, [], sym, subst, ◌∙◌, O
 use Rattle.std.specs.Prelude.{Some, None}
 use Rattle.packet.specs.declared.publish.Publish.{Publish}
 use Rattle.client_base.specs.State.{kept_count}
-use Rattle.user_client.specs.Tracing.{CallerView, Trace}
-use Rattle.user_client.specs.Publishing.{PublisherView, IsAcknowledged, IsAcknowledgedAs, IsAcknowledgedBy, WasTaken, WasTakenBy}
+use Rattle.user_client.specs.Traces.{CallerView, Trace}
+use Rattle.user_client.specs.Publisher.{PublisherView, IsAcknowledged, IsAcknowledgedAs, IsAcknowledgedBy, WasTaken, WasTakenBy}
 use Rattle.user_client.proofs.TracesJoin.{traces_follow}
 
 -- a publisher of these parts

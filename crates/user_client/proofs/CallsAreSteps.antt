@@ -10,8 +10,8 @@ use Rattle.client_base.specs.declared.stage.Stage.TheVariants as stages
 use Rattle.client_base.specs.Steps.{Call, keeper_step, disconnected}
 use Rattle.session_base.specs.declared.publication.Publication.{Publication}
 use Rattle.client.specs.Core.{Core, AnswersCall, LeavesServer, without_accepted}
-use Rattle.client.specs.Reading.{OnBytes}
-use Rattle.user_client.specs.Tracing.{CallerView, IsAsked, Step, Trace, IsFirst}
+use Rattle.client.specs.Input.{OnBytes}
+use Rattle.user_client.specs.Traces.{CallerView, IsAsked, Step, Trace, IsFirst}
 use Rattle.user_client.proofs.TracesJoin.{one_step, steps_to, stays, taken_as}
 
 -- a client of these parts

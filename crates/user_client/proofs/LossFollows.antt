@@ -6,12 +6,12 @@ use Rattle.client_base.specs.declared.accepted.Accepted.{Accepted}
 use Rattle.client_base.specs.declared.error.ClientError.{ClientError}
 use Rattle.client_base.specs.declared.error.ClientError.TheVariants as errors
 use Rattle.client.specs.Core.{Core}
-use Rattle.client.specs.Reading.{OnBytes}
+use Rattle.client.specs.Input.{OnBytes}
 use Rattle.user_client.specs.declared.user_client_error.UserClientError.{UserClientError}
 use Rattle.user_client.specs.declared.user_client_error.UserClientError.TheVariants as clients
-use Rattle.user_client.specs.Losing.{IsGivenUp, IsLostBy, LosesSession}
+use Rattle.user_client.specs.Losses.{IsGivenUp, IsLostBy, LosesSession}
 use Rattle.user_client.specs.Refusals.{IsRefusedFor, error_of_call}
-use Rattle.user_client.specs.Tracing.{CallerView, Trace}
+use Rattle.user_client.specs.Traces.{CallerView, Trace}
 use Rattle.user_client.proofs.CallsAreSteps.{parts}
 use Rattle.user_client.proofs.TracesJoin.{traces_join}
 

@@ -5,9 +5,9 @@ use native.Mathlib.Omega.{arith}
 use Rattle.std.specs.Io.KnownBytes.{Appends}
 use Rattle.std.proofs.KnownBytes.{Appends-trans, Appends-nil}
 use Rattle.client_base.specs.declared.accepted.Accepted.{Accepted}
-use Rattle.client_base.specs.printed.Printing.{printed_line}
-use Rattle.user_client.specs.Tracing.{CallerView, Trace}
-use Rattle.user_client.specs.Listening.{SubscriberView, PrintsNothing, PrintsAccepted, Shows, printed_lines}
+use Rattle.client_base.specs.printed.Lines.{printed_line}
+use Rattle.user_client.specs.Traces.{CallerView, Trace}
+use Rattle.user_client.specs.Subscriber.{SubscriberView, PrintsNothing, PrintsAccepted, Shows, printed_lines}
 use Rattle.user_client.proofs.TracesJoin.{traces_join, traces_follow, traces_end}
 
 pub less_more : (a b c : ℕ) → (a - b) - c ≡ a - (b + c)

@@ -8,7 +8,7 @@ use Rattle.client_base.specs.Steps.{Call, keeper_step}
 use Rattle.client.specs.Core.{Core, AnswersCall}
 use Rattle.user_client.specs.declared.user_client_error.UserClientError.{UserClientError}
 use Rattle.user_client.specs.Refusals.{IsRefusedFor, error_of_call}
-use Rattle.user_client.specs.Tracing.{CallerView}
+use Rattle.user_client.specs.Traces.{CallerView}
 use Rattle.user_client.proofs.CallsAreSteps.{parts}
 
 -- the error for the step's own cause

@@ -6,7 +6,7 @@ use Rattle.std.specs.Io.KnownBytes.{Appends}
 use Rattle.packet.specs.declared.packet.Packet.{Packet}
 use Rattle.packet.specs.declared.packet.Packet.TheVariants as packets
 use Rattle.packet_base.specs.declared.qos.QoS.{QoS}
-use Rattle.packet_base.specs.declared.qos.QoS.TheVariants as qualities
+use Rattle.packet_base.specs.declared.qos.QoS.TheVariants as qos_levels
 use Rattle.packet.specs.declared.publish.Publish.{Publish}
 use Rattle.packet.specs.declared.delivery.Delivery.TheVariants as deliveries
 use Rattle.packet.specs.Spelling.{AppendsSpelling}
@@ -15,14 +15,14 @@ use Rattle.client_base.specs.declared.error.ClientError.{ClientError}
 use Rattle.client_base.specs.declared.error.ClientError.TheVariants as errors
 use Rattle.client_base.specs.State.{ClientState, is_online, new_client_state}
 use Rattle.client_base.specs.Answered.{ClientOutcome, going_on}
-use Rattle.client_base.specs.Publishing.{is_over_limit, next_id, published, publish_packet}
+use Rattle.client_base.specs.Publications.{is_over_limit, next_id, published, publish_packet}
 use Rattle.client_base.specs.Steps.{Call, keeper_step, unless_refused}
 use Rattle.client.specs.Core.{AppendsAll, publication_with}
 use Rattle.user_client.specs.declared.user_client_error.UserClientError.{UserClientError}
 use Rattle.user_client.specs.declared.user_client_error.UserClientError.TheVariants as clients
 use Rattle.user_client.specs.Refusals.{IsRefusedFor, RefusesPacket, error_of_call, first_publish}
-use Rattle.user_client.specs.Publishing.{TakesPublish, unkept}
-use Rattle.user_client.specs.Tracing.{CallerView, IsAsked, new_called}
+use Rattle.user_client.specs.Publisher.{TakesPublish, unkept}
+use Rattle.user_client.specs.Traces.{CallerView, IsAsked, new_called}
 
 -- the refusal of a publication at QoS 1 or 2 by a new client
 abbrev size_refusal : Bool → Option ClientError
@@ -47,13 +47,13 @@ pub refuses_first : (id : List ℕ) (retain : Bool) (qos : QoS) (topic payload :
     → is_answered qos ≡ true → caller ≡ new_called id
     → IsRefusedFor (keeper_step (Call.Publishes (publication_with retain qos topic payload)) caller.core.state).refusal it
     → RefusesPacket (first_publish id (publication_with retain qos topic payload)) it
-refuses_first id retain qualities.AtMostOnce topic payload caller it answered is refused = absurd cc
-refuses_first id retain qualities.AtLeastOnce topic payload caller it answered is refused =
-    let p = publication_with retain qualities.AtLeastOnce topic payload in
+refuses_first id retain qos_levels.AtMostOnce topic payload caller it answered is refused = absurd cc
+refuses_first id retain qos_levels.AtLeastOnce topic payload caller it answered is refused =
+    let p = publication_with retain qos_levels.AtLeastOnce topic payload in
     large_only (is_over_limit (first_publish id p)) (published p (new_client_state id 0)) (new_client_state id 0) it refl
     (subst (λ (c : CallerView). IsRefusedFor (keeper_step (Call.Publishes p) c.core.state).refusal it) is refused)
-refuses_first id retain qualities.ExactlyOnce topic payload caller it answered is refused =
-    let p = publication_with retain qualities.ExactlyOnce topic payload in
+refuses_first id retain qos_levels.ExactlyOnce topic payload caller it answered is refused =
+    let p = publication_with retain qos_levels.ExactlyOnce topic payload in
     large_only (is_over_limit (first_publish id p)) (published p (new_client_state id 0)) (new_client_state id 0) it refl
     (subst (λ (c : CallerView). IsRefusedFor (keeper_step (Call.Publishes p) c.core.state).refusal it) is refused)
 
@@ -61,23 +61,23 @@ refuses_first id retain qualities.ExactlyOnce topic payload caller it answered i
 pub fits_first : (id : List ℕ) (retain : Bool) (qos : QoS) (topic payload : List ℕ) (caller new : CallerView)
     → is_answered qos ≡ true → caller ≡ new_called id → IsAsked (publication_with retain qos topic payload) caller new
     → is_over_limit (first_publish id (publication_with retain qos topic payload)) ≡ false
-fits_first id retain qualities.AtMostOnce topic payload caller new answered is asked = absurd cc
-fits_first id retain qualities.AtLeastOnce topic payload caller new answered is asked =
-    let p = publication_with retain qualities.AtLeastOnce topic payload in
+fits_first id retain qos_levels.AtMostOnce topic payload caller new answered is asked = absurd cc
+fits_first id retain qos_levels.AtLeastOnce topic payload caller new answered is asked =
+    let p = publication_with retain qos_levels.AtLeastOnce topic payload in
     not_large (is_over_limit (first_publish id p)) (published p (new_client_state id 0)) (new_client_state id 0)
     (subst (λ (c : CallerView). IsAsked p c new) is asked).0.0
-fits_first id retain qualities.ExactlyOnce topic payload caller new answered is asked =
-    let p = publication_with retain qualities.ExactlyOnce topic payload in
+fits_first id retain qos_levels.ExactlyOnce topic payload caller new answered is asked =
+    let p = publication_with retain qos_levels.ExactlyOnce topic payload in
     not_large (is_over_limit (first_publish id p)) (published p (new_client_state id 0)) (new_client_state id 0)
     (subst (λ (c : CallerView). IsAsked p c new) is asked).0.0
 
 -- the PUBLISH at QoS 0 has no identifier
-pub first_unkept : (id : List ℕ) (retain : Bool) (qos : QoS) (topic payload : List ℕ) → qos ≡ qualities.AtMostOnce
-    → packets.Publish (unkept (publication_with retain qualities.AtMostOnce topic payload))
+pub first_unkept : (id : List ℕ) (retain : Bool) (qos : QoS) (topic payload : List ℕ) → qos ≡ qos_levels.AtMostOnce
+    → packets.Publish (unkept (publication_with retain qos_levels.AtMostOnce topic payload))
     ≡ first_publish id (publication_with retain qos topic payload)
-first_unkept id retain qualities.AtMostOnce topic payload is = refl
-first_unkept id retain qualities.AtLeastOnce topic payload is = absurd cc
-first_unkept id retain qualities.ExactlyOnce topic payload is = absurd cc
+first_unkept id retain qos_levels.AtMostOnce topic payload is = refl
+first_unkept id retain qos_levels.AtLeastOnce topic payload is = absurd cc
+first_unkept id retain qos_levels.ExactlyOnce topic payload is = absurd cc
 
 -- a publication at QoS 0 is refused while the client is offline, or as too large
 abbrev once_refusal : Bool → Bool → Option ClientError
@@ -99,20 +99,20 @@ once_written false large state other packet out new taken writes = absurd (both_
 
 -- a client that took a publication at QoS 0 wrote its PUBLISH
 pub wrote_once : (retain : Bool) (topic payload : List ℕ) (old new : CallerView)
-    → IsAsked (publication_with retain qualities.AtMostOnce topic payload) old new
+    → IsAsked (publication_with retain qos_levels.AtMostOnce topic payload) old new
     → AppendsSpelling old.core.out new.core.out
-    (packets.Publish (unkept (publication_with retain qualities.AtMostOnce topic payload)))
+    (packets.Publish (unkept (publication_with retain qos_levels.AtMostOnce topic payload)))
 wrote_once retain topic payload old new (does, was) =
-    let p = publication_with retain qualities.AtMostOnce topic payload in
+    let p = publication_with retain qos_levels.AtMostOnce topic payload in
     let state = old.core.state in
     once_written (is_online state.stage) (is_over_limit (publish_packet p state)) state
-    (record state { unsent = state.unsent ++ record { id = next_id state; publication = p } ∷ [] }) (publish_packet p state)
+    (record state { queued = state.queued ++ record { id = next_id state; publication = p } ∷ [] }) (publish_packet p state)
     old.core.out new.core.out does.0 does.1.1
 
 -- what a client wrote of a publication at QoS 0 was taken as a whole
 pub taken_once : {D : Type 0} (contents : D → Option (List ℕ)) (before after : D) (publish : Publish) (old new : CallerView)
     (topic payload : List ℕ) → topic ≡ publish.topic → payload ≡ publish.payload
-    → IsAsked (publication_with publish.retain qualities.AtMostOnce topic payload) old new
+    → IsAsked (publication_with publish.retain qos_levels.AtMostOnce topic payload) old new
     → Appends (contents before) (contents after) new.core.out → TakesPublish contents publish before after
 taken_once contents before after publish old new topic payload same_topic same_payload asked taken =
     record {

@@ -3,7 +3,7 @@ use Rattle.std.proofs.Common.{◌≡◌, List, [], ◌++◌, sym, subst, append-
 use Rattle.std.specs.Prelude.{Result, Ok, Err, OnOk}
 use Rattle.client_base.specs.declared.accepted.Accepted.{Accepted}
 use Rattle.client.specs.Core.{Core}
-use Rattle.user_client.specs.Tracing.{CallerView, Step, Trace, with_core}
+use Rattle.user_client.specs.Traces.{CallerView, Step, Trace, with_core}
 
 -- one step
 pub one_step : {old : CallerView} (new : CallerView) → Step old new → Trace old [] new

@@ -1,6 +1,6 @@
-pub mod Hearing
-pub mod Listening
-pub mod Losing
-pub mod Publishing
+pub mod Reports
+pub mod Subscriber
+pub mod Losses
+pub mod Publisher
 pub mod Refusals
-pub mod Tracing
+pub mod Traces

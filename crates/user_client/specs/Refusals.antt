@@ -1,6 +1,6 @@
 -- Why a client is not made: its texts are checked in order, and memory may run out at any time.
 use Rattle.std.specs.Prelude.{◌≡◌, ◌⊎◌, ℕ, true, false, List, Option, Some, None, option_map}
-use Rattle.client_base.specs.Publishing.{is_over_limit, publish_packet}
+use Rattle.client_base.specs.Publications.{is_over_limit, publish_packet}
 use Rattle.client_base.specs.Refusals.{client_number}
 use Rattle.client_base.specs.State.{new_client_state}
 use Rattle.client_base.specs.declared.error.ClientError.{ClientError}

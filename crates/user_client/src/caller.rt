@@ -6,10 +6,10 @@ ghost use Rattle.client_base.specs.declared.error.ClientError.TheVariants as err
 ghost use Rattle.client_base.specs.State.{kept_count};
 ghost use Rattle.client_base.specs.Steps.{Call, keeper_step};
 ghost use Rattle.client.specs.Core.{publication_with};
-ghost use Rattle.user_client.specs.Hearing.{IsNews, news_of};
-ghost use Rattle.user_client.specs.Losing.{IsLostBy};
+ghost use Rattle.user_client.specs.Reports.{IsNews, news_of};
+ghost use Rattle.user_client.specs.Losses.{IsLostBy};
 ghost use Rattle.user_client.specs.Refusals.{IsRefusedFor};
-ghost use Rattle.user_client.specs.Tracing.{IsAsked, IsFirst, Trace, new_called};
+ghost use Rattle.user_client.specs.Traces.{IsAsked, IsFirst, Trace, new_called};
 
 use crate::user_client_error::UserClientError;
 use client::ClientCore;
@@ -43,7 +43,7 @@ pub(crate) struct Caller {
 }
 
 impl Model for Caller {
-    ghost use Rattle.user_client.specs.Tracing.{CallerView};
+    ghost use Rattle.user_client.specs.Traces.{CallerView};
 
     ghost Value = { CallerView };
 
@@ -152,8 +152,8 @@ impl Caller {
     }
 }
 
-// Says whether the connection stays open after this answer to a piece. A lost session is an error,
-// and it is an error too if memory ran out.
+// Returns true if the connection stays open after this answer to a piece. A lost session is an
+// error, and it is an error too if memory ran out.
 fn stays_open(heard: Result<(), ClientError>) -> Result<bool, UserClientError>
     ensures ok { OnOk result (heard ≢ Err errors.SessionLost) }
     ensures open { IfOk result (λ is_open. is_open ≡ is_ok heard) }

@@ -3,12 +3,12 @@
 #![tactic(auto)]
 
 mod caller;
-mod checking;
+mod checks;
 mod publisher;
 mod servers;
 mod subscriber;
 mod user_client_error;
-mod visiting;
+mod visits;
 
 pub use publisher::Publisher;
 pub use servers::Servers;

@@ -3,20 +3,20 @@
 ghost use Rattle.std.specs.Prelude.{◌≡◌, ◌≢◌, true, false, [], OnOk, IfErr, IfOk};
 ghost use Rattle.client.specs.Core.{publication_with};
 ghost use Rattle.client_base.specs.State.{kept_count};
-ghost use Rattle.client_base.specs.Publishing.{is_over_limit};
+ghost use Rattle.client_base.specs.Publications.{is_over_limit};
 ghost use Rattle.packet.specs.declared.packet.Packet.TheVariants as packets;
-ghost use Rattle.packet_base.specs.declared.qos.QoS.TheVariants as qualities;
+ghost use Rattle.packet_base.specs.declared.qos.QoS.TheVariants as qos_levels;
 ghost use Rattle.session_base.specs.Publication.{is_answered};
-ghost use Rattle.user_client.specs.Losing.{IsGivenUp, IsLostBy};
-ghost use Rattle.user_client.specs.Tracing.{Trace};
-ghost use Rattle.user_client.specs.Publishing.{HasPublication, IsAcknowledged, IsAcknowledgedBy, TakesPublish, unkept};
+ghost use Rattle.user_client.specs.Losses.{IsGivenUp, IsLostBy};
+ghost use Rattle.user_client.specs.Traces.{Trace};
+ghost use Rattle.user_client.specs.Publisher.{HasPublication, IsAcknowledged, IsAcknowledgedBy, TakesPublish, unkept};
 ghost use Rattle.user_client.specs.Refusals.{IsPublishable, RefusesPacket, RefusesPublisher, first_publish};
 
 use crate::caller::{Caller, News};
-use crate::checking::{checked_id, checked_topic};
+use crate::checks::{checked_id, checked_topic};
 use crate::servers::Servers;
 use crate::user_client_error::UserClientError;
-use crate::visiting::{disconnect, exchange, next_stream, send};
+use crate::visits::{disconnect, exchange, next_stream, send};
 use client_base::ClientError;
 use node_base::devices::{Counted, PIECE_BYTES};
 use packet::{Delivery, Packet, Publish};
@@ -39,7 +39,7 @@ pub struct Publisher {
 }
 
 impl Model for Publisher {
-    ghost use Rattle.user_client.specs.Publishing.{PublisherView};
+    ghost use Rattle.user_client.specs.Publisher.{PublisherView};
 
     ghost Value = { PublisherView };
 
@@ -205,7 +205,7 @@ fn unanswered_publisher(
     retain: bool,
     payload: Payload,
 ) -> Result<Publisher, UserClientError>
-    requires { qos ≡ qualities.AtMostOnce }
+    requires { qos ≡ qos_levels.AtMostOnce }
     ensures made { IfOk result
         (HasPublication qos id (publication_with retain qos topic payload)) }
     ensures fits { OnOk result
@@ -308,11 +308,11 @@ fn unanswered_publish(
     payload: Payload,
 ) -> Result<Publish, UserClientError>
     ensures made { IfOk result (λ publish. publish ≡
-        unkept (publication_with retain qualities.AtMostOnce topic payload)) }
+        unkept (publication_with retain qos_levels.AtMostOnce topic payload)) }
     ensures fits { OnOk result (is_over_limit (packets.Publish
-        (unkept (publication_with retain qualities.AtMostOnce topic payload))) ≡ false) }
+        (unkept (publication_with retain qos_levels.AtMostOnce topic payload))) ≡ false) }
     ensures err { IfErr result (RefusesPacket (packets.Publish
-        (unkept (publication_with retain qualities.AtMostOnce topic payload)))) }
+        (unkept (publication_with retain qos_levels.AtMostOnce topic payload)))) }
 {
     let publish = Publish {
         topic,

@@ -4,16 +4,16 @@ ghost use Rattle.std.specs.Prelude.{◌≡◌, ◌≢◌, None, true, [], ◌∷
 ghost use Rattle.std.specs.Io.KnownBytes.{Appends};
 ghost use Rattle.packet_base.specs.ClientId.{client_fault};
 ghost use Rattle.topics.specs.Text.{filter_fault};
-ghost use Rattle.client_base.specs.printed.Printing.{printed_line};
-ghost use Rattle.user_client.specs.Listening.{PrintsNothing, PrintsAccepted, Shows, listening_anew, new_listening};
-ghost use Rattle.user_client.specs.Losing.{IsGivenUp, IsLostBy};
+ghost use Rattle.client_base.specs.printed.Lines.{printed_line};
+ghost use Rattle.user_client.specs.Subscriber.{PrintsNothing, PrintsAccepted, Shows, listening_anew, new_listening};
+ghost use Rattle.user_client.specs.Losses.{IsGivenUp, IsLostBy};
 ghost use Rattle.user_client.specs.Refusals.{RefusesListener};
 
 use crate::caller::{Caller, News};
-use crate::checking::{checked_filter, checked_id};
+use crate::checks::{checked_filter, checked_id};
 use crate::servers::Servers;
 use crate::user_client_error::UserClientError;
-use crate::visiting::{disconnect, exchange, next_stream};
+use crate::visits::{disconnect, exchange, next_stream};
 use client_base::Accepted;
 use client_base::printed::print_line;
 use node_base::devices::{Counted, PIECE_BYTES};
@@ -42,7 +42,7 @@ pub struct Subscriber {
 }
 
 impl Model for Subscriber {
-    ghost use Rattle.user_client.specs.Listening.{SubscriberView};
+    ghost use Rattle.user_client.specs.Subscriber.{SubscriberView};
 
     ghost Value = { SubscriberView };
 
@@ -190,7 +190,7 @@ impl Subscriber {
     }
 }
 
-// Says whether the client is to subscribe again.
+// Returns true if the client is to subscribe again.
 fn is_to_subscribe(news: News, left: u32, count: u32) -> bool {
     news == News::Accepted && left == count
 }

@@ -216,14 +216,14 @@ impl Course {
         Some(Event::Assign(Config { members, primary }))
     }
 
-    // Says whether a node may crash: it runs, and so does another member of the active ballot.
+    // Returns true if a node may crash: it runs, and so does another member of the active ballot.
     fn may_crash(&self, world: &World, node: u8) -> bool {
         let (_, members) = world.active();
         let is_left = |it: &u8| *it != node && self.runs(*it);
         self.runs(node) && members.iter().any(is_left)
     }
 
-    // Says whether a node has not crashed.
+    // Returns true if a node has not crashed.
     fn runs(&self, node: u8) -> bool {
         !self.crashed.iter().any(|it| *it == node)
     }
@@ -282,7 +282,7 @@ impl Course {
     }
 }
 
-// Says whether a client is connected, as far as it knows.
+// Returns true if a client is connected, as far as it knows.
 fn is_served(world: &World, name: &ClientId) -> bool {
     world.client(name).is_some_and(|core| core.is_connected())
 }

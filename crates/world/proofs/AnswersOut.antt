@@ -10,7 +10,7 @@ use Rattle.client.specs.Core.{Core}
 use Rattle.world_nodes.specs.recoveries.Answered.{CanAsk, begun_log}
 use Rattle.recovery.specs.replicas.CutDeliveries.Delivered.{all_came}
 use Rattle.recovery.specs.replicas.Deliveries.{NumbersAreApart, NodeIs}
-use Rattle.recovery.specs.replicas.Following.{Follows}
+use Rattle.recovery.specs.replicas.LedStates.{Follows}
 use Rattle.world_nodes.proofs.of_recoveries.ClientAnswered.{AwaitsOthers, others_are_awaited, others_let_the_client_be_answered, sole_member_answers_the_client, waits_on}
 use Rattle.world_nodes.proofs.of_recoveries.NodesFollow.{deliveries_are_followed}
 use Rattle.agreement.specs.cut_logs.Moments.{Moment, Moments, whole_moment}
@@ -30,10 +30,10 @@ use Rattle.world_pipes.specs.declared.events.event.Event.{Event}
 use Rattle.world_pipes.specs.declared.events.event.Event.TheVariants as events
 use Rattle.world_pipes.specs.clients.Clients.{is_named}
 use Rattle.world.specs.Found.{port_at_node}
-use Rattle.world.specs.Gathering.{Gathers}
+use Rattle.world.specs.NodeOutput.{Gathers}
 use Rattle.world.specs.Trace.{WorldLosesNothing}
 use Rattle.world_pipes.specs.clients.NodesGoOn.{NodesGo}
-use Rattle.world.specs.Happening.{EventsHappen}
+use Rattle.world.specs.Events.{EventsHappen}
 use Rattle.world_pipes.specs.clients.SlotsAreValid.{SlotsAreValid, targets_of_clients}
 use Rattle.world.specs.World.{WorldState}
 use Rattle.world.proofs.ExactRuns.{in_two}

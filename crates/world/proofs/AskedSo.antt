@@ -12,17 +12,17 @@ use Rattle.master.specs.declared.event.Idle.{Idle}
 use Rattle.session_base.specs.declared.publication.Publication.{Publication}
 use Rattle.world_pipes.specs.declared.sending.Sending.{Sending}
 use Rattle.world_pipes.specs.declared.sending.Sending.TheVariants as sendings
-use Rattle.world_pipes.specs.Following.{CallingFollows}
+use Rattle.world_pipes.specs.ModelSteps.{CallingFollows}
 use Rattle.world_pipes.specs.Piped.{Piped}
 use Rattle.world_pipes.proofs.CallingFollows.{calling_goes}
 use Rattle.world_pipes.specs.declared.events.event.Event.{Event}
 use Rattle.world_pipes.specs.declared.events.event.Event.TheVariants as events
 use Rattle.world_pipes.specs.declared.clients.world_client.WorldClient.{WorldClient}
-use Rattle.world.specs.Asking.{AskedBy, AsksOne, EventAsks, RunAsks}
+use Rattle.world.specs.Requests.{AskedBy, AsksOne, EventAsks, RunAsks}
 use Rattle.world_pipes.specs.clients.Clients.{is_named}
-use Rattle.world.specs.Happening.{EventHappens}
-use Rattle.world.specs.Inside.Calling.{CountsRefusal, with_one_loss}
-use Rattle.world_pipes.specs.clients.Calling.{IsCall}
+use Rattle.world.specs.Events.{EventHappens}
+use Rattle.world.specs.Inside.ClientCalls.{CountsRefusal, with_one_loss}
+use Rattle.world_pipes.specs.clients.ClientCalls.{IsCall}
 use Rattle.world.specs.Inside.Steps.{PublishesAsked, IsTrace, IsTraceAsking, IsCounted}
 use Rattle.world.specs.StandsFor.{KeepsReached, FollowsModelAsking}
 use Rattle.world.specs.World.{WorldState}

@@ -5,7 +5,7 @@ use Rattle.std.proofs.Common.{◌≡◌, ◌⊎◌, inl, inr, ◌<◌, ◌≤◌
 use Rattle.std.specs.List.{position}
 use Rattle.std.proofs.lemmas.List.{length-append, map-append}
 use Rattle.ballot_base.specs.declared.config.Config.{Config}
-use Rattle.ballot_base.specs.Serving.{max_places}
+use Rattle.ballot_base.specs.Service.{max_places}
 use Rattle.broker_spec.specs.declared.command.Command.{Command}
 use Rattle.broker_spec.specs.declared.command.Command.TheVariants as commands
 use Rattle.broker_spec.specs.Commands.{past_of, usual_limits}
@@ -16,7 +16,7 @@ use Rattle.client.specs.Core.{Core}
 use Rattle.world_nodes.specs.recoveries.Answered.{CanAsk, begun_log}
 use Rattle.world_nodes.specs.recoveries.Opened.{IsOpened, first_of}
 use Rattle.recovery.specs.replicas.Deliveries.{NumbersAreApart, NodeIs, asked_and_answered}
-use Rattle.recovery.specs.replicas.Following.{Follows}
+use Rattle.recovery.specs.replicas.LedStates.{Follows}
 use Rattle.agreement.specs.cut_logs.Moments.{Moment, Moments, whole_moment}
 use Rattle.headline.specs.node_moves.Moves.NodeCall.{takes}
 use Rattle.lists.specs.Lists.{In}
@@ -31,9 +31,9 @@ use Rattle.world_pipes.specs.declared.events.event.Event.{Event}
 use Rattle.world_pipes.specs.declared.events.event.Event.TheVariants as events
 use Rattle.world_pipes.specs.clients.Clients.{is_named}
 use Rattle.world.specs.Found.{port_at_node}
-use Rattle.world.specs.Gathering.{Gathers}
+use Rattle.world.specs.NodeOutput.{Gathers}
 use Rattle.world.specs.Trace.{WorldLosesNothing}
-use Rattle.world.specs.Happening.{EventsHappen}
+use Rattle.world.specs.Events.{EventsHappen}
 use Rattle.world_pipes.specs.clients.SlotsAreValid.{SlotsAreValid, targets_of_clients}
 use Rattle.world.specs.World.{WorldState}
 use Rattle.world.proofs.AnswersOut.{answers_alone, answers_with_others}
@@ -91,7 +91,7 @@ module _ (name : List ℕ) (v : WorldState) (i at number place : ℕ) (core : Co
   abbrev w : WorldState
   w = emptied i at number place core up v newest positive o.node o.stands count many
 
-  w_newest : IsNewest i at number (suc place) core (drop count newest.way.up) [] true (with_nodes taken w)
+  w_newest : IsNewest i at number (suc place) core (drop count newest.pair.up) [] true (with_nodes taken w)
   w_newest = emptied_newest i at number place core up v newest positive o.node o.stands count many taken
 
   w_housed : SlotsAreValid (targets_of_clients w.clients) w.connections
@@ -105,14 +105,14 @@ module _ (name : List ℕ) (v : WorldState) (i at number place : ℕ) (core : Co
   answered f gathers (inl none) =
       record {
         after = f.after;
-        is = answers_alone name i at number place core (drop count newest.way.up) w f.after o.node positive o.stands up gathers w_housed w_newest w_first config a moments came ballot ballot
+        is = answers_alone name i at number place core (drop count newest.pair.up) w f.after o.node positive o.stands up gathers w_housed w_newest w_first config a moments came ballot ballot
             (first_of ballot) list connect
             (subst (λ (xs : List ℕ). CanAsk a v.nodes ballot place o.node xs (port_at_node number) (first_of ballot) list ballot up connect) none asks);
         rest = subst (λ (xs : List ℕ). EventsHappen (map events.Deliver (asked_and_answered (length v.nodes.sent) (length xs)) ++ more) f.after new) none f.rest;
         whole = f.whole;
       }
   answered f gathers (inr e) =
-      answers_with_others name i at number place core (drop count newest.way.up) w f.after o.node positive o.stands up gathers w_housed w_newest w_first config a moments came ballot ballot
+      answers_with_others name i at number place core (drop count newest.pair.up) w f.after o.node positive o.stands up gathers w_housed w_newest w_first config a moments came ballot ballot
       (first_of ballot) list connect e.front e.last
       (subst (λ (xs : List ℕ). CanAsk a v.nodes ballot place o.node xs (port_at_node number) (first_of ballot) list ballot up connect) e.is asks)
       (subst NumbersAreApart e.is apart) (subst (λ (xs : List ℕ). In (place + 1) xs → ⊥) e.is out)

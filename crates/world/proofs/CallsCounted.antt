@@ -7,11 +7,11 @@ use Rattle.client_base.specs.declared.error.ClientError.TheVariants as errors
 use Rattle.master.specs.declared.event.Idle.{Idle}
 use Rattle.world_pipes.specs.declared.sending.Sending.{Sending}
 use Rattle.world_pipes.specs.declared.sending.Sending.TheVariants as sendings
-use Rattle.world_pipes.specs.Following.{CallingFollows, FollowsAll}
+use Rattle.world_pipes.specs.ModelSteps.{CallingFollows, FollowsAll}
 use Rattle.world_pipes.specs.Piped.{Piped}
 use Rattle.world_pipes.proofs.CallingFollows.{calling_goes}
 use Rattle.world_pipes.specs.declared.clients.world_client.WorldClient.{WorldClient}
-use Rattle.world.specs.Inside.Calling.{CountsRefusal, with_one_loss}
+use Rattle.world.specs.Inside.ClientCalls.{CountsRefusal, with_one_loss}
 use Rattle.world.specs.Inside.Steps.{IsTrace}
 use Rattle.world.specs.World.{WorldState}
 use Rattle.world.proofs.ClientGoes.{client_goes_with_loss, client_goes_on, same_piped, with_piped}

@@ -7,7 +7,7 @@ use Rattle.std.proofs.lemmas.Option.{none-some}
 use Rattle.ballot_base.specs.Losses.{one_more}
 use Rattle.client.specs.Core.{Core}
 use Rattle.client_base.specs.Answered.{ClientOutcome}
-use Rattle.client_base.specs.Publishing.{publish_refusal, published}
+use Rattle.client_base.specs.Publications.{publish_refusal, published}
 use Rattle.client_base.specs.State.{ClientState, is_online, is_open}
 use Rattle.client_base.specs.Steps.{Call, disconnected, keeper_step, request_refusal, subscribed, unless_refused, unsubscribed}
 use Rattle.client_base.specs.declared.error.ClientError.{ClientError}
@@ -19,16 +19,16 @@ use Rattle.packet_base.specs.declared.qos.QoS.{QoS}
 use Rattle.session_base.specs.declared.publication.Publication.{Publication}
 use Rattle.world_pipes.specs.declared.sending.Sending.{Sending}
 use Rattle.world_pipes.specs.declared.sending.Sending.TheVariants as sendings
-use Rattle.world_pipes.specs.Following.{CallingFollows}
+use Rattle.world_pipes.specs.ModelSteps.{CallingFollows}
 use Rattle.world_pipes.specs.Piped.{Piped, TakesLeave}
 use Rattle.world_pipes.specs.declared.events.event.Event.TheVariants as events
 use Rattle.world_pipes.specs.declared.clients.world_client.WorldClient.{WorldClient}
 use Rattle.world.specs.Found.{core_named, with_piped}
 use Rattle.world_pipes.specs.clients.Clients.{is_named}
 use Rattle.world.specs.ClientCalls.{SendsCall, ClientDoes, SendsDisconnect, LosesAsking, LosesLeaving}
-use Rattle.world_pipes.specs.clients.Calling.{LosesConnection, IsCall}
+use Rattle.world_pipes.specs.clients.ClientCalls.{LosesConnection, IsCall}
 use Rattle.world.specs.Cannot.{HoldsNone, RefusesCall}
-use Rattle.world.specs.Inside.Calling.{CountsRefusal, with_one_loss}
+use Rattle.world.specs.Inside.ClientCalls.{CountsRefusal, with_one_loss}
 use Rattle.world.specs.Inside.Steps.{EventIsDone, EventResultOrLost}
 use Rattle.world.specs.World.{WorldState}
 use Rattle.world.proofs.ClientGoes.{same_piped}

@@ -7,15 +7,15 @@ use Rattle.std.proofs.lemmas.List.Quantifiers.{position-Some}
 use Rattle.std.proofs.lemmas.Option.{get_or_from_slice_get}
 use Rattle.agreement.specs.MasterState.{MasterState, refusal}
 use Rattle.ballot_base.specs.declared.config.Config.{Config}
-use Rattle.ballot_base.specs.Serving.{max_places}
+use Rattle.ballot_base.specs.Service.{max_places}
 use Rattle.broker_spec.specs.declared.command.Command.{Command}
 use Rattle.broker_spec.specs.declared.command.Output.{Output}
 use Rattle.broker_spec.specs.Place.{Client}
 use Rattle.broker_base.specs.State.{State}
-use Rattle.world_nodes.specs.recoveries.Coming.{IsSeen}
+use Rattle.world_nodes.specs.recoveries.Deliveries.{IsSeen}
 use Rattle.recovery.specs.replicas.Deliveries.{NodeIs}
-use Rattle.recovery.specs.replicas.Following.{IsRunning}
-use Rattle.recovery.specs.replicas.Laws.{CanBeLed}
+use Rattle.recovery.specs.replicas.LedStates.{IsRunning}
+use Rattle.recovery.specs.replicas.Theorems.{CanBeLed}
 use Rattle.world_nodes.proofs.of_recoveries.NodesFollow.{replica_at}
 use Rattle.headline.specs.node_group.Group.{Group, moment_of_nodes, replica_of}
 use Rattle.agreement.specs.cut_logs.Moments.{Moment, Moments, whole_moment}
@@ -26,10 +26,10 @@ use Rattle.agreement.proofs.of_cut_logs.Views.{get_whole}
 use Rattle.lists.specs.Lists.{In}
 use Rattle.lists.specs.Lists.In.{here, there}
 use Rattle.world_base.specs.node_core.Core.{CountedCore, rules}
-use Rattle.world_nodes.specs.Asking.{whole_log_in, whole_log_of}
-use Rattle.world_nodes.specs.Running.{is_running, is_up, numbered_node}
+use Rattle.world_nodes.specs.RecoveryChecks.{whole_log_in, whole_log_of}
+use Rattle.world_nodes.specs.RunningNodes.{is_running, is_up, numbered_node}
 use Rattle.world_nodes.specs.Nodes.{NodesState, NodesStandFor}
-use Rattle.world.specs.Escaping.{CanEscape, configuration_of, log_length_of}
+use Rattle.world.specs.Recovery.{CanEscape, configuration_of, log_length_of}
 use Rattle.world.specs.World.{WorldState}
 
 -- nodes that a group corresponds to are seen as its moment

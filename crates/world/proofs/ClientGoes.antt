@@ -5,7 +5,7 @@ use Rattle.lists.proofs.Places.{get_set}
 use Rattle.headline.specs.byte_world.World.{ClientPipes, ByteWorld, with_client}
 use Rattle.headline.specs.byte_world.Published.{from_client}
 use Rattle.session_base.specs.declared.publication.Publication.{Publication}
-use Rattle.world_pipes.specs.Following.{FollowsAll, FollowsBy}
+use Rattle.world_pipes.specs.ModelSteps.{FollowsAll, FollowsBy}
 use Rattle.world_pipes.specs.Steps.{ClientTrace, published_in_steps as published_with, published_with as published_with_one}
 use Rattle.world_pipes.specs.Piped.{Piped}
 use Rattle.world_pipes.proofs.StepsInWorlds.{steps_in_worlds}
@@ -13,7 +13,7 @@ use Rattle.world_pipes.specs.declared.clients.connection_slot.ConnectionSlot.{Co
 use Rattle.world_pipes.specs.declared.clients.world_client.WorldClient.{WorldClient}
 use Rattle.world_pipes.specs.clients.SlotsAreValid.{SlotsAreValid, connection_targets, targets_of_clients}
 use Rattle.world.specs.Inside.Steps.{IsTrace, IsTraceAsking}
-use Rattle.world.specs.Inside.Calling.{with_one_loss}
+use Rattle.world.specs.Inside.ClientCalls.{with_one_loss}
 use Rattle.world.specs.StandsFor.{WorldSteps, FollowsModel, FollowsModelAsking, published_along}
 use Rattle.world.specs.StandsFor.WorldSteps.{rests, goes_on}
 use Rattle.world.specs.World.{WorldState}
@@ -111,7 +111,7 @@ same_piped old i client piped found same =
 
 -- and connections lead to the same nodes
 pub housed_still : (clients : List WorldClient) (connections : List ConnectionSlot) (i : ℕ) (client : WorldClient) (piped : Piped) → slice_get clients i ≡ Some client →
-    connection_targets piped.ways ≡ connection_targets client.piped.ways → SlotsAreValid (targets_of_clients clients) connections →
+    connection_targets piped.pairs ≡ connection_targets client.piped.pairs → SlotsAreValid (targets_of_clients clients) connections →
     SlotsAreValid (targets_of_clients (set clients i (record client { piped = piped }))) connections
 housed_still clients connections i client piped found same housed =
     subst (λ all. SlotsAreValid all connections) (sym (housed_set clients i client (record client { piped = piped }) found same)) housed

@@ -15,16 +15,16 @@ use Rattle.lists.specs.Lists.{IsPrefixOf}
 use Rattle.lists.proofs.Places.{get_pushed, get_set}
 use Rattle.packet.specs.Spelling.{spelling}
 use Rattle.packet.specs.Verdict.{verdict}
-use Rattle.world_pipes.specs.declared.way.Way.{Way}
+use Rattle.world_pipes.specs.declared.pair.PipePair.{PipePair}
 use Rattle.world_pipes.specs.Piped.{CarriesDown, Piped, broken, come_down, piped_up}
 use Rattle.world_pipes.specs.declared.events.event.Event.TheVariants as events
 use Rattle.world_pipes.specs.declared.clients.connection_slot.ConnectionSlot.{ConnectionSlot}
 use Rattle.world_pipes.specs.declared.clients.world_client.WorldClient.{WorldClient}
-use Rattle.world.specs.Doing.{DoesEvent}
+use Rattle.world.specs.EventSteps.{DoesEvent}
 use Rattle.world.specs.Found.{core_named, with_piped}
 use Rattle.world_pipes.specs.clients.Clients.{is_named}
 use Rattle.world.specs.Trace.{WorldLosesNothing}
-use Rattle.world.specs.Happening.{EventsHappen}
+use Rattle.world.specs.Events.{EventsHappen}
 use Rattle.world.specs.World.{WorldState}
 use Rattle.world.proofs.ConnectSpelled.{connack_long, connack_read}
 use Rattle.world.proofs.ExactRuns.{first_done}
@@ -54,28 +54,28 @@ module _ (name : List ℕ) (i at number node : ℕ) (core : Core) (up down : Lis
   front = ap (take 4) begins.is ∙ take_at (spelling session_present) begins.rest 4 connack_long
 
   module _ (piped : Piped) (result : Result (Unit {0}) ClientError) (enough : result ≡ Err errors.Memory → ⊥) (h : CarriesDown 4 s.client.piped result piped) where
-    last : slice_get s.client.piped.ways at ≡ Some h.way
+    last : slice_get s.client.piped.pairs at ≡ Some h.pair
     last =
-        let many = ap (λ (l : List Way). length l) h.newest in
-        let joined = length-append h.older (h.way ∷ []) in
+        let many = ap (λ (l : List PipePair). length l) h.newest in
+        let joined = length-append h.older (h.pair ∷ []) in
         let counted = s.many in
-        ap (λ (l : List Way). slice_get l at) h.newest
-        ∙ ap (slice_get (h.older ++ h.way ∷ [])) (let e : at ≡ length h.older = omega (arith, many, joined, counted) in e)
-        ∙ get_pushed h.older h.way
+        ap (λ (l : List PipePair). slice_get l at) h.newest
+        ∙ ap (slice_get (h.older ++ h.pair ∷ [])) (let e : at ≡ length h.older = omega (arith, many, joined, counted) in e)
+        ∙ get_pushed h.older h.pair
 
-    piece : take 4 h.way.down ≡ spelling session_present
-    piece = ap (λ (z : Way). take 4 z.down) (same_Some h.way s.way (sym last ∙ s.stands)) ∙ ap (take 4) s.down_is ∙ front
+    piece : take 4 h.pair.down ≡ spelling session_present
+    piece = ap (λ (z : PipePair). take 4 z.down) (same_Some h.pair s.pair (sym last ∙ s.stands)) ∙ ap (take 4) s.down_is ∙ front
 
     read_is : (h.read ≡ Err errors.Memory → ⊥) → IsServed h.core
     read_is memory =
-        (connack_serves (take 4 h.way.down) s.client.piped.core h.core h.read (ap verdict piece ∙ connack_read)
+        (connack_serves (take 4 h.pair.down) s.client.piped.core h.core h.read (ap verdict piece ∙ connack_read)
         (ap (λ (k : Core). k.state.stage) s.core_is ∙ stage) (ap (λ (k : Core). k.unread) s.core_is ∙ unread) memory h.carried).1
 
     hears_it : IsServed piped.core
     hears_it = by h.goes_up
       where
-        by : ((result ≡ h.read) × (piped ≡ piped_up h.core h.older (come_down 4 h.way)))
-            ⊎ ((result ≡ Err errors.Memory) × (piped ≡ broken h.core (h.older ++ come_down 4 h.way ∷ []))) → IsServed piped.core
+        by : ((result ≡ h.read) × (piped ≡ piped_up h.core h.older (come_down 4 h.pair)))
+            ⊎ ((result ≡ Err errors.Memory) × (piped ≡ broken h.core (h.older ++ come_down 4 h.pair ∷ []))) → IsServed piped.core
         by (inl (same, is)) =
             let z = read_is (λ e. enough (same ∙ e)) in
             subst (λ (p : Piped). IsServed p.core) (sym is) (record { online = z.online; present = z.present })

@@ -9,21 +9,21 @@ use Rattle.lists.proofs.Tests.{none_or}
 use Rattle.world_base.specs.declared.node_core.item.Item.TheVariants.{Opened}
 use Rattle.world_base.specs.declared.node_core.Port.{Port}
 use Rattle.world_base.specs.node_core.Core.{CoreState, CountedCore}
-use Rattle.world_base.specs.node_core.Handing.{listed_at}
+use Rattle.world_base.specs.node_core.PortOutput.{listed_at}
 use Rattle.headline.specs.node_moves.Moves.NodeCall.{takes}
 use Rattle.headline.proofs.of_node_group.Placed.{get_mapped}
 use Rattle.headline.specs.byte_world.World.{ClientPipes, Pipe, ByteWorld, is_used, leads_to, with_client}
 use Rattle.headline.specs.byte_world.ClientSteps.{after_connecting}
 use Rattle.headline.specs.byte_world.Steps.ByteWorldStep.{connects}
 use Rattle.world_nodes.specs.ExactSteps.{NodeDoesCall}
-use Rattle.world_nodes.specs.Running.{numbered_node}
+use Rattle.world_nodes.specs.RunningNodes.{numbered_node}
 use Rattle.world_nodes.specs.Nodes.{NodesState, NodesStandFor}
-use Rattle.world_pipes.specs.declared.way.Way.{Way}
-use Rattle.world_pipes.specs.Following.{ConnectingFollows}
-use Rattle.world_pipes.specs.StandsFor.{AreWays}
+use Rattle.world_pipes.specs.declared.pair.PipePair.{PipePair}
+use Rattle.world_pipes.specs.ModelSteps.{ConnectingFollows}
+use Rattle.world_pipes.specs.StandsFor.{ArePipePairs}
 use Rattle.world_pipes.specs.declared.clients.world_client.WorldClient.{WorldClient}
 use Rattle.world_pipes.specs.clients.SlotsAreValid.{SlotsAreValid, connection_targets, targets_of_clients}
-use Rattle.world.specs.Inside.Connecting.{ConnectsAt}
+use Rattle.world.specs.Inside.Connections.{ConnectsAt}
 use Rattle.world_pipes.specs.clients.Opening.{IsKnown}
 use Rattle.world_pipes.specs.clients.Clients.{ClientsStand}
 use Rattle.world.specs.StandsFor.{ModelStepsTo, FollowsModel}
@@ -41,38 +41,38 @@ is_there (Some x) e = (x, refl)
 -- ---- its port was never used
 
 module _ (n bound : ℕ) (port : Port) (beyond : bound < port.0) where
-  none_there : (ways : List Way) (pipes : List Pipe) → AreWays ways pipes → ((j : ℕ) (way : Way) → slice_get ways j ≡ Some way → way.port.0 ≤ bound)
+  none_there : (pairs : List PipePair) (pipes : List Pipe) → ArePipePairs pairs pipes → ((j : ℕ) (pair : PipePair) → slice_get pairs j ≡ Some pair → pair.port.0 ≤ bound)
       → list_any (leads_to n port) pipes ≡ false
   none_there [] [] are low = refl
   none_there [] (p ∷ pipes) are low = absurd are
-  none_there (way ∷ ways) [] are low = absurd are
-  none_there (way ∷ ways) (p ∷ pipes) are low =
+  none_there (pair ∷ pairs) [] are low = absurd are
+  none_there (pair ∷ pairs) (p ∷ pipes) are low =
       none_or (leads_to n port p) (list_any (leads_to n port) pipes)
       (ap (λ (a : Bool). (p.node == n) && a) (ne_eqb p.port.0 port.0 (λ same.
-      let l : way.port.0 ≤ bound = low 0 way refl in let e : p.port.0 ≡ way.port.0 = ap (λ (q : Port). q.0) are.0.port in omega (arith, l, e, same, beyond)))
+      let l : pair.port.0 ≤ bound = low 0 pair refl in let e : p.port.0 ≡ pair.port.0 = ap (λ (q : Port). q.0) are.0.port in omega (arith, l, e, same, beyond)))
       ∙ none (p.node == n))
-      (none_there ways pipes are.1 (λ j. low (suc j)))
+      (none_there pairs pipes are.1 (λ j. low (suc j)))
     where
       none : (a : Bool) → (a && false) ≡ false
       none true = refl
       none false = refl
 
   pub unused : (clients : List WorldClient) (cs : List ClientPipes) → ClientsStand clients cs
-      → ((i at node : ℕ) (q : Port) (ways : List (ℕ × Port)) → slice_get (targets_of_clients clients) i ≡ Some ways → slice_get ways at ≡ Some (node, q) → q.0 ≤ bound)
+      → ((i at node : ℕ) (q : Port) (pairs : List (ℕ × Port)) → slice_get (targets_of_clients clients) i ≡ Some pairs → slice_get pairs at ≡ Some (node, q) → q.0 ≤ bound)
       → is_used n port cs ≡ false
   unused [] [] all low = refl
   unused [] (c ∷ cs) all low = absurd all
   unused (d ∷ clients) [] all low = absurd all
   unused (d ∷ clients) (c ∷ cs) all low =
       none_or (list_any (leads_to n port) c.pipes) (is_used n port cs)
-      (none_there (reverse d.piped.ways) c.pipes all.0.ways (λ j way e. in_turn j way e))
+      (none_there (reverse d.piped.pairs) c.pipes all.0.pairs (λ j pair e. in_turn j pair e))
       (unused clients cs all.1 (λ i. low (suc i)))
     where
-      in_turn : (j : ℕ) (way : Way) → slice_get (reverse d.piped.ways) j ≡ Some way → way.port.0 ≤ bound
-      in_turn j way e =
-          let t = turned_at (reverse d.piped.ways) j way e in
-          let found : slice_get d.piped.ways t.place ≡ Some way = ap (λ (l : List Way). slice_get l t.place) (sym (reverse-reverse d.piped.ways)) ∙ t.found in
-          low 0 t.place way.node way.port (connection_targets d.piped.ways) refl (get_mapped (λ (w : Way). (w.node, w.port)) d.piped.ways t.place way found)
+      in_turn : (j : ℕ) (pair : PipePair) → slice_get (reverse d.piped.pairs) j ≡ Some pair → pair.port.0 ≤ bound
+      in_turn j pair e =
+          let t = turned_at (reverse d.piped.pairs) j pair e in
+          let found : slice_get d.piped.pairs t.place ≡ Some pair = ap (λ (l : List PipePair). slice_get l t.place) (sym (reverse-reverse d.piped.pairs)) ∙ t.found in
+          low 0 t.place pair.node pair.port (connection_targets d.piped.pairs) refl (get_mapped (λ (w : PipePair). (w.node, w.port)) d.piped.pairs t.place pair found)
 
 -- ---- the step
 

@@ -7,7 +7,7 @@ use Rattle.master.specs.declared.event.Idle.{Idle}
 use Rattle.world_pipes.specs.declared.sending.Sending.{Sending}
 use Rattle.world_pipes.specs.declared.sending.Sending.TheVariants as sendings
 use Rattle.world.specs.Trace.{CountsOnce}
-use Rattle.world.specs.Inside.Calling.{CountsRefusal, with_one_loss}
+use Rattle.world.specs.Inside.ClientCalls.{CountsRefusal, with_one_loss}
 use Rattle.world.specs.Inside.Steps.{IsCounted}
 use Rattle.world.specs.World.{WorldState}
 

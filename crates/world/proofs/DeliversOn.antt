@@ -11,8 +11,8 @@ use Rattle.broker_spec.specs.declared.command.Output.{Output}
 use Rattle.broker_base.specs.State.{State}
 use Rattle.recovery.specs.replicas.CutDeliveries.{Delivered, after_activate, after_outcome}
 use Rattle.recovery.specs.replicas.CutDeliveries.Delivered.{all_came, to_node, to_master}
-use Rattle.world_nodes.specs.recoveries.Coming.{AreCalm, Come, IsSeen}
-use Rattle.world_nodes.specs.recoveries.Coming.Come.{all_came as none_comes, to_node as comes_to_node, to_master as comes_to_master}
+use Rattle.world_nodes.specs.recoveries.Deliveries.{AreCalm, Come, IsSeen}
+use Rattle.world_nodes.specs.recoveries.Deliveries.Come.{all_came as none_comes, to_node as comes_to_node, to_master as comes_to_master}
 use Rattle.world_nodes.proofs.of_recoveries.NodesFollow.{deliveries_are_followed}
 use Rattle.headline.specs.node_group.Group.{replica_of}
 use Rattle.agreement.specs.cut_logs.Moments.{Moment}
@@ -22,16 +22,16 @@ use Rattle.lists.proofs.Members.{in_at}
 use Rattle.world_base.specs.node_core.Core.{CoreState, CountedCore, rules}
 use Rattle.world_base.specs.declared.node_core.item.Item.TheVariants.{Peer}
 use Rattle.world_nodes.specs.ExactSteps.{MessageArrives, ComesToNobody, TakesExactly, after_answer, after_node_call}
-use Rattle.world_nodes.specs.Running.{running, unless_stopped}
+use Rattle.world_nodes.specs.RunningNodes.{running, unless_stopped}
 use Rattle.world_nodes.specs.Nodes.{NodesState, cores_of}
 use Rattle.world_nodes.proofs.Acts.{acts}
 use Rattle.world_nodes.proofs.MasterActs.{answers_exactly}
 use Rattle.world_pipes.specs.declared.events.event.Event.TheVariants as events
 use Rattle.world.specs.Cannot.{CannotHappen}
-use Rattle.world.specs.Doing.{DoesEvent, receiver_of}
-use Rattle.world.specs.Gathering.{Gathers}
+use Rattle.world.specs.EventSteps.{DoesEvent, receiver_of}
+use Rattle.world.specs.NodeOutput.{Gathers}
 use Rattle.world.specs.Trace.{WorldLosesNothing}
-use Rattle.world.specs.Happening.{EventsHappen}
+use Rattle.world.specs.Events.{EventsHappen}
 use Rattle.world_pipes.specs.clients.SlotsAreValid.{SlotsAreValid, targets_of_clients}
 use Rattle.world.specs.World.{WorldState}
 use Rattle.world.proofs.ExactRuns.{first_done}

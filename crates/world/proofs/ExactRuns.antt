@@ -3,9 +3,9 @@ use Rattle.std.proofs.Common.{inl, inr, ◌≤◌, ◌-◌, ◌^◌, ℕ, true, 
 use Rattle.master.specs.declared.event.Idle.{Idle}
 use Rattle.world_pipes.specs.declared.events.event.Event.{Event}
 use Rattle.world.specs.Cannot.{CannotHappen}
-use Rattle.world.specs.Doing.{DoesEvent}
+use Rattle.world.specs.EventSteps.{DoesEvent}
 use Rattle.world.specs.Trace.{WorldLosesNothing}
-use Rattle.world.specs.Happening.{EventHappens, EventsHappen}
+use Rattle.world.specs.Events.{EventHappens, EventsHappen}
 use Rattle.world.specs.World.{WorldState}
 use Rattle.world.proofs.Joined.{worlds_split}
 use Rattle.world.proofs.UncountedIsExact.{uncounted_is_exact}

@@ -1,14 +1,14 @@
 -- Gathered.antt: connections are asked one after another, from the newest to the oldest.
 use Rattle.std.proofs.Common.{◌≡◌, inl, inr, ◌<◌, ◌-◌, ℕ, zero, suc, Bool, true, false, List, ◌++◌, Some, length, set, slice_get, refl, sym, ap, ◌∙◌, subst, arith}
-use Rattle.world_nodes.specs.Running.{numbered_node}
+use Rattle.world_nodes.specs.RunningNodes.{numbered_node}
 use Rattle.world_nodes.specs.Steps.{nodes_with_loss}
 use Rattle.world_pipes.specs.declared.clients.connection_slot.ConnectionSlot.{ConnectionSlot}
 use Rattle.world.specs.Found.{slot_numbered, port_at_node, with_piped}
-use Rattle.world_pipes.specs.clients.Handing.{with_down}
-use Rattle.world.specs.Gathering.{GatheredWhere, Gathers, GathersAmong, IsGathered, MayBeGathered, leads_open_to}
-use Rattle.world_pipes.specs.clients.Handing.{bytes_put_out}
+use Rattle.world_pipes.specs.clients.NodeOutput.{with_down}
+use Rattle.world.specs.NodeOutput.{GatheredWhere, Gathers, GathersAmong, IsGathered, MayBeGathered, leads_open_to}
+use Rattle.world_pipes.specs.clients.NodeOutput.{bytes_put_out}
 use Rattle.world.specs.Inside.Steps.{IsTrace}
-use Rattle.world.specs.Inside.Handing.{GatheringOrLost, GathersOn, marked}
+use Rattle.world.specs.Inside.PortOutput.{GatheringOrLost, GathersOn, marked}
 use Rattle.world.specs.World.{WorldState}
 use Rattle.world.proofs.Joined.{goes_on_join}
 use Rattle.world.proofs.StandsThere.{numbered_at}
@@ -20,9 +20,9 @@ pub is_gathered : (number : ℕ) (place : ConnectionSlot) (is_open : Bool) (old 
     → new ≡ marked number place is_open mid → IsGathered number old new
 is_gathered number place is_open old mid new at positive h is =
     let down : WorldState = record (with_piped place.client h.client
-    (with_down place.at h.way (h.way.down ++ bytes_put_out (port_at_node number) (numbered_node old.nodes.nodes place.node)) h.client.piped) old) { nodes = h.between } in
+    (with_down place.at h.pair (h.pair.down ++ bytes_put_out (port_at_node number) (numbered_node old.nodes.nodes place.node)) h.client.piped) old) { nodes = h.between } in
     record {
-      connected = record { slot = place; numbered = numbered_at number old.connections (Some place) positive at; client = h.client; owned = h.owned; way = h.way; stands = h.stands };
+      connected = record { slot = place; numbered = numbered_at number old.connections (Some place) positive at; client = h.client; owned = h.owned; pair = h.pair; stands = h.stands };
       node = numbered_node old.nodes.nodes place.node;
       is_node = refl;
       between = h.between;

@@ -11,8 +11,8 @@ use Rattle.world_base.specs.declared.node_core.Connection.{Connection as NodesEn
 use Rattle.world_base.specs.declared.node_core.Port.{Port}
 use Rattle.world_base.specs.node_connections.Connections.{is_at}
 use Rattle.world_base.specs.node_core.Core.{CoreState, CountedCore}
-use Rattle.world_base.specs.node_connections.Pending.{pending_bytes}
-use Rattle.world_base.specs.node_core.Handing.{listed_at}
+use Rattle.world_base.specs.node_connections.PendingOutput.{pending_bytes}
+use Rattle.world_base.specs.node_core.PortOutput.{listed_at}
 use Rattle.headline.specs.node_moves.Moves.NodeCall.{hands_out}
 use Rattle.headline.proofs.of_node_moves.Views.{found_passes}
 use Rattle.headline.specs.node_group.Streams.{bytes_named}
@@ -25,13 +25,13 @@ use Rattle.headline.proofs.of_byte_world.PipesHold.{found_in}
 use Rattle.headline.proofs.of_byte_world.PipesInOrder.{reached_holds}
 use Rattle.world_nodes.specs.ExactSteps.{NodeDoesCall, HandsOver}
 use Rattle.world_nodes.specs.Nodes.{NodesState}
-use Rattle.world_pipes.specs.declared.way.Way.{Way}
+use Rattle.world_pipes.specs.declared.pair.PipePair.{PipePair}
 use Rattle.world_pipes.specs.Piped.{Piped}
 use Rattle.world_pipes.specs.declared.clients.connection_slot.ConnectionSlot.{ConnectionSlot}
 use Rattle.world_pipes.specs.declared.clients.world_client.WorldClient.{WorldClient}
 use Rattle.world_pipes.specs.clients.SlotsAreValid.{LeadsThere, targets_of_clients}
-use Rattle.world_pipes.specs.clients.Handing.{with_down}
-use Rattle.world_pipes.specs.clients.Handing.{MayHandDown, MayPutDown}
+use Rattle.world_pipes.specs.clients.NodeOutput.{with_down}
+use Rattle.world_pipes.specs.clients.NodeOutput.{MayHandDown, MayPutDown}
 use Rattle.world_pipes.specs.clients.NodesGoOn.{NodesStay}
 use Rattle.world.specs.StandsFor.{ModelStepsTo, WorldStandsFor, FollowsModel}
 use Rattle.world.specs.StandsFor.WorldSteps.{rests, goes_on}
@@ -39,7 +39,7 @@ use Rattle.world.specs.World.{WorldState}
 use Rattle.world.proofs.ClientsStand.{StandsAt, client_at, stand_set}
 use Rattle.world_pipes.proofs.of_clients.LeadsKept.{led}
 use Rattle.world_pipes.proofs.of_clients.Turned.{mapped_from, set_itself}
-use Rattle.world.proofs.WaysStand.{PipeAt, pipe_at, way_changes}
+use Rattle.world.proofs.PairsStand.{PipeAt, pipe_at, pair_changes}
 
 -- all that a node hands over at a port is of one name
 all_named : (x : ConnectionName) (port : Port) (core : CoreState) → ((d : NodesEnd) → In d core.connections → d.port.0 ≡ port.0 → d.name ≡ x)
@@ -58,13 +58,13 @@ abbrev pub put_down : ℕ → WorldClient → Piped → NodesState → WorldStat
 put_down i client later new old = record old { nodes = new; clients = set old.clients i (record client { piped = later }) }
 
 module _ {nodes : ℕ} {config : Config} {cs : List Client} (m : ByteWorld) (trail : Reached nodes config cs m) (old : WorldState) (s : WorldStandsFor m old) (place : ConnectionSlot) (client : WorldClient)
-    (one : StandsAt m.clients place.client client.piped) (way : Way) (x : PipeAt client.piped one.c place.at way) (new : NodesState) where
+    (one : StandsAt m.clients place.client client.piped) (pair : PipePair) (x : PipeAt client.piped one.c place.at pair) (new : NodesState) where
   has : HasPipe m place.client one.c x.turned.place x.κ x.p
   has = record { client = one.at; connection = x.connection; pipe = x.pipe }
 
   -- with the bytes that it handed over
-  hands_down : (bytes : List ℕ) → NodeDoesCall x.p.node (hands_out x.p.port) old.nodes new → HandsOver (suc x.p.node) x.p.port old.nodes way.down bytes
-      → ModelStepsTo [] m (put_down place.client client (with_down place.at way bytes client.piped) new old)
+  hands_down : (bytes : List ℕ) → NodeDoesCall x.p.node (hands_out x.p.port) old.nodes new → HandsOver (suc x.p.node) x.p.port old.nodes pair.down bytes
+      → ModelStepsTo [] m (put_down place.client client (with_down place.at pair bytes client.piped) new old)
   hands_down bytes acts over =
       let d = acts m.group s.nodes in
       let carried = carries_with m.group d.does.after d.does.step x.p.node (hands_out x.p.port) d.does.faithful d.does.is in
@@ -78,15 +78,15 @@ module _ {nodes : ℕ} {config : Config} {cs : List Client} (m : ByteWorld) (tra
       ∙ ap (λ (l : List ℕ). x.p.down ++ l)
       (ap (λ (k : CoreState). pending_bytes (listed_at x.p.port k)) core.is ∙ sym named ∙ sym (carried.down x.κ.name)) in
       let q : Pipe = record x.p { down = x.p.down ++ goes_down_in x.κ.name d.does.step } in
-      let later : Way = record way { down = bytes } in
+      let later : PipePair = record pair { down = bytes } in
       record {
         after = with_client place.client (with_pipe x.turned.place q one.c) (record m { group = d.does.after });
         steps = goes_on rests (goes_down place.client x.turned.place one.c x.κ x.p d.does has);
         asked_is = refl;
         stands = record {
           nodes = d.stands;
-          clients = stand_set old.clients m.clients place.client (record client { piped = with_down place.at way bytes client.piped }) (with_pipe x.turned.place q one.c) s.clients
-              (way_changes client.piped one.c place.at way later x q one.stands
+          clients = stand_set old.clients m.clients place.client (record client { piped = with_down place.at pair bytes client.piped }) (with_pipe x.turned.place q one.c) s.clients
+              (pair_changes client.piped one.c place.at pair later x q one.stands
               (record { node = x.is.node; port = x.is.port; up = x.is.up; down = sym down }) (λ e. e) refl);
         };
       }
@@ -105,22 +105,22 @@ pub puts_down : (old : WorldState) (number : ℕ) (place : ConnectionSlot) (clie
 puts_down old number place client new later there at puts nodes config cs m trail s =
     let l = led old.clients number place client there at in
     let one = client_at old.clients m.clients place.client client s.clients at in
-    let x = pipe_at client.piped one.c place.at l.way one.stands l.found in
-    let p = puts l.way l.found in by l.way one x p.0 l.node l.port l.found p.1 p.2
+    let x = pipe_at client.piped one.c place.at l.pair one.stands l.found in
+    let p = puts l.pair l.found in by l.pair one x p.0 l.node l.port l.found p.1 p.2
   where
-    by : (way : Way) (one : StandsAt m.clients place.client client.piped) (x : PipeAt client.piped one.c place.at way) (bytes : List ℕ) → suc way.node ≡ place.node → way.port ≡ record { 0 = number }
-        → slice_get client.piped.ways place.at ≡ Some way
-        → MayHandDown place.node (record { 0 = number }) old.nodes way.down new bytes → later ≡ with_down place.at way bytes client.piped
+    by : (pair : PipePair) (one : StandsAt m.clients place.client client.piped) (x : PipeAt client.piped one.c place.at pair) (bytes : List ℕ) → suc pair.node ≡ place.node → pair.port ≡ record { 0 = number }
+        → slice_get client.piped.pairs place.at ≡ Some pair
+        → MayHandDown place.node (record { 0 = number }) old.nodes pair.down new bytes → later ≡ with_down place.at pair bytes client.piped
         → ModelStepsTo [] m (put_down place.client client later new old)
-    by way one x bytes node port found (inl (stay, still)) is =
-        hands_nothing m trail old s place client one way x new later at stay
-        (is ∙ ap (λ (b : List ℕ). with_down place.at way b client.piped) still
-        ∙ ap (λ (ws : List Way). let z : Piped = record client.piped { ways = ws } in z) (set_itself client.piped.ways place.at way found))
-    by way one x bytes node port found (inr (acts, over)) is =
+    by pair one x bytes node port found (inl (stay, still)) is =
+        hands_nothing m trail old s place client one pair x new later at stay
+        (is ∙ ap (λ (b : List ℕ). with_down place.at pair b client.piped) still
+        ∙ ap (λ (ws : List PipePair). let z : Piped = record client.piped { pairs = ws } in z) (set_itself client.piped.pairs place.at pair found))
+    by pair one x bytes node port found (inr (acts, over)) is =
         let number_is : place.node ≡ suc x.p.node = sym node ∙ ap suc (sym x.is.node) in
         let port_is : (let q : Port = record { 0 = number } in q) ≡ x.p.port = sym port ∙ sym x.is.port in
         let low : place.node - 1 ≡ x.p.node = omega (arith, number_is) in
         subst (λ (z : Piped). ModelStepsTo [] m (put_down place.client client z new old)) (sym is)
-        (hands_down m trail old s place client one way x new bytes
+        (hands_down m trail old s place client one pair x new bytes
         (subst (λ (k : ℕ). NodeDoesCall k (hands_out x.p.port) old.nodes new) low (subst (λ (q : Port). NodeDoesCall (place.node - 1) (hands_out q) old.nodes new) port_is acts))
-        (subst (λ (k : ℕ). HandsOver k x.p.port old.nodes way.down bytes) number_is (subst (λ (q : Port). HandsOver place.node q old.nodes way.down bytes) port_is over)))
+        (subst (λ (k : ℕ). HandsOver k x.p.port old.nodes pair.down bytes) number_is (subst (λ (q : Port). HandsOver place.node q old.nodes pair.down bytes) port_is over)))

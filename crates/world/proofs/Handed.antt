@@ -4,18 +4,18 @@ use Rattle.std.specs.Prelude.{IfOk}
 use Rattle.std.proofs.lemmas.Option.{same_Some}
 use Rattle.master.specs.declared.event.Idle.{Idle}
 use Rattle.world_nodes.specs.Nodes.{NodesState}
-use Rattle.world_pipes.specs.declared.way.Way.{Way}
+use Rattle.world_pipes.specs.declared.pair.PipePair.{PipePair}
 use Rattle.world_pipes.specs.Piped.{Piped}
 use Rattle.world_pipes.specs.declared.clients.connection_slot.ConnectionSlot.{ConnectionSlot}
 use Rattle.world_pipes.specs.declared.clients.world_client.WorldClient.{WorldClient}
 use Rattle.world_pipes.specs.clients.NodesGoOn.{NodesGoOn}
 use Rattle.world_pipes.specs.clients.SlotsAreValid.{SlotsAreValid, targets_of_clients}
 use Rattle.world.specs.Found.{port_at_node}
-use Rattle.world_pipes.specs.clients.Handing.{with_down, BytesDownOrLost, MayPutDown, PipeBytesDownOrLost}
-use Rattle.world_pipes.specs.clients.Carrying.{CannotCarryUp, CarriesUpWhere}
-use Rattle.world.specs.Inside.Carrying.{CannotCarryUpOn, CarriesUpOnWhere}
+use Rattle.world_pipes.specs.clients.NodeOutput.{with_down, BytesDownOrLost, MayPutDown, PipeBytesDownOrLost}
+use Rattle.world_pipes.specs.clients.Transport.{CannotCarryUp, CarriesUpWhere}
+use Rattle.world.specs.Inside.Transport.{CannotCarryUpOn, CarriesUpOnWhere}
 use Rattle.world.specs.Inside.Steps.{IsTrace}
-use Rattle.world.specs.Inside.Handing.{GatheringOrLost}
+use Rattle.world.specs.Inside.PortOutput.{GatheringOrLost}
 use Rattle.world.specs.World.{WorldState}
 use Rattle.world.proofs.ComesUp.{takes_up}
 use Rattle.world.proofs.GoesDown.{put_down, puts_down}
@@ -30,28 +30,28 @@ same_client old i client new later found still =
     ap (λ (p : Piped). put_down i client p new old) still ∙ ap (λ (l : List WorldClient). record old { nodes = new; clients = l }) (set_itself old.clients i client found)
 
 -- what is known about the end, and what went down; or nothing went down
-pub gathers_on : (old : WorldState) (number : ℕ) (place : ConnectionSlot) (client : WorldClient) (way : Way) (is_open : Bool) (new : NodesState) (later : Piped) → slice_get old.clients place.client ≡ Some client
-    → slice_get client.piped.ways place.at ≡ Some way → PipeBytesDownOrLost place.at place.node (port_at_node number) old.nodes client.piped new later is_open
+pub gathers_on : (old : WorldState) (number : ℕ) (place : ConnectionSlot) (client : WorldClient) (pair : PipePair) (is_open : Bool) (new : NodesState) (later : Piped) → slice_get old.clients place.client ≡ Some client
+    → slice_get client.piped.pairs place.at ≡ Some pair → PipeBytesDownOrLost place.at place.node (port_at_node number) old.nodes client.piped new later is_open
     → GatheringOrLost number place old is_open (put_down place.client client later new old)
-gathers_on old number place client way is_open new later owned stands puts = by (puts way stands)
+gathers_on old number place client pair is_open new later owned stands puts = by (puts pair stands)
   where
-    same_bytes : (bytes : List ℕ) → bytes ≡ way.down → with_down place.at way bytes client.piped ≡ client.piped
+    same_bytes : (bytes : List ℕ) → bytes ≡ pair.down → with_down place.at pair bytes client.piped ≡ client.piped
     same_bytes bytes same =
-        ap (λ (b : List ℕ). with_down place.at way b client.piped) same
-        ∙ ap (λ (l : List Way). let p : Piped = record client.piped { ways = l } in p) (set_itself client.piped.ways place.at way stands)
+        ap (λ (b : List ℕ). with_down place.at pair b client.piped) same
+        ∙ ap (λ (l : List PipePair). let p : Piped = record client.piped { pairs = l } in p) (set_itself client.piped.pairs place.at pair stands)
 
-    by : (bytes : List ℕ) × BytesDownOrLost place.node (port_at_node number) old.nodes way.down new bytes is_open × (later ≡ with_down place.at way bytes client.piped)
+    by : (bytes : List ℕ) × BytesDownOrLost place.node (port_at_node number) old.nodes pair.down new bytes is_open × (later ≡ with_down place.at pair bytes client.piped)
         → GatheringOrLost number place old is_open (put_down place.client client later new old)
     by (bytes, inl p, is) =
         inl (record {
           client = client;
           owned = owned;
-          way = way;
+          pair = pair;
           stands = stands;
           between = new;
           gives = p.0;
           reported = p.2;
-          is = ap (λ (l : Piped). put_down place.client client l new old) (is ∙ ap (λ (b : List ℕ). with_down place.at way b client.piped) p.1);
+          is = ap (λ (l : Piped). put_down place.client client l new old) (is ∙ ap (λ (b : List ℕ). with_down place.at pair b client.piped) p.1);
         })
     by (bytes, inr p, is) =
         inr (

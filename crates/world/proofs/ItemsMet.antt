@@ -12,10 +12,10 @@ use Rattle.master.specs.declared.event.Idle.{Idle}
 use Rattle.world_base.specs.declared.node_core.item.Item.{Item}
 use Rattle.world_base.specs.declared.node_core.item.Item.TheVariants.{Bytes, Crash, Ended, Expel, Tick}
 use Rattle.world_nodes.specs.ExactSteps.{MessageArrives, ComesToNobody, CutsExactly, TakesExactly}
-use Rattle.world_nodes.specs.Running.{cutting, proposing, running}
+use Rattle.world_nodes.specs.RunningNodes.{cutting, proposing, running}
 use Rattle.world_nodes.specs.Nodes.{NodesState}
 use Rattle.world_nodes.specs.Steps.{DeliveryOrLost, NewBallotOrLost, NodeCutOrLost, NodeExpelOrLost, NodeItemOrLost, NodesLoseNothing}
-use Rattle.world_pipes.specs.declared.way.Way.{Way}
+use Rattle.world_pipes.specs.declared.pair.PipePair.{PipePair}
 use Rattle.world_pipes.specs.Piped.{Piped, is_holding}
 use Rattle.world_pipes.specs.declared.events.event.Event.{Event}
 use Rattle.world_pipes.specs.declared.events.event.Event.TheVariants as events
@@ -23,23 +23,23 @@ use Rattle.world_pipes.specs.declared.clients.connection_slot.ConnectionSlot.{Co
 use Rattle.world_pipes.specs.declared.clients.world_client.WorldClient.{WorldClient}
 use Rattle.world.specs.Found.{Connected, slot_numbered, port_at_node, with_piped}
 use Rattle.world_pipes.specs.clients.Clients.{is_named}
-use Rattle.world_pipes.specs.clients.Carrying.{with_less}
-use Rattle.world.specs.Gathering.{Gathers, TakesItem}
+use Rattle.world_pipes.specs.clients.Transport.{with_less}
+use Rattle.world.specs.NodeOutput.{Gathers, TakesItem}
 use Rattle.world.specs.Cannot.{CannotHappen, IsClosed, down_of, is_held, is_held_by, up_of}
-use Rattle.world_pipes.specs.clients.Carrying.{IsNoPart}
-use Rattle.world.specs.Doing.{DoesEvent, LosesAtClient, receiver_of}
-use Rattle.world_pipes.specs.clients.Carrying.{CarriesDownWhere}
-use Rattle.world.specs.Happening.{EventHappens, HappensExactly, HappensLosing, EventsHappen}
+use Rattle.world_pipes.specs.clients.Transport.{IsNoPart}
+use Rattle.world.specs.EventSteps.{DoesEvent, LosesAtClient, receiver_of}
+use Rattle.world_pipes.specs.clients.Transport.{CarriesDownWhere}
+use Rattle.world.specs.Events.{EventHappens, HappensExactly, HappensLosing, EventsHappen}
 use Rattle.world_pipes.specs.clients.SlotsAreValid.{SlotsAreValid, targets_of_clients}
 use Rattle.world.specs.Quiet.{EventTakesNoMemory}
-use Rattle.world_pipes.specs.clients.Carrying.{CanCarryUp, CannotCarryDown, CarriesDownOn}
-use Rattle.world.specs.Inside.Carrying.{CannotCarryUpOn, CarriesUpOn}
+use Rattle.world_pipes.specs.clients.Transport.{CanCarryUp, CannotCarryDown, CarriesDownOn}
+use Rattle.world.specs.Inside.Transport.{CannotCarryUpOn, CarriesUpOn}
 use Rattle.world.specs.Inside.Steps.{IsCounted, EventIsDone, EventResultOrLost}
-use Rattle.world.specs.Inside.Calling.{with_one_loss}
+use Rattle.world.specs.Inside.ClientCalls.{with_one_loss}
 use Rattle.world.specs.World.{WorldState}
 use Rattle.world.proofs.GroupGoes.{with_nodes}
 use Rattle.world.proofs.NothingLost.{assigns_exactly, comes_rises, cuts_rises, expels_rises, gathers_exactly, gathers_rises, rises_split, takes_exactly}
-use Rattle.world.proofs.StandsThere.{connected, numbered_at, way_found}
+use Rattle.world.proofs.StandsThere.{connected, numbered_at, pair_found}
 
 -- ---- the master
 
@@ -170,19 +170,19 @@ carries_up number place count old mid new at positive up t gathers still =
       numbered = numbered_at number old.connections (Some place) positive at;
       client = t.client;
       owned = t.owned;
-      way = t.carries.way;
+      pair = t.carries.pair;
       stands = t.carries.found;
     }
 
     possible : CannotHappen (events.CarryUp number count) old → ⊥
     possible (inl closed) = not_closed number old place at positive up t.carries.runs closed
-    possible (inr few) = no_part count t.carries.way.up t.carries.some t.carries.part (subst (λ (o : Option Way). IsNoPart count (up_of o)) (way_found number old c) few)
+    possible (inr few) = no_part count t.carries.pair.up t.carries.some t.carries.part (subst (λ (o : Option PipePair). IsNoPart count (up_of o)) (pair_found number old c) few)
 
     piece : Item
-    piece = Bytes (port_at_node number) (take count t.carries.way.up) 0
+    piece = Bytes (port_at_node number) (take count t.carries.pair.up) 0
 
     less : WorldState
-    less = with_piped place.client t.client (with_less place.at count t.carries.way t.client.piped) old
+    less = with_piped place.client t.client (with_less place.at count t.carries.pair t.client.piped) old
 
     item : TakesItem false place.node piece less new
     item = (
@@ -205,28 +205,28 @@ lost_up number place count old mid new at positive up (same, client, owned, t) f
       numbered = numbered_at number old.connections (Some place) positive at;
       client = client;
       owned = owned;
-      way = t.way;
+      pair = t.pair;
       stands = t.found;
     }
 
     possible : CannotHappen (events.CarryUp number count) old → ⊥
     possible (inl closed) = not_closed number old place at positive up t.runs closed
-    possible (inr few) = no_part count t.way.up t.some t.part (subst (λ (o : Option Way). IsNoPart count (up_of o)) (way_found number old c) few)
+    possible (inr few) = no_part count t.pair.up t.some t.part (subst (λ (o : Option PipePair). IsNoPart count (up_of o)) (pair_found number old c) few)
 
 pub carries_nothing : (number : ℕ) (place : ConnectionSlot) (count : ℕ) (old : WorldState) → SlotsAreValid (targets_of_clients old.clients) old.connections → slice_get old.connections (number - 1) ≡ Some place → 0 < number
     → CannotCarryUpOn place count old → CannotHappen (events.CarryUp number count) old
-carries_nothing number place count old housed at positive cannot = by (cannot c.client c.owned c.way c.stands)
+carries_nothing number place count old housed at positive cannot = by (cannot c.client c.owned c.pair c.stands)
   where
     c : Connected number old
     c = connected old number place housed at positive
 
-    by : (running old.nodes.nodes place.node ≡ None) ⊎ IsNoPart count c.way.up → CannotHappen (events.CarryUp number count) old
+    by : (running old.nodes.nodes place.node ≡ None) ⊎ IsNoPart count c.pair.up → CannotHappen (events.CarryUp number count) old
     by (inl stopped) = inl (closed_some number old place c.numbered (inr stopped))
-    by (inr few) = inr (subst (λ (o : Option Way). IsNoPart count (up_of o)) (sym (way_found number old c)) few)
+    by (inr few) = inr (subst (λ (o : Option PipePair). IsNoPart count (up_of o)) (sym (pair_found number old c)) few)
 
 -- ---- bytes come down
 
-held_there : (number : ℕ) (w : WorldState) (c : Connected number w) → is_held (slot_numbered number w.connections) w.clients ≡ (is_holding c.client.piped && (suc c.slot.at == length c.client.piped.ways))
+held_there : (number : ℕ) (w : WorldState) (c : Connected number w) → is_held (slot_numbered number w.connections) w.clients ≡ (is_holding c.client.piped && (suc c.slot.at == length c.client.piped.pairs))
 held_there number w c = ap (λ (o : Option ConnectionSlot). is_held o w.clients) c.numbered ∙ ap (λ (o : Option WorldClient). is_held_by o c.slot.at) c.owned
 
 pub carries_down : (number : ℕ) (place : ConnectionSlot) (count : ℕ) (had : Bool) (old : WorldState) (client : WorldClient) (piped : Piped) → SlotsAreValid (targets_of_clients old.clients) old.connections
@@ -249,25 +249,25 @@ carries_down number place count had old client piped housed at positive owned ca
               numbered = found.numbered;
               client = k;
               owned = there;
-              way = found.way;
-              stands = ap (λ (z : WorldClient). slice_get z.piped.ways place.at) (sym same) ∙ found.stands;
+              pair = found.pair;
+              stands = ap (λ (z : WorldClient). slice_get z.piped.pairs place.at) (sym same) ∙ found.stands;
             }
 
     possible : CannotHappen (events.CarryDown number count) old → ⊥
     possible (inl other) = both_ways _ (sym (held_there number old c) ∙ other) carries.held
-    possible (inr few) = carries.some c.way c.stands (subst (λ (o : Option Way). IsNoPart count (down_of o)) (way_found number old c) few)
+    possible (inr few) = carries.some c.pair c.stands (subst (λ (o : Option PipePair). IsNoPart count (down_of o)) (pair_found number old c) few)
 
 pub carries_none_down : (number : ℕ) (place : ConnectionSlot) (count : ℕ) (old : WorldState) (client : WorldClient) → SlotsAreValid (targets_of_clients old.clients) old.connections → slice_get old.connections (number - 1) ≡ Some place
     → 0 < number → slice_get old.clients place.client ≡ Some client → CannotCarryDown place.at count client.piped → CannotHappen (events.CarryDown number count) old
 carries_none_down number place count old client housed at positive owned cannot =
-    by (subst (λ (k : WorldClient). CannotCarryDown place.at count k.piped) (same_Some client c.client (sym owned ∙ c.owned)) cannot c.way c.stands)
+    by (subst (λ (k : WorldClient). CannotCarryDown place.at count k.piped) (same_Some client c.client (sym owned ∙ c.owned)) cannot c.pair c.stands)
   where
     c : Connected number old
     c = connected old number place housed at positive
 
-    by : ((is_holding c.client.piped && (suc c.slot.at == length c.client.piped.ways)) ≡ false) ⊎ IsNoPart count c.way.down → CannotHappen (events.CarryDown number count) old
+    by : ((is_holding c.client.piped && (suc c.slot.at == length c.client.piped.pairs)) ≡ false) ⊎ IsNoPart count c.pair.down → CannotHappen (events.CarryDown number count) old
     by (inl other) = inl (held_there number old c ∙ other)
-    by (inr few) = inr (subst (λ (o : Option Way). IsNoPart count (down_of o)) (sym (way_found number old c)) few)
+    by (inr few) = inr (subst (λ (o : Option PipePair). IsNoPart count (down_of o)) (sym (pair_found number old c)) few)
 
 -- what is received exactly is received
 carries_down_less : (count : ℕ) (old new : Piped) → CarriesDownWhere true count old new → CarriesDownWhere false count old new

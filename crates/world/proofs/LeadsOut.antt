@@ -21,21 +21,21 @@ use Rattle.lists.specs.Lists.{IsPrefixOf}
 use Rattle.packet.specs.declared.packet.Packet.TheVariants as packets
 use Rattle.world_base.specs.node_core.Core.{rules}
 use Rattle.world_nodes.specs.Agreed.{AgreeOn}
-use Rattle.world_nodes.specs.Asking.{whole_log_of}
+use Rattle.world_nodes.specs.RecoveryChecks.{whole_log_of}
 use Rattle.world_nodes.specs.Nodes.{NodesState}
 use Rattle.world_pipes.specs.StandsFor.{CanGoOut}
 use Rattle.world_pipes.specs.declared.events.event.Event.{Event}
 use Rattle.world_pipes.specs.declared.events.event.Event.TheVariants as events
 use Rattle.world_pipes.specs.declared.clients.connection_slot.ConnectionSlot.{ConnectionSlot}
 use Rattle.world.specs.Opening.{next_connection_number}
-use Rattle.world.specs.Escaping.{CanEscape, HasEscaped, LeadsClientOut}
+use Rattle.world.specs.Recovery.{CanEscape, HasEscaped, LeadsClientOut}
 use Rattle.world.specs.Found.{port_at_node}
 use Rattle.world.specs.Trace.{AreReached, WorldLosesNothing}
 use Rattle.world_pipes.specs.clients.NodesGoOn.{NodesGo}
-use Rattle.world.specs.Happening.{EventsHappen}
+use Rattle.world.specs.Events.{EventsHappen}
 use Rattle.world_pipes.specs.clients.SlotsAreValid.{SlotsAreValid, targets_of_clients}
 use Rattle.world_pipes.specs.events.EscapeEvents.{answer_events, client_events, leaving}
-use Rattle.world.specs.Inside.Escaping.{escaping_events, sent_then}
+use Rattle.world.specs.Inside.RecoveryEvents.{escaping_events, sent_then}
 use Rattle.world.specs.StandsFor.{IsReached}
 use Rattle.world.specs.World.{WorldState}
 use Rattle.world.proofs.AgreedOnlyGrows.{agreed_grows}
@@ -110,10 +110,10 @@ module _ (name : Client) (w : WorldState) (housed : SlotsAreValid (targets_of_cl
       let t = named_there name possible.core w.clients possible.client in
       subst (λ (k : Core). CanGoOut k.state) t.is (client_at w.clients r.world.clients t.at t.client r.stands.clients t.found).stands.fits
 
-  module _ (l : LedTo config g moments (first ∷ os) possible.index list more w new) (p : IsNewPrimary l.way.last ballot log first os l.mid)
+  module _ (l : LedTo config g moments (first ∷ os) possible.index list more w new) (p : IsNewPrimary l.pair.last ballot log first os l.mid)
       (left : HasLeft name possible.core (opening (suc p.index)) l.mid new) where
     abbrev b : Moment State Command Output
-    b = l.way.last
+    b = l.pair.last
 
     same_number : next_connection_number left.after ≡ number
     same_number = ap (λ (c : List ConnectionSlot). suc (length c)) left.connections ∙ ap suc l.many
@@ -128,7 +128,7 @@ module _ (name : Client) (w : WorldState) (housed : SlotsAreValid (targets_of_cl
         (run : EventsHappen (asking (sent_then w (length os))) v new) (none : WorldLosesNothing v new) where
       sent_is : sent_then w (length os) ≡ length v.nodes.sent
       sent_is =
-          let all = l.way.sent in
+          let all = l.pair.sent in
           let now = ap (λ (xs : List (ℕ × Message Command)). length xs) h.awaits.seen.sent in
           let before = ap (λ (xs : List (ℕ × Message Command)). length xs) r.stands.nodes.sent in
           let members = ap (λ (x : MasterState). length x.members) r.stands.nodes.master in
@@ -140,7 +140,7 @@ module _ (name : Client) (w : WorldState) (housed : SlotsAreValid (targets_of_cl
       answered : AnsweredTo name h.i h.at number p.index h.core v.nodes last_event new
       answered =
           let c = connect_spelled possible.core.state.client fits.client left.before.state.keep_alive h.up (left.keep_alive ∙ fits.keep_alive) written in
-          answers_out name v h.i h.at number p.index h.core h.up (omega arith) h.newest h.housed h.first config b (l.way.goes.between ++ moment_of_nodes g ∷ moments) l.way.goes.came ballot os
+          answers_out name v h.i h.at number p.index h.core h.up (omega arith) h.newest h.housed h.first config b (l.pair.goes.between ++ moment_of_nodes g ∷ moments) l.pair.goes.came ballot os
           list h.awaits (long config g moments came w r.stands.nodes (first ∷ os) name possible) (keeps possible.core.state.client left.before.state.keep_alive) possible.session c.0 refl
           bytes c.1 (omega arith) p.apart p.out p.each last_event new (subst (λ (k : ℕ). EventsHappen (asking k) v new) sent_is run) none
 
@@ -159,7 +159,7 @@ module _ (name : Client) (w : WorldState) (housed : SlotsAreValid (targets_of_cl
       active a =
           ap (λ (n : NodesState). n.master.active) (served a).nodes
           ∙ ap (λ (x : MasterState). x.active) (a.is.master ∙ sym h.awaits.seen.master)
-          ∙ l.way.led.active
+          ∙ l.pair.led.active
           ∙ ap (λ (x : MasterState). x.given + 1) r.stands.nodes.master
 
       agreed : NodesGo w.nodes new.nodes → (before after : List Command) → AgreeOn w.nodes before → AgreeOn new.nodes after → IsPrefixOf before after

@@ -10,10 +10,10 @@ use Rattle.world_pipes.specs.declared.events.event.Event.{Event}
 use Rattle.world_pipes.specs.declared.events.event.Event.TheVariants as events
 use Rattle.world_pipes.specs.declared.clients.world_client.WorldClient.{WorldClient}
 use Rattle.world.specs.Cannot.{HoldsNone}
-use Rattle.world.specs.Doing.{DoesEvent}
+use Rattle.world.specs.EventSteps.{DoesEvent}
 use Rattle.world.specs.Found.{core_named, with_piped}
 use Rattle.world.specs.Trace.{WorldLosesNothing}
-use Rattle.world.specs.Happening.{EventsHappen}
+use Rattle.world.specs.Events.{EventsHappen}
 use Rattle.world_pipes.specs.clients.SlotsAreValid.{SlotsAreValid, connection_targets, targets_of_clients}
 use Rattle.world_pipes.specs.events.EscapeEvents.{leaving}
 use Rattle.world.specs.World.{WorldState}
@@ -61,7 +61,7 @@ module _ (name : List ℕ) (core : Core) (more : List Event) (old new : WorldSta
             nodes = ap (λ (w : WorldState). w.nodes) is;
             connections = ap (λ (w : WorldState). w.connections) is;
             housed = subst (λ (w : WorldState). SlotsAreValid (targets_of_clients w.clients) w.connections) (sym is)
-                (housed_client old.clients old.connections c.at c.client later c.stands (ap (λ (p : Piped). connection_targets p.ways) loses) housed);
+                (housed_client old.clients old.connections c.at c.client later c.stands (ap (λ (p : Piped). connection_targets p.pairs) loses) housed);
             rest = f.rest;
             whole = f.whole;
           }

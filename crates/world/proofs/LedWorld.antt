@@ -12,25 +12,25 @@ use Rattle.broker_spec.specs.declared.command.Command.{Command}
 use Rattle.broker_spec.specs.declared.command.Output.{Output}
 use Rattle.broker_spec.specs.Place.{Client}
 use Rattle.broker_base.specs.State.{State}
-use Rattle.world_nodes.specs.recoveries.Coming.{AreCalm, AreFollowed, IsSeen}
+use Rattle.world_nodes.specs.recoveries.Deliveries.{AreCalm, AreFollowed, IsSeen}
 use Rattle.recovery.specs.replicas.CutDeliveries.{Delivered, assigned_moment}
-use Rattle.recovery.specs.replicas.CutLaws.{LeadsOut}
-use Rattle.recovery.specs.replicas.Deliveries.{way_out}
-use Rattle.world_nodes.proofs.of_recoveries.LedOut.{assigned_seen, low_before, way_of}
+use Rattle.recovery.specs.replicas.CutTheorems.{LeadsOut}
+use Rattle.recovery.specs.replicas.Deliveries.{recovery_messages}
+use Rattle.world_nodes.proofs.of_recoveries.LedOut.{assigned_seen, low_before, recovery_of}
 use Rattle.world_nodes.proofs.of_recoveries.NodesFollow.{deliveries_are_followed}
 use Rattle.headline.specs.node_group.Group.{Group, moment_of_nodes}
 use Rattle.agreement.specs.cut_logs.Moments.{Moment, Moments}
 use Rattle.world_base.specs.node_core.Core.{rules}
-use Rattle.world_nodes.specs.Asking.{whole_log_of}
+use Rattle.world_nodes.specs.RecoveryChecks.{whole_log_of}
 use Rattle.world_nodes.specs.ExactSteps.{after_giving}
 use Rattle.world_nodes.specs.Nodes.{NodesState, NodesStandFor}
 use Rattle.world_nodes.proofs.MasterActs.{gives_exactly}
 use Rattle.world_pipes.specs.declared.events.event.Event.{Event}
 use Rattle.world_pipes.specs.declared.events.event.Event.TheVariants as events
-use Rattle.world.specs.Escaping.{CanEscape, configuration_of}
+use Rattle.world.specs.Recovery.{CanEscape, configuration_of}
 use Rattle.world.specs.Trace.{WorldLosesNothing}
 use Rattle.world_pipes.specs.clients.NodesGoOn.{NodesGo}
-use Rattle.world.specs.Happening.{EventsHappen}
+use Rattle.world.specs.Events.{EventsHappen}
 use Rattle.world_pipes.specs.clients.SlotsAreValid.{SlotsAreValid, targets_of_clients}
 use Rattle.world.specs.StandsFor.{FollowsModel}
 use Rattle.world.specs.World.{WorldState}
@@ -46,9 +46,9 @@ use Rattle.world.proofs.PassesOn.{seen_of}
 -- the world then, and the events after it
 pub record LedTo (config : Config) (g : Group) (moments : List (Moment State Command Output)) (members : List ℕ) (index : ℕ) (log : List Command) (more : List Event)
     (w new : WorldState) : Type 0 where
-  pub way : LeadsOut rules config (moment_of_nodes g ∷ moments) (moment_of_nodes g) (configuration_of members) index log
+  pub pair : LeadsOut rules config (moment_of_nodes g ∷ moments) (moment_of_nodes g) (configuration_of members) index log
   pub mid : WorldState
-  pub followed : AreFollowed (g.master.given + 1) way.last (after_giving (configuration_of members) w.nodes) mid.nodes
+  pub followed : AreFollowed (g.master.given + 1) pair.last (after_giving (configuration_of members) w.nodes) mid.nodes
   pub nodes : NodesGo w.nodes mid.nodes
   pub world : FollowsModel w mid
   pub housed : SlotsAreValid (targets_of_clients mid.clients) mid.connections
@@ -61,7 +61,7 @@ pub record LedTo (config : Config) (g : Group) (moments : List (Moment State Com
 abbrev pub group_events : WorldState → List ℕ → ℕ → List Event
 group_events w members index =
     events.Assign (configuration_of members)
-    ∷ map events.Deliver (way_out (length w.nodes.sent) (length w.nodes.master.members) index (length (configuration_of members).members - 1))
+    ∷ map events.Deliver (recovery_messages (length w.nodes.sent) (length w.nodes.master.members) index (length (configuration_of members).members - 1))
 
 module _ (config : Config) (g : Group) (moments : List (Moment State Command Output)) (came : Moments rules config (moment_of_nodes g ∷ moments)) (w : WorldState) (s : NodesStandFor g w.nodes)
     (housed : SlotsAreValid (targets_of_clients w.clients) w.connections) (members : List ℕ) (name : Client) (possible : CanEscape members name w) (more : List Event) (new : WorldState) where
@@ -69,17 +69,17 @@ module _ (config : Config) (g : Group) (moments : List (Moment State Command Out
   conf = configuration_of members
 
   abbrev numbers : List ℕ
-  numbers = way_out (length w.nodes.sent) (length w.nodes.master.members) possible.index (length conf.members - 1)
+  numbers = recovery_messages (length w.nodes.sent) (length w.nodes.master.members) possible.index (length conf.members - 1)
 
-  way : LeadsOut rules config (moment_of_nodes g ∷ moments) (moment_of_nodes g) conf possible.index (whole_log_of w.nodes possible.source)
-  way = way_of config (moment_of_nodes g) moments came conf possible.index possible.source (whole_log_of w.nodes possible.source) (can_be_led config g moments came w s members name possible)
+  pair : LeadsOut rules config (moment_of_nodes g ∷ moments) (moment_of_nodes g) conf possible.index (whole_log_of w.nodes possible.source)
+  pair = recovery_of config (moment_of_nodes g) moments came conf possible.index possible.source (whole_log_of w.nodes possible.source) (can_be_led config g moments came w s members name possible)
 
   seen : IsSeen (moment_of_nodes g) w.nodes
   seen = seen_as g w.nodes s
 
-  same : way_out (length g.sent) (length g.master.members) possible.index (length conf.members - 1) ≡ numbers
-  same = ap (λ (l : List (ℕ × Message Command)). way_out (length l) (length g.master.members) possible.index (length conf.members - 1)) s.sent
-      ∙ ap (λ (m : MasterState). way_out (length w.nodes.sent) (length m.members) possible.index (length conf.members - 1)) s.master
+  same : recovery_messages (length g.sent) (length g.master.members) possible.index (length conf.members - 1) ≡ numbers
+  same = ap (λ (l : List (ℕ × Message Command)). recovery_messages (length l) (length g.master.members) possible.index (length conf.members - 1)) s.sent
+      ∙ ap (λ (m : MasterState). recovery_messages (length w.nodes.sent) (length m.members) possible.index (length conf.members - 1)) s.master
 
   pub led_to : EventsHappen (group_events w members possible.index ++ more) w new → WorldLosesNothing w new → LedTo config g moments members possible.index (whole_log_of w.nodes possible.source) more w new
   led_to run none =
@@ -92,12 +92,12 @@ module _ (config : Config) (g : Group) (moments : List (Moment State Command Out
       let t = in_two (map events.Deliver numbers) more given new rest whole in
       let calm : AreCalm (g.master.given + 1) given.nodes = λ at node there. inr (low_before config (moment_of_nodes g) moments came w.nodes seen at node there) in
       let first_seen : IsSeen (assigned_moment conf (moment_of_nodes g)) given.nodes = assigned_seen (moment_of_nodes g) w.nodes conf seen in
-      let delivered = subst (λ (ks : List ℕ). Delivered rules (g.master.given + 1) (assigned_moment conf (moment_of_nodes g)) ks way.last) same way.delivered in
-      let p = walk (g.master.given + 1) (assigned_moment conf (moment_of_nodes g)) way.last numbers delivered given t.mid t.first t.whole_first first_seen calm housed in
+      let delivered = subst (λ (ks : List ℕ). Delivered rules (g.master.given + 1) (assigned_moment conf (moment_of_nodes g)) ks pair.last) same pair.delivered in
+      let p = walk (g.master.given + 1) (assigned_moment conf (moment_of_nodes g)) pair.last numbers delivered given t.mid t.first t.whole_first first_seen calm housed in
       record {
-        way = way;
+        pair = pair;
         mid = t.mid;
-        followed = deliveries_are_followed (g.master.given + 1) (assigned_moment conf (moment_of_nodes g)) way.last numbers delivered given.nodes t.mid.nodes p.come first_seen calm;
+        followed = deliveries_are_followed (g.master.given + 1) (assigned_moment conf (moment_of_nodes g)) pair.last numbers delivered given.nodes t.mid.nodes p.come first_seen calm;
         nodes = nodes_go_join w.nodes given.nodes t.mid.nodes on.nodes.goes p.nodes;
         world = world_goes_join w given t.mid on.goes p.world;
         housed = p.housed;

@@ -1,7 +1,7 @@
 mod StaysReached
 mod NothingLost
 mod ClientsStand
-mod WaysStand
+mod PairsStand
 mod Joined
 mod GroupGoes
 mod GoesDown
@@ -47,4 +47,4 @@ mod AsksOut
 mod ConnackComes
 mod NewPrimary
 mod LeadsOut
-mod WaysWritten
+mod PairsWritten

@@ -5,10 +5,10 @@ use Rattle.std.proofs.lemmas.Bool.{eq-eqb, lt-ltb, le-leb, ne_eqb}
 use Rattle.broker_spec.specs.Connection.{ConnectionName, is_connection_name}
 use Rattle.world_base.specs.node_core.Core.{CountedCore}
 use Rattle.world_base.specs.node_core.Step.{accepted}
-use Rattle.world_nodes.specs.Running.{numbered_node}
+use Rattle.world_nodes.specs.RunningNodes.{numbered_node}
 use Rattle.world_pipes.specs.declared.events.event.Event.TheVariants as events
 use Rattle.world.specs.Opening.{OpensUnless, has_no_name_left}
-use Rattle.world.specs.Happening.{EventHappens}
+use Rattle.world.specs.Events.{EventHappens}
 use Rattle.world.specs.World.{WorldState}
 
 both_but : (b : Bool) → (b && false) ≡ false

@@ -17,7 +17,7 @@ use Rattle.broker_base.specs.State.{State}
 use Rattle.world_nodes.specs.recoveries.Answered.{begun_log}
 use Rattle.world_nodes.specs.recoveries.Opened.{CanOpen}
 use Rattle.recovery.specs.replicas.Deliveries.{NumbersAreApart, NodeIs}
-use Rattle.recovery.specs.replicas.Following.{Follows, LeadsWhole}
+use Rattle.recovery.specs.replicas.LedStates.{Follows, LeadsWhole}
 use Rattle.world_nodes.proofs.of_recoveries.LedOut.{low_before}
 use Rattle.recovery.proofs.of_replicas.RisingMembers.{rising_apart}
 use Rattle.recovery.proofs.of_replicas.Rows.{others_first}
@@ -31,11 +31,11 @@ use Rattle.headline.proofs.of_byte_world.NodesHoused.{nodes_are_orderly}
 use Rattle.lists.specs.Lists.{In}
 use Rattle.lists.specs.Lists.In.{here}
 use Rattle.world_base.specs.node_core.Core.{CoreState, CountedCore, rules}
-use Rattle.world_nodes.specs.Asking.{whole_log_of}
+use Rattle.world_nodes.specs.RecoveryChecks.{whole_log_of}
 use Rattle.world_nodes.specs.Nodes.{cores_of}
-use Rattle.world_nodes.specs.Running.{is_running}
+use Rattle.world_nodes.specs.RunningNodes.{is_running}
 use Rattle.world_pipes.specs.declared.events.event.Event.{Event}
-use Rattle.world.specs.Escaping.{CanEscape}
+use Rattle.world.specs.Recovery.{CanEscape}
 use Rattle.world.specs.Found.{port_at_node}
 use Rattle.world.specs.StandsFor.{ModelStepsTo, WorldStandsFor}
 use Rattle.world.specs.World.{WorldState}
@@ -84,16 +84,16 @@ module _ (config : Config) {nodes : ℕ} {cs : List Client} (m : ByteWorld) (tra
   log = begun_log (whole_log_of w.nodes possible.source) ballot
 
   abbrev b : Moment State Command Output
-  b = l.way.last
+  b = l.pair.last
 
   others_are : others first (first ∷ os) ≡ os
   others_are = others_first first os (not_among first os lawful)
 
   primary : NodeIs (LeadsWhole ballot log os) (whole_moment b).world.nodes first
-  primary = subst (λ (xs : List ℕ). NodeIs (LeadsWhole ballot log xs) (whole_moment b).world.nodes first) others_are l.way.led.primary
+  primary = subst (λ (xs : List ℕ). NodeIs (LeadsWhole ballot log xs) (whole_moment b).world.nodes first) others_are l.pair.led.primary
 
   each : (k : ℕ) → In k os → NodeIs (Follows ballot log) (whole_moment b).world.nodes k
-  each k i = l.way.led.each k (subst (λ (xs : List ℕ). In k xs) (sym others_are) i)
+  each k i = l.pair.led.each k (subst (λ (xs : List ℕ). In k xs) (sym others_are) i)
 
   abbrev index : ℕ
   index = primary.index

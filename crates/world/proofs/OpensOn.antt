@@ -8,16 +8,16 @@ use Rattle.std.proofs.lemmas.Option.{none-some}
 use Rattle.world_base.specs.declared.node_core.item.Item.TheVariants.{Opened}
 use Rattle.world_base.specs.declared.node_core.Port.{Port}
 use Rattle.world_base.specs.node_core.Core.{CoreState, CountedCore}
-use Rattle.world_base.specs.node_core.Handing.{listed_at}
+use Rattle.world_base.specs.node_core.PortOutput.{listed_at}
 use Rattle.headline.specs.node_moves.Moves.NodeCall.{takes}
 use Rattle.headline.proofs.of_node_group.Placed.{get_mapped}
 use Rattle.headline.specs.byte_world.World.{ByteWorld}
 use Rattle.headline.specs.byte_world.Steps.ByteWorldStep.{is_taken_back}
 use Rattle.world_nodes.specs.ExactSteps.{NodeDoesCall}
-use Rattle.world_nodes.specs.Running.{numbered_node}
+use Rattle.world_nodes.specs.RunningNodes.{numbered_node}
 use Rattle.world_nodes.specs.Nodes.{NodesState}
 use Rattle.world_nodes.specs.Steps.{NodesLoseNothing}
-use Rattle.world_pipes.specs.Following.{FollowsAll}
+use Rattle.world_pipes.specs.ModelSteps.{FollowsAll}
 use Rattle.world_pipes.specs.Piped.{Piped, is_holding}
 use Rattle.world_pipes.specs.clients.NodesGoOn.{NodesGoOn}
 use Rattle.world_pipes.specs.clients.SlotsAreValid.{SlotsAreValid, targets_of_clients}
@@ -26,13 +26,13 @@ use Rattle.world_pipes.specs.declared.clients.world_client.WorldClient.{WorldCli
 use Rattle.world_pipes.specs.declared.clients.connection_slot.ConnectionSlot.{ConnectionSlot}
 use Rattle.world.specs.Found.{Named, core_named, port_at_node, with_piped}
 use Rattle.world_pipes.specs.clients.Clients.{is_named}
-use Rattle.world.specs.Doing.{DoesEvent as HappenDoes}
+use Rattle.world.specs.EventSteps.{DoesEvent as HappenDoes}
 use Rattle.world_pipes.specs.clients.Opening.{NoneOpens}
 use Rattle.world.specs.Opening.{OpensNone, OpensOne, OpensUnless, has_no_name_left, next_connection_number, with_connection}
-use Rattle.world.specs.Happening.{HappensLosing}
+use Rattle.world.specs.Events.{HappensLosing}
 use Rattle.world.specs.Cannot.{CannotOpen, is_serving}
-use Rattle.world.specs.Gathering.{Gathers, TakesItem}
-use Rattle.world.specs.Inside.Connecting.{ConnectsAt, MayOpenNone, OpeningOrLost, OpensAt, OpensNoneAt}
+use Rattle.world.specs.NodeOutput.{Gathers, TakesItem}
+use Rattle.world.specs.Inside.Connections.{ConnectsAt, MayOpenNone, OpeningOrLost, OpensAt, OpensNoneAt}
 use Rattle.world_pipes.specs.clients.Opening.{HasNew, HearsOfOne, IsKnown}
 use Rattle.world.specs.Inside.Steps.{IsTrace, EventIsDone}
 use Rattle.world.specs.StandsFor.{ModelStepsTo, FollowsModel}
@@ -60,7 +60,7 @@ connects_on i node old new housed losses nodes one = record { rises = omega (ari
 
 -- what a client that has it does to the world
 pub connects_at : (i node number at : ℕ) (old : WorldState) (client : WorldClient) (between : NodesState) (piped : Piped) (after : List ConnectionSlot) → slice_get old.clients i ≡ Some client
-    → number ≡ suc (length old.connections) → at ≡ length client.piped.ways → after ≡ old.connections ++ record { client = i; at = at; node = node; is_open = true } ∷ []
+    → number ≡ suc (length old.connections) → at ≡ length client.piped.pairs → after ≡ old.connections ++ record { client = i; at = at; node = node; is_open = true } ∷ []
     → HasNew node (port_at_node number) old.nodes client.piped between piped → ConnectsAt i node old (record (with_piped i client piped old) { nodes = between; connections = after })
 connects_at i node number at old client between piped after found counted last is reaches =
     record {

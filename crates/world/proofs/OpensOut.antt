@@ -13,8 +13,8 @@ use Rattle.client_base.specs.Calls.{opened}
 use Rattle.client.specs.Core.{AppendsAll, Core, nothing_read}
 use Rattle.client_base.specs.declared.stage.Stage.TheVariants as stages
 use Rattle.client_base.specs.State.{ClientState, is_open}
-use Rattle.world_nodes.specs.recoveries.Coming.{Come}
-use Rattle.world_nodes.specs.recoveries.Coming.Come.{all_came as none_comes}
+use Rattle.world_nodes.specs.recoveries.Deliveries.{Come}
+use Rattle.world_nodes.specs.recoveries.Deliveries.Come.{all_came as none_comes}
 use Rattle.world_nodes.specs.recoveries.Opened.{CanOpen, IsOpened, first_of}
 use Rattle.world_nodes.proofs.of_recoveries.OpensFirst.{connections_open_first}
 use Rattle.agreement.specs.cut_logs.Moments.{Moment}
@@ -25,11 +25,11 @@ use Rattle.world_base.specs.node_core.Core.{CountedCore}
 use Rattle.world_base.specs.declared.node_core.item.Item.{Item}
 use Rattle.world_base.specs.declared.node_core.item.Item.TheVariants.{Opened}
 use Rattle.world_nodes.specs.ExactSteps.{after_node_call}
-use Rattle.world_nodes.specs.Running.{numbered_node}
+use Rattle.world_nodes.specs.RunningNodes.{numbered_node}
 use Rattle.world_nodes.specs.Nodes.{NodesState}
 use Rattle.world_nodes.proofs.Acts.{acts}
-use Rattle.world_pipes.specs.declared.way.Way.{Way}
-use Rattle.world_pipes.specs.Piped.{Piped, new_way}
+use Rattle.world_pipes.specs.declared.pair.PipePair.{PipePair}
+use Rattle.world_pipes.specs.Piped.{Piped, new_pair}
 use Rattle.world_pipes.specs.declared.events.event.Event.{Event}
 use Rattle.world_pipes.specs.declared.events.event.Event.TheVariants as events
 use Rattle.world_pipes.specs.declared.clients.connection_slot.ConnectionSlot.{ConnectionSlot}
@@ -38,10 +38,10 @@ use Rattle.world.specs.Cannot.{CannotOpen, is_serving}
 use Rattle.world.specs.Opening.{OpensOne, OpensUnless, has_no_name_left, next_connection_number, with_connection}
 use Rattle.world.specs.Found.{Named, core_named, port_at_node}
 use Rattle.world_pipes.specs.clients.Clients.{is_named}
-use Rattle.world.specs.Gathering.{Gathers}
+use Rattle.world.specs.NodeOutput.{Gathers}
 use Rattle.world.specs.Trace.{WorldLosesNothing}
 use Rattle.world_pipes.specs.clients.NodesGoOn.{NodesGo}
-use Rattle.world.specs.Happening.{EventsHappen}
+use Rattle.world.specs.Events.{EventsHappen}
 use Rattle.world_pipes.specs.clients.SlotsAreValid.{SlotsAreValid, targets_of_clients}
 use Rattle.world.specs.World.{WorldState}
 use Rattle.world.proofs.ExactRuns.{first_done}
@@ -110,10 +110,10 @@ module _ (name : List ℕ) (before : Core) (a : Moment State Command Output) (ba
     later = record c.client { piped = piped }
 
     abbrev at : ℕ
-    at = length c.client.piped.ways
+    at = length c.client.piped.pairs
 
-    abbrev way : Way
-    way = record (new_way (suc place - 1) (port_at_node number)) { up = core.out }
+    abbrev pair : PipePair
+    pair = record (new_pair (suc place - 1) (port_at_node number)) { up = core.out }
 
     abbrev stands_at : ConnectionSlot
     stands_at = its_place c.at at (suc place) true
@@ -127,13 +127,13 @@ module _ (name : List ℕ) (before : Core) (a : Moment State Command Output) (ba
     mine : c.client.piped.core ≡ before
     mine = same_Some c.client.piped.core before (sym (core_found name old.clients c.at c.client c.first c.stands) ∙ there)
 
-    ways_are : piped.ways ≡ c.client.piped.ways ++ way ∷ []
-    ways_are = ap (λ (p : Piped). p.ways) does.2.2
+    pairs_are : piped.pairs ≡ c.client.piped.pairs ++ pair ∷ []
+    pairs_are = ap (λ (p : Piped). p.pairs) does.2.2
 
-    many : length piped.ways ≡ suc at
+    many : length piped.pairs ≡ suc at
     many =
-        let more = length-append c.client.piped.ways (way ∷ []) in
-        ap (λ (l : List Way). length l) ways_are ∙ (let e : length (c.client.piped.ways ++ way ∷ []) ≡ suc at = omega (arith, more) in e)
+        let more = length-append c.client.piped.pairs (pair ∷ []) in
+        ap (λ (l : List PipePair). length l) pairs_are ∙ (let e : length (c.client.piped.pairs ++ pair ∷ []) ≡ suc at = omega (arith, more) in e)
 
     last : length (old.connections ++ stands_at ∷ []) ≡ suc (length old.connections)
     last = let more = length-append old.connections (stands_at ∷ []) in omega (arith, more)
@@ -144,8 +144,8 @@ module _ (name : List ℕ) (before : Core) (a : Moment State Command Output) (ba
           client = later;
           found = get_set old.clients c.at c.client later c.stands;
           core_is = ap (λ (p : Piped). p.core) does.2.2;
-          way = way;
-          stands = ap (λ (l : List Way). slice_get l at) ways_are ∙ get_pushed c.client.piped.ways way;
+          pair = pair;
+          stands = ap (λ (l : List PipePair). slice_get l at) pairs_are ∙ get_pushed c.client.piped.pairs pair;
           many = many;
           up_is = refl;
           down_is = refl;

@@ -10,7 +10,7 @@ use Rattle.world_base.specs.declared.node_core.Port.{Port}
 use Rattle.headline.specs.byte_world.World.{ClientPipes, Pipe, new_client, opening}
 use Rattle.headline.specs.byte_world.Steps.Reached.{begins}
 use Rattle.world_nodes.specs.Nodes.{NodesStandFor}
-use Rattle.world_pipes.specs.declared.way.Way.{Way}
+use Rattle.world_pipes.specs.declared.pair.PipePair.{PipePair}
 use Rattle.world_pipes.specs.declared.clients.world_client.WorldClient.{WorldClient}
 use Rattle.world_pipes.specs.clients.SlotsAreValid.{SlotsAreValid, connection_targets, targets_of_clients}
 use Rattle.world_pipes.specs.clients.Clients.{ClientsStand}
@@ -19,7 +19,7 @@ use Rattle.world.specs.World.{WorldState}
 use Rattle.world.proofs.ClientsStand.{client_at}
 use Rattle.world.proofs.Joined.{is_reached, is_reached_asked}
 use Rattle.world_pipes.proofs.of_clients.Turned.{mapped_from}
-use Rattle.world.proofs.WaysStand.{pipe_at}
+use Rattle.world.proofs.PairsStand.{pipe_at}
 
 -- ---- its clients
 
@@ -28,19 +28,19 @@ pub housed_none : (clients : List WorldClient) (ids : List Client) → ClientsSt
 housed_none clients ids all =
     record {
       known = λ n place e. absurd (none-some place e);
-      used = λ i at node port ways there e. absurd (none_there i at node port ways there e);
+      used = λ i at node port pairs there e. absurd (none_there i at node port pairs there e);
     }
   where
     no_pipe : (c : ClientPipes) (j : ℕ) (p : Pipe) → c.pipes ≡ [] → slice_get c.pipes j ≡ Some p → ⊥
     no_pipe c j p bare e = none-some p (sym (ap (λ (l : List Pipe). slice_get l j) bare) ∙ e)
 
-    none_there : (i at node : ℕ) (port : Port) (ways : List (ℕ × Port)) → slice_get (targets_of_clients clients) i ≡ Some ways → slice_get ways at ≡ Some (node, port) → ⊥
-    none_there i at node port ways there e =
-        let client = mapped_from (λ (c : WorldClient). connection_targets c.piped.ways) clients i ways there in
+    none_there : (i at node : ℕ) (port : Port) (pairs : List (ℕ × Port)) → slice_get (targets_of_clients clients) i ≡ Some pairs → slice_get pairs at ≡ Some (node, port) → ⊥
+    none_there i at node port pairs there e =
+        let client = mapped_from (λ (c : WorldClient). connection_targets c.piped.pairs) clients i pairs there in
         let c = client_at clients (map new_client ids) i client.x all client.found in
         let id = mapped_from new_client ids i c.c c.at in
-        let way = mapped_from (λ (w : Way). (w.node, w.port)) client.x.piped.ways at (node, port) (ap (λ (l : List (ℕ × Port)). slice_get l at) client.is ∙ e) in
-        let x = pipe_at client.x.piped c.c at way.x c.stands way.found in
+        let pair = mapped_from (λ (w : PipePair). (w.node, w.port)) client.x.piped.pairs at (node, port) (ap (λ (l : List (ℕ × Port)). slice_get l at) client.is ∙ e) in
+        let x = pipe_at client.x.piped c.c at pair.x c.stands pair.found in
         no_pipe c.c x.turned.place x.p (ap (λ (z : ClientPipes). z.pipes) (sym id.is)) x.pipe
 
 -- ---- the world

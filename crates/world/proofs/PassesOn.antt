@@ -4,28 +4,28 @@ use Rattle.std.proofs.lemmas.Bool.{ne_eqb}
 use Rattle.std.proofs.lemmas.List.{append-nil, length-set, map-set}
 use Rattle.std.proofs.lemmas.Option.{same_Some}
 use Rattle.client.specs.Core.{Core}
-use Rattle.world_nodes.specs.recoveries.Coming.{Come}
-use Rattle.world_nodes.specs.recoveries.Coming.Come.{all_came as none_comes, hands, to_node as comes_to_node, to_master as comes_to_master}
+use Rattle.world_nodes.specs.recoveries.Deliveries.{Come}
+use Rattle.world_nodes.specs.recoveries.Deliveries.Come.{all_came as none_comes, hands, to_node as comes_to_node, to_master as comes_to_master}
 use Rattle.headline.specs.node_moves.Moves.NodeCall.{hands_out}
 use Rattle.headline.proofs.of_node_group.Placed.{get_mapped}
 use Rattle.world_base.specs.node_core.Core.{CountedCore}
-use Rattle.world_base.specs.node_connections.Pending.{pending_bytes}
-use Rattle.world_base.specs.node_core.Handing.{listed_at}
+use Rattle.world_base.specs.node_connections.PendingOutput.{pending_bytes}
+use Rattle.world_base.specs.node_core.PortOutput.{listed_at}
 use Rattle.world_base.specs.declared.node_core.Port.{Port}
-use Rattle.world_nodes.specs.Running.{numbered_node}
+use Rattle.world_nodes.specs.RunningNodes.{numbered_node}
 use Rattle.world_nodes.specs.Nodes.{NodesState}
 use Rattle.world_nodes.proofs.Exactly.{at_place, gives_acts}
-use Rattle.world_pipes.specs.declared.way.Way.{Way}
+use Rattle.world_pipes.specs.declared.pair.PipePair.{PipePair}
 use Rattle.world_pipes.specs.Piped.{Piped}
 use Rattle.world_pipes.specs.declared.clients.connection_slot.ConnectionSlot.{ConnectionSlot}
 use Rattle.world_pipes.specs.declared.clients.world_client.WorldClient.{WorldClient}
 use Rattle.world.specs.Found.{slot_numbered, port_at_node}
-use Rattle.world_pipes.specs.clients.Handing.{with_down}
-use Rattle.world.specs.Gathering.{GatheredWhere, Gathers, GathersAmong, IsGathered, leads_open_to}
-use Rattle.world_pipes.specs.clients.Handing.{HandsOverBytes, is_reported_open, bytes_put_out}
+use Rattle.world_pipes.specs.clients.NodeOutput.{with_down}
+use Rattle.world.specs.NodeOutput.{GatheredWhere, Gathers, GathersAmong, IsGathered, leads_open_to}
+use Rattle.world_pipes.specs.clients.NodeOutput.{HandsOverBytes, is_reported_open, bytes_put_out}
 use Rattle.world_pipes.specs.clients.NodesGoOn.{NodesGo}
 use Rattle.world_pipes.specs.clients.SlotsAreValid.{SlotsAreValid, targets_of_clients}
-use Rattle.world_pipes.specs.clients.Handing.{MayHandDown, MayPutDown}
+use Rattle.world_pipes.specs.clients.NodeOutput.{MayHandDown, MayPutDown}
 use Rattle.world.specs.StandsFor.{FollowsModel}
 use Rattle.world.specs.World.{WorldState}
 use Rattle.world.proofs.GoesDown.{put_down, puts_down}
@@ -116,10 +116,10 @@ module _ (number : ℕ) (old new : WorldState) (a : IsGathered number old new) (
   port = port_at_node number
 
   abbrev bytes : List ℕ
-  bytes = a.connected.way.down ++ bytes_put_out port a.node
+  bytes = a.connected.pair.down ++ bytes_put_out port a.node
 
   abbrev later : Piped
-  later = with_down place.at a.connected.way bytes a.connected.client.piped
+  later = with_down place.at a.connected.pair bytes a.connected.client.piped
 
   abbrev down : WorldState
   down = put_down place.client a.connected.client later a.between old
@@ -127,15 +127,15 @@ module _ (number : ℕ) (old new : WorldState) (a : IsGathered number old new) (
   found : slice_get old.connections (number - 1) ≡ Some place
   found = at_number number old.connections place positive a.connected.numbered
 
-  given : Hands a.node place.node port a.connected.way.down old.nodes a.between
-  given = handed a.node place.node port a.connected.way.down old.nodes a.between a.is_node a.gives
+  given : Hands a.node place.node port a.connected.pair.down old.nodes a.between
+  given = handed a.node place.node port a.connected.pair.down old.nodes a.between a.is_node a.gives
 
   may_put : MayPutDown place.at place.node port old.nodes a.connected.client.piped a.between later
-  may_put way there =
-      let same : a.connected.way ≡ way = same_Some a.connected.way way (sym a.connected.stands ∙ there) in (
+  may_put pair there =
+      let same : a.connected.pair ≡ pair = same_Some a.connected.pair pair (sym a.connected.stands ∙ there) in (
         bytes,
-        subst (λ (w : Way). MayHandDown place.node port old.nodes w.down a.between bytes) same given.may,
-        ap (λ (w : Way). with_down place.at w bytes a.connected.client.piped) same,
+        subst (λ (w : PipePair). MayHandDown place.node port old.nodes w.down a.between bytes) same given.may,
+        ap (λ (w : PipePair). with_down place.at w bytes a.connected.client.piped) same,
       )
 
   pub asked_passes : Passes [] old new
@@ -148,7 +148,7 @@ module _ (number : ℕ) (old new : WorldState) (a : IsGathered number old new) (
             (world_stays down (record down { connections = set old.connections (number - 1) (record place { is_open = is_reported_open port a.node }) }) refl refl);
         housed = housed_mark (targets_of_clients down.clients) old.connections (number - 1) place (is_reported_open port a.node) found
             (housed_client old.clients old.connections place.client a.connected.client (record a.connected.client { piped = later }) a.connected.owned
-            (leads_set a.connected.client.piped.ways place.at a.connected.way (record a.connected.way { down = bytes }) a.connected.stands refl) housed);
+            (leads_set a.connected.client.piped.pairs place.at a.connected.pair (record a.connected.pair { down = bytes }) a.connected.stands refl) housed);
         clients = map-set seen_of old.clients place.client (record a.connected.client { piped = later })
             ∙ set_itself (map seen_of old.clients) place.client (seen_of a.connected.client) (get_mapped seen_of old.clients place.client a.connected.client a.connected.owned);
         many = length-set old.connections (number - 1) (record place { is_open = is_reported_open port a.node });

@@ -7,30 +7,30 @@ use Rattle.ballot_base.specs.declared.message.Message.{Message}
 use Rattle.broker_spec.specs.declared.command.Command.{Command}
 use Rattle.client.specs.Core.{Core}
 use Rattle.world_nodes.specs.recoveries.Answered.{PutsOutAtLast, last_answer, session_present}
-use Rattle.world_nodes.specs.recoveries.Coming.{Come}
-use Rattle.world_nodes.specs.recoveries.Coming.Come.{all_came as none_comes, hands}
+use Rattle.world_nodes.specs.recoveries.Deliveries.{Come}
+use Rattle.world_nodes.specs.recoveries.Deliveries.Come.{all_came as none_comes, hands}
 use Rattle.recovery.specs.replicas.Deliveries.{asked_and_answered, numbers_from}
-use Rattle.recovery.specs.one_node.Answering.{PutsOutFirst}
+use Rattle.recovery.specs.one_node.FirstAnswer.{PutsOutFirst}
 use Rattle.headline.specs.node_moves.Moves.NodeCall.{takes}
 use Rattle.lists.specs.Lists.{IsPrefixOf}
 use Rattle.lists.proofs.Places.{get_set}
 use Rattle.packet.specs.Spelling.{spelling}
 use Rattle.world_base.specs.node_core.Core.{CountedCore}
 use Rattle.world_base.specs.declared.node_core.item.Item.TheVariants.{Peer}
-use Rattle.world_base.specs.node_connections.Pending.{pending_bytes}
+use Rattle.world_base.specs.node_connections.PendingOutput.{pending_bytes}
 use Rattle.world_base.specs.node_core.Step.{node_step}
 use Rattle.world_nodes.specs.ExactSteps.{ComesToNobody, after_node_call}
-use Rattle.world_nodes.specs.Running.{numbered_node, running}
+use Rattle.world_nodes.specs.RunningNodes.{numbered_node, running}
 use Rattle.world_nodes.specs.Nodes.{NodesState}
 use Rattle.world_pipes.specs.declared.events.event.Event.{Event}
 use Rattle.world_pipes.specs.declared.events.event.Event.TheVariants as events
 use Rattle.world_pipes.specs.clients.Clients.{is_named}
 use Rattle.world.specs.Found.{port_at_node}
-use Rattle.world.specs.Gathering.{Gathers}
-use Rattle.world_pipes.specs.clients.Handing.{is_reported_open, bytes_put_out}
+use Rattle.world.specs.NodeOutput.{Gathers}
+use Rattle.world_pipes.specs.clients.NodeOutput.{is_reported_open, bytes_put_out}
 use Rattle.world.specs.Trace.{WorldLosesNothing}
 use Rattle.world_pipes.specs.clients.NodesGoOn.{NodesGo}
-use Rattle.world.specs.Happening.{EventsHappen}
+use Rattle.world.specs.Events.{EventsHappen}
 use Rattle.world_pipes.specs.clients.SlotsAreValid.{SlotsAreValid, targets_of_clients}
 use Rattle.world.specs.World.{WorldState}
 use Rattle.world.proofs.DeliversOn.{AtNode, at_node}

@@ -14,15 +14,15 @@ use Rattle.world_base.specs.declared.node_core.item.Item.{Item}
 use Rattle.world_base.specs.declared.node_core.item.Item.TheVariants.{Peer}
 use Rattle.world_base.proofs.of_node_core.Calmly.{step_waits}
 use Rattle.world_nodes.specs.ExactSteps.{MessageArrives, HeardByMaster, TakesExactly}
-use Rattle.world_nodes.specs.Running.{numbered_node, running, unless_stopped}
+use Rattle.world_nodes.specs.RunningNodes.{numbered_node, running, unless_stopped}
 use Rattle.world_nodes.specs.Nodes.{NodesState}
 use Rattle.world_nodes.specs.Quiet.{ComesUnheeded, IsUnheeded, RestsAt}
 use Rattle.world_pipes.specs.declared.events.event.Event.{Event}
 use Rattle.world_pipes.specs.declared.clients.connection_slot.ConnectionSlot.{ConnectionSlot}
 use Rattle.world.specs.Cannot.{CannotHappen}
-use Rattle.world.specs.Doing.{receiver_of}
-use Rattle.world.specs.Happening.{EventHappens}
-use Rattle.world_pipes.specs.clients.Handing.{StaysQuiet, HasNothingToHandOver}
+use Rattle.world.specs.EventSteps.{receiver_of}
+use Rattle.world.specs.Events.{EventHappens}
+use Rattle.world_pipes.specs.clients.NodeOutput.{StaysQuiet, HasNothingToHandOver}
 use Rattle.world.specs.Quiet.{ComesQuietly, EndsQuietly, IsQuietAt, EventTakesNoMemory}
 use Rattle.world.specs.World.{WorldState}
 use Rattle.world_pipes.proofs.of_clients.HandsQuietly.{node_set}

@@ -9,14 +9,14 @@ use Rattle.client.specs.Core.{Core}
 use Rattle.headline.proofs.of_packet_world.Lists.{same_or_other}
 use Rattle.world_base.specs.node_core.Core.{CountedCore}
 use Rattle.world_base.specs.declared.node_core.Port.{Port}
-use Rattle.world_nodes.specs.Running.{numbered_node}
-use Rattle.world_pipes.specs.declared.way.Way.{Way}
+use Rattle.world_nodes.specs.RunningNodes.{numbered_node}
+use Rattle.world_pipes.specs.declared.pair.PipePair.{PipePair}
 use Rattle.world_pipes.specs.declared.clients.connection_slot.ConnectionSlot.{ConnectionSlot}
 use Rattle.world_pipes.specs.declared.clients.world_client.WorldClient.{WorldClient}
 use Rattle.world.specs.Found.{slot_numbered, port_at_node}
-use Rattle.world_pipes.specs.clients.Handing.{with_down}
-use Rattle.world.specs.Gathering.{GatheredWhere, Gathers, GathersAmong, IsGathered, leads_open_to}
-use Rattle.world_pipes.specs.clients.Handing.{is_reported_open, bytes_put_out}
+use Rattle.world_pipes.specs.clients.NodeOutput.{with_down}
+use Rattle.world.specs.NodeOutput.{GatheredWhere, Gathers, GathersAmong, IsGathered, leads_open_to}
+use Rattle.world_pipes.specs.clients.NodeOutput.{is_reported_open, bytes_put_out}
 use Rattle.world_pipes.specs.clients.SlotsAreValid.{SlotsAreValid, targets_of_clients}
 use Rattle.world.specs.World.{WorldState}
 use Rattle.world_pipes.proofs.of_clients.LeadsKept.{IsLed, led, led_there}
@@ -28,11 +28,11 @@ pub record IsNewest (i at number node : ℕ) (core : Core) (up down : List ℕ) 
   pub client : WorldClient
   pub found : slice_get w.clients i ≡ Some client
   pub core_is : client.piped.core ≡ core
-  pub way : Way
-  pub stands : slice_get client.piped.ways at ≡ Some way
-  pub many : length client.piped.ways ≡ suc at
-  pub up_is : way.up ≡ up
-  pub down_is : way.down ≡ down
+  pub pair : PipePair
+  pub stands : slice_get client.piped.pairs at ≡ Some pair
+  pub many : length client.piped.pairs ≡ suc at
+  pub up_is : pair.up ≡ up
+  pub down_is : pair.down ≡ down
   pub place : slice_get w.connections (number - 1) ≡ Some (record { client = i; at = at; node = node; is_open = is_open })
   pub last : length w.connections ≡ number
 
@@ -50,11 +50,11 @@ module _ (i at number node : ℕ) (core : Core) (up down : List ℕ) (is_open : 
             ∙ ap (λ (j : ℕ). slice_get (set old.clients j later) i) client_is
             ∙ get_set old.clients i a.connected.client later owned;
         core_is = ap (λ (c : WorldClient). c.piped.core) same_client ∙ s.core_is;
-        way = below;
-        stands = ap (λ (j : ℕ). slice_get (set a.connected.client.piped.ways j below) at) at_is ∙ get_set a.connected.client.piped.ways at a.connected.way below there;
-        many = length-set a.connected.client.piped.ways a.connected.slot.at below ∙ ap (λ (c : WorldClient). length c.piped.ways) same_client ∙ s.many;
-        up_is = ap (λ (w : Way). w.up) same_way ∙ s.up_is;
-        down_is = ap (λ (w : Way). w.down ++ bytes_put_out (port_at_node number) a.node) same_way
+        pair = below;
+        stands = ap (λ (j : ℕ). slice_get (set a.connected.client.piped.pairs j below) at) at_is ∙ get_set a.connected.client.piped.pairs at a.connected.pair below there;
+        many = length-set a.connected.client.piped.pairs a.connected.slot.at below ∙ ap (λ (c : WorldClient). length c.piped.pairs) same_client ∙ s.many;
+        up_is = ap (λ (w : PipePair). w.up) same_pair ∙ s.up_is;
+        down_is = ap (λ (w : PipePair). w.down ++ bytes_put_out (port_at_node number) a.node) same_pair
             ∙ ap (λ (l : List ℕ). l ++ bytes_put_out (port_at_node number) a.node) s.down_is
             ∙ ap (λ (o : Option CountedCore). down ++ bytes_put_out (port_at_node number) o) node_is;
         place = ap (λ (w : WorldState). slice_get w.connections (number - 1)) a.is
@@ -86,17 +86,17 @@ module _ (i at number node : ℕ) (core : Core) (up down : List ℕ) (is_open : 
       same_client : a.connected.client ≡ s.client
       same_client = same_Some a.connected.client s.client (sym owned ∙ s.found)
 
-      there : slice_get a.connected.client.piped.ways at ≡ Some a.connected.way
-      there = ap (slice_get a.connected.client.piped.ways) (sym at_is) ∙ a.connected.stands
+      there : slice_get a.connected.client.piped.pairs at ≡ Some a.connected.pair
+      there = ap (slice_get a.connected.client.piped.pairs) (sym at_is) ∙ a.connected.stands
 
-      same_way : a.connected.way ≡ s.way
-      same_way = same_Some a.connected.way s.way (sym there ∙ ap (λ (c : WorldClient). slice_get c.piped.ways at) same_client ∙ s.stands)
+      same_pair : a.connected.pair ≡ s.pair
+      same_pair = same_Some a.connected.pair s.pair (sym there ∙ ap (λ (c : WorldClient). slice_get c.piped.pairs at) same_client ∙ s.stands)
 
-      below : Way
-      below = record a.connected.way { down = a.connected.way.down ++ bytes_put_out (port_at_node number) a.node }
+      below : PipePair
+      below = record a.connected.pair { down = a.connected.pair.down ++ bytes_put_out (port_at_node number) a.node }
 
       later : WorldClient
-      later = record a.connected.client { piped = with_down a.connected.slot.at a.connected.way (a.connected.way.down ++ bytes_put_out (port_at_node number) a.node) a.connected.client.piped }
+      later = record a.connected.client { piped = with_down a.connected.slot.at a.connected.pair (a.connected.pair.down ++ bytes_put_out (port_at_node number) a.node) a.connected.client.piped }
 
   -- ---- another is asked
 
@@ -119,10 +119,10 @@ module _ (i at number node : ℕ) (core : Core) (up down : List ℕ) (is_open : 
           ∙ length-set old.connections (other - 1) (record a.connected.slot { is_open = is_reported_open (port_at_node other) a.node }) ∙ s.last
 
       bytes : List ℕ
-      bytes = a.connected.way.down ++ bytes_put_out (port_at_node other) a.node
+      bytes = a.connected.pair.down ++ bytes_put_out (port_at_node other) a.node
 
       later : WorldClient
-      later = record a.connected.client { piped = with_down a.connected.slot.at a.connected.way bytes a.connected.client.piped }
+      later = record a.connected.client { piped = with_down a.connected.slot.at a.connected.pair bytes a.connected.client.piped }
 
       by : (i ≡ a.connected.slot.client) ⊎ (i ≡ a.connected.slot.client → ⊥) → IsNewest i at number node core up down is_open new
       by (inr different) =
@@ -130,7 +130,7 @@ module _ (i at number node : ℕ) (core : Core) (up down : List ℕ) (is_open : 
             client = s.client;
             found = ap (λ (w : WorldState). slice_get w.clients i) a.is ∙ get_set_other old.clients a.connected.slot.client i later different ∙ s.found;
             core_is = s.core_is;
-            way = s.way;
+            pair = s.pair;
             stands = s.stands;
             many = s.many;
             up_is = s.up_is;
@@ -144,10 +144,10 @@ module _ (i at number node : ℕ) (core : Core) (up down : List ℕ) (is_open : 
             found = ap (λ (w : WorldState). slice_get w.clients i) a.is
                 ∙ ap (λ (j : ℕ). slice_get (set old.clients j later) i) (sym same) ∙ get_set old.clients i a.connected.client later owned;
             core_is = ap (λ (c : WorldClient). c.piped.core) same_client ∙ s.core_is;
-            way = s.way;
-            stands = get_set_other a.connected.client.piped.ways a.connected.slot.at at (record a.connected.way { down = bytes }) not_here
-                ∙ ap (λ (c : WorldClient). slice_get c.piped.ways at) same_client ∙ s.stands;
-            many = length-set a.connected.client.piped.ways a.connected.slot.at (record a.connected.way { down = bytes }) ∙ ap (λ (c : WorldClient). length c.piped.ways) same_client ∙ s.many;
+            pair = s.pair;
+            stands = get_set_other a.connected.client.piped.pairs a.connected.slot.at at (record a.connected.pair { down = bytes }) not_here
+                ∙ ap (λ (c : WorldClient). slice_get c.piped.pairs at) same_client ∙ s.stands;
+            many = length-set a.connected.client.piped.pairs a.connected.slot.at (record a.connected.pair { down = bytes }) ∙ ap (λ (c : WorldClient). length c.piped.pairs) same_client ∙ s.many;
             up_is = s.up_is;
             down_is = s.down_is;
             place = place;
@@ -161,18 +161,18 @@ module _ (i at number node : ℕ) (core : Core) (up down : List ℕ) (is_open : 
           same_client = same_Some a.connected.client s.client (sym owned ∙ s.found)
 
           -- else both would lead to one port
-          mine : IsLed s.client.piped.ways number (newest_place i at node is_open)
+          mine : IsLed s.client.piped.pairs number (newest_place i at node is_open)
           mine = led old.clients number (newest_place i at node is_open) s.client
               (led_there (targets_of_clients old.clients) old.connections number (newest_place i at node is_open) housed s.place positive) s.found
 
-          its : IsLed a.connected.client.piped.ways other a.connected.slot
+          its : IsLed a.connected.client.piped.pairs other a.connected.slot
           its = led old.clients other a.connected.slot a.connected.client (led_there (targets_of_clients old.clients) old.connections other a.connected.slot housed found some) a.connected.owned
 
           not_here : at ≡ a.connected.slot.at → ⊥
           not_here here =
-              let one : mine.way ≡ its.way = same_Some mine.way its.way
-              (sym mine.found ∙ ap (λ (c : WorldClient). slice_get c.piped.ways at) (sym same_client) ∙ ap (slice_get a.connected.client.piped.ways) here ∙ its.found) in
-              apart (ap (λ (p : Port). p.0) (sym its.port ∙ ap (λ (w : Way). w.port) (sym one) ∙ mine.port))
+              let one : mine.pair ≡ its.pair = same_Some mine.pair its.pair
+              (sym mine.found ∙ ap (λ (c : WorldClient). slice_get c.piped.pairs at) (sym same_client) ∙ ap (slice_get a.connected.client.piped.pairs) here ∙ its.found) in
+              apart (ap (λ (p : Port). p.0) (sym its.port ∙ ap (λ (w : PipePair). w.port) (sym one) ∙ mine.port))
 
 -- ---- the connections of a node
 

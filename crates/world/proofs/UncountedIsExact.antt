@@ -3,7 +3,7 @@ use Rattle.std.proofs.Common.{inl, inr, ap, arith}
 use Rattle.std.specs.Prelude.{Ok}
 use Rattle.world_pipes.specs.declared.events.event.Event.{Event}
 use Rattle.world.specs.Trace.{WorldLosesNothing}
-use Rattle.world.specs.Happening.{EventHappens, HappensExactly}
+use Rattle.world.specs.Events.{EventHappens, HappensExactly}
 use Rattle.world.specs.World.{WorldState}
 use Rattle.world.proofs.Joined.{counted_loss}
 

@@ -12,9 +12,9 @@ use Rattle.broker_base.specs.State.{State}
 use Rattle.client.specs.Core.{Core}
 use Rattle.recovery.specs.replicas.CutDeliveries.{Delivered, after_activate, after_outcome}
 use Rattle.recovery.specs.replicas.CutDeliveries.Delivered.{all_came, to_node, to_master}
-use Rattle.recovery.specs.one_node.Waiting.{AwaitsAnswer}
-use Rattle.world_nodes.specs.recoveries.Coming.{AreCalm, IsSeen}
-use Rattle.world_nodes.specs.recoveries.Coming.Come.{all_came as none_comes, to_node as comes_to_node}
+use Rattle.recovery.specs.one_node.AwaitedAnswer.{AwaitsAnswer}
+use Rattle.world_nodes.specs.recoveries.Deliveries.{AreCalm, IsSeen}
+use Rattle.world_nodes.specs.recoveries.Deliveries.Come.{all_came as none_comes, to_node as comes_to_node}
 use Rattle.world_nodes.proofs.of_recoveries.ClientAnswered.{StillWaits, waits_on}
 use Rattle.world_nodes.proofs.of_recoveries.NodesFollow.{deliveries_are_followed}
 use Rattle.agreement.specs.cut_logs.Moments.{Moment}
@@ -27,16 +27,16 @@ use Rattle.world_base.specs.declared.node_core.Port.{Port}
 use Rattle.world_base.specs.declared.node_core.item.Item.TheVariants.{Peer}
 use Rattle.world_base.specs.node_connections.Connections.{is_open_named, is_closed}
 use Rattle.world_base.specs.node_core.Core.{CountedCore, rules}
-use Rattle.world_base.specs.node_connections.Pending.{handed_after, pending_bytes}
+use Rattle.world_base.specs.node_connections.PendingOutput.{handed_after, pending_bytes}
 use Rattle.world_nodes.specs.ExactSteps.{after_answer, after_node_call}
-use Rattle.world_nodes.specs.Running.{numbered_node}
+use Rattle.world_nodes.specs.RunningNodes.{numbered_node}
 use Rattle.world_nodes.specs.Nodes.{NodesState}
 use Rattle.world_pipes.specs.declared.events.event.Event.TheVariants as events
 use Rattle.world.specs.Found.{port_at_node}
-use Rattle.world.specs.Gathering.{Gathers}
-use Rattle.world_pipes.specs.clients.Handing.{is_more, is_reported_open, bytes_put_out}
+use Rattle.world.specs.NodeOutput.{Gathers}
+use Rattle.world_pipes.specs.clients.NodeOutput.{is_more, is_reported_open, bytes_put_out}
 use Rattle.world.specs.Trace.{WorldLosesNothing}
-use Rattle.world.specs.Happening.{EventsHappen}
+use Rattle.world.specs.Events.{EventsHappen}
 use Rattle.world_pipes.specs.clients.SlotsAreValid.{SlotsAreValid, targets_of_clients}
 use Rattle.world.specs.World.{WorldState}
 use Rattle.world.proofs.DeliversOn.{at_master, at_master_is, at_node, can_ask, can_reach, sent_to}
@@ -73,7 +73,7 @@ newest_with i at number node core up down is_open old nodes s =
       client = s.client;
       found = s.found;
       core_is = s.core_is;
-      way = s.way;
+      pair = s.pair;
       stands = s.stands;
       many = s.many;
       up_is = s.up_is;

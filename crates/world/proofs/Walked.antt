@@ -7,9 +7,9 @@ use Rattle.std.proofs.lemmas.Option.{same_Some, slice_get_within}
 use Rattle.headline.proofs.of_packet_world.Lists.{same_or_other}
 use Rattle.world_pipes.specs.declared.clients.connection_slot.ConnectionSlot.{ConnectionSlot}
 use Rattle.world.specs.Found.{slot_numbered}
-use Rattle.world.specs.Gathering.{GatheredWhere, GathersAmong, leads_open_to}
+use Rattle.world.specs.NodeOutput.{GatheredWhere, GathersAmong, leads_open_to}
 use Rattle.world_pipes.specs.clients.SlotsAreValid.{open_from}
-use Rattle.world.specs.Inside.Handing.{GatheringOrLost, GathersAt, marked}
+use Rattle.world.specs.Inside.PortOutput.{GatheringOrLost, GathersAt, marked}
 use Rattle.world.specs.Inside.Steps.{IsTrace}
 use Rattle.world.specs.World.{WorldState}
 use Rattle.world.proofs.Gathered.{IsGathering, gathered, gathering_on, may_be_gathered}

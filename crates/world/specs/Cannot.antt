@@ -7,17 +7,17 @@ use Rattle.client_base.specs.State.{is_open}
 use Rattle.client_base.specs.Steps.{Call, keeper_step}
 use Rattle.world_base.specs.node_core.Core.{CountedCore, serves}
 use Rattle.world_nodes.specs.ExactSteps.{ComesToNobody}
-use Rattle.world_nodes.specs.Running.{cutting, numbered_node, proposing, running}
-use Rattle.world_pipes.specs.declared.way.Way.{Way}
+use Rattle.world_nodes.specs.RunningNodes.{cutting, numbered_node, proposing, running}
+use Rattle.world_pipes.specs.declared.pair.PipePair.{PipePair}
 use Rattle.world_pipes.specs.Piped.{is_holding}
 use Rattle.world_pipes.specs.declared.events.event.Event.{Event}
 use Rattle.world_pipes.specs.declared.events.event.Event.TheVariants as events
 use Rattle.world_pipes.specs.declared.clients.connection_slot.ConnectionSlot.{ConnectionSlot}
 use Rattle.world_pipes.specs.declared.clients.world_client.WorldClient.{WorldClient}
-use Rattle.world.specs.Found.{core_named, slot_numbered, way_of}
+use Rattle.world.specs.Found.{core_named, slot_numbered, pair_of}
 use Rattle.world_pipes.specs.clients.Clients.{is_named}
 use Rattle.world.specs.World.{WorldState}
-use Rattle.world_pipes.specs.clients.Carrying.{IsNoPart}
+use Rattle.world_pipes.specs.clients.Transport.{IsNoPart}
 
 -- there is no such client, or it holds no connection
 abbrev pub HoldsNone : Option Core → Type 0
@@ -47,7 +47,7 @@ IsClosed (Some slot) nodes = (slot.is_open ≡ false) ⊎ (running nodes slot.no
 -- whether a client holds this connection: its newest one
 abbrev pub is_held_by : Option WorldClient → ℕ → Bool
 is_held_by None at = false
-is_held_by (Some client) at = is_holding client.piped && (suc at == length client.piped.ways)
+is_held_by (Some client) at = is_holding client.piped && (suc at == length client.piped.pairs)
 
 -- whether the client of this slot holds the connection
 abbrev pub is_held : Option ConnectionSlot → List WorldClient → Bool
@@ -55,14 +55,14 @@ is_held None clients = false
 is_held (Some slot) clients = is_held_by (slice_get clients slot.client) slot.at
 
 -- the bytes in transit to the node: none if there is no connection
-abbrev pub up_of : Option Way → List ℕ
+abbrev pub up_of : Option PipePair → List ℕ
 up_of None = []
-up_of (Some way) = way.up
+up_of (Some pair) = pair.up
 
 -- the bytes in transit to the client: none if there is no connection
-abbrev pub down_of : Option Way → List ℕ
+abbrev pub down_of : Option PipePair → List ℕ
 down_of None = []
-down_of (Some way) = way.down
+down_of (Some pair) = pair.down
 
 -- why an event cannot happen in a world, kind by kind
 abbrev pub CannotHappen : Event → WorldState → Type 0
@@ -79,10 +79,10 @@ CannotHappen (events.Open name node) world =
     ⊎ (is_serving (numbered_node world.nodes.nodes node) ≡ false)
 CannotHappen (events.CarryUp number count) world =
     IsClosed (slot_numbered number world.connections) world.nodes.nodes
-    ⊎ IsNoPart count (up_of (way_of number world))
+    ⊎ IsNoPart count (up_of (pair_of number world))
 CannotHappen (events.CarryDown number count) world =
     (is_held (slot_numbered number world.connections) world.clients ≡ false)
-    ⊎ IsNoPart count (down_of (way_of number world))
+    ⊎ IsNoPart count (down_of (pair_of number world))
 CannotHappen (events.Abandon name) world = HoldsNone (core_named name world.clients)
 CannotHappen (events.Disconnect name) world = HoldsNone (core_named name world.clients)
 CannotHappen (events.Notice number) world =

@@ -3,7 +3,7 @@ use Rattle.std.specs.Prelude.{◌≡◌, ℕ, ◌-◌, ◌==◌, if◌then◌els
 use Rattle.std.specs.List.{position}
 use Rattle.client.specs.Core.{Core}
 use Rattle.world_base.specs.declared.node_core.Port.{Port}
-use Rattle.world_pipes.specs.declared.way.Way.{Way}
+use Rattle.world_pipes.specs.declared.pair.PipePair.{PipePair}
 use Rattle.world_pipes.specs.Piped.{Piped}
 use Rattle.world_pipes.specs.declared.clients.connection_slot.ConnectionSlot.{ConnectionSlot}
 use Rattle.world_pipes.specs.declared.clients.world_client.WorldClient.{WorldClient}
@@ -45,18 +45,18 @@ abbrev pub slot_numbered : ℕ → List ConnectionSlot → Option ConnectionSlot
 slot_numbered number connections = if number == 0 then None else slice_get connections (number - 1)
 
 -- a client's connection at an index, with the bytes in transit
-abbrev pub way_in : Option WorldClient → ℕ → Option Way
-way_in None at = None
-way_in (Some client) at = slice_get client.piped.ways at
+abbrev pub pair_in : Option WorldClient → ℕ → Option PipePair
+pair_in None at = None
+pair_in (Some client) at = slice_get client.piped.pairs at
 
 -- the connection of a slot, with the bytes in transit
-abbrev pub way_at : Option ConnectionSlot → List WorldClient → Option Way
-way_at None clients = None
-way_at (Some slot) clients = way_in (slice_get clients slot.client) slot.at
+abbrev pub pair_at : Option ConnectionSlot → List WorldClient → Option PipePair
+pair_at None clients = None
+pair_at (Some slot) clients = pair_in (slice_get clients slot.client) slot.at
 
 -- the connection of this number, if it was opened
-abbrev pub way_of : ℕ → WorldState → Option Way
-way_of number world = way_at (slot_numbered number world.connections) world.clients
+abbrev pub pair_of : ℕ → WorldState → Option PipePair
+pair_of number world = pair_at (slot_numbered number world.connections) world.clients
 
 -- the port by which its node knows it
 abbrev pub port_at_node : ℕ → Port
@@ -68,5 +68,5 @@ pub record Connected (number : ℕ) (world : WorldState) : Type 0 where
   pub numbered : slot_numbered number world.connections ≡ Some slot
   pub client : WorldClient
   pub owned : slice_get world.clients slot.client ≡ Some client
-  pub way : Way
-  pub stands : slice_get client.piped.ways slot.at ≡ Some way
+  pub pair : PipePair
+  pub stands : slice_get client.piped.pairs slot.at ≡ Some pair

@@ -1,6 +1,6 @@
 pub mod Steps
-pub mod Handing
-pub mod Carrying
-pub mod Calling
-pub mod Connecting
-pub mod Escaping
+pub mod PortOutput
+pub mod Transport
+pub mod ClientCalls
+pub mod Connections
+pub mod RecoveryEvents

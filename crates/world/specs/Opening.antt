@@ -5,11 +5,11 @@ use Rattle.client_base.specs.Steps.{Call, keeper_step}
 use Rattle.world_base.specs.node_core.Core.{CountedCore}
 use Rattle.world_base.specs.node_core.Step.{next_name}
 use Rattle.world_base.specs.declared.node_core.item.Item.TheVariants as items
-use Rattle.world_nodes.specs.Running.{numbered_node}
+use Rattle.world_nodes.specs.RunningNodes.{numbered_node}
 use Rattle.world_nodes.specs.Nodes.{NodesState}
 use Rattle.world_pipes.specs.Piped.{SendsConnect, Piped}
 use Rattle.world.specs.Found.{Named, port_at_node, with_piped}
-use Rattle.world.specs.Gathering.{TakesItem}
+use Rattle.world.specs.NodeOutput.{TakesItem}
 use Rattle.world.specs.World.{WorldState}
 use Rattle.world_pipes.specs.clients.Opening.{NoneOpens}
 
@@ -31,7 +31,7 @@ with_connection {world = world} named piped node =
       connections = world.connections
           ++ record {
             client = named.at;
-            at = length named.client.piped.ways;
+            at = length named.client.piped.pairs;
             node = node;
             is_open = true;
           } ∷ [];

@@ -4,7 +4,7 @@ use Rattle.ballot_base.specs.declared.message.Message.{Message}
 use Rattle.broker_spec.specs.declared.command.Command.{Command}
 use Rattle.world_base.specs.declared.node_core.item.Item.{Item}
 use Rattle.world_base.specs.declared.node_core.item.Item.TheVariants as items
-use Rattle.world_nodes.specs.Running.{numbered_node}
+use Rattle.world_nodes.specs.RunningNodes.{numbered_node}
 use Rattle.world_nodes.specs.Nodes.{NodesState}
 use Rattle.world_nodes.specs.Quiet.{IsUnheeded, RestsAt}
 use Rattle.world_pipes.specs.declared.events.event.Event.{Event}
@@ -13,7 +13,7 @@ use Rattle.world_pipes.specs.declared.clients.connection_slot.ConnectionSlot.{Co
 use Rattle.world.specs.Opening.{has_no_name_left}
 use Rattle.world.specs.Found.{slot_numbered, port_at_node}
 use Rattle.world.specs.World.{WorldState}
-use Rattle.world_pipes.specs.clients.Handing.{HasNothingToHandOver}
+use Rattle.world_pipes.specs.clients.NodeOutput.{HasNothingToHandOver}
 
 -- an item takes no memory at a node, which has nothing to hand over
 abbrev pub IsQuietAt : ℕ → Item → NodesState → Type 0

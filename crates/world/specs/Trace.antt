@@ -3,7 +3,7 @@ use Rattle.std.specs.Prelude.{◌≡◌, ◌⊎◌, ◌<◌, ◌≤◌, ℕ, Lis
 use Rattle.lists.specs.Lists.{IsPrefixOf}
 use Rattle.ballot_base.specs.Losses.{greatest_count, one_more}
 use Rattle.ballot_base.specs.declared.config.Config.{Config}
-use Rattle.agreement.specs.cut_logs.Agreeing.{Agrees, Holds, LeftInOrder}
+use Rattle.agreement.specs.cut_logs.AgreedLists.{Agrees, Holds, LeftInOrder}
 use Rattle.agreement.specs.cut_logs.Moments.{IsAgreed}
 use Rattle.broker_spec.specs.declared.command.Command.{Command}
 use Rattle.world_base.specs.node_core.Core.{rules}

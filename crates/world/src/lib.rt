@@ -1,13 +1,13 @@
 //! A world: nodes with their master, clients, and a pipe of bytes each way on every connection.
 #![tactic(auto)]
 
-mod calling;
-mod carrying;
-mod gathering;
-mod laws;
-mod leading_out;
+mod client_calls;
 mod node_events;
-mod reading;
+mod node_output;
+mod readers;
+mod recovery_search;
+mod theorems;
+mod transport;
 mod world;
 
 pub use ballot_base::errors::OpeningError;
@@ -15,9 +15,9 @@ pub use ballot_base::{Config, Effect, Members, Message, Status};
 pub use broker_spec::{Command, ConnectionName};
 pub use client::ClientCore;
 pub use client_base::Accepted;
-pub use laws::{an_open_past_the_last_changes_nothing, uncounted_is_exact};
 pub use machine::Memory;
 pub use master::Idle;
+pub use theorems::{an_open_past_the_last_changes_nothing, uncounted_is_exact};
 pub use world::World;
 pub use world_base::node_connections::Port;
 pub use world_base::node_core::{Item, NodeCore};

@@ -1,7 +1,7 @@
 // What nodes and their master do in a world.
 
 ghost use Rattle.std.specs.Prelude.{◌≡◌, ◌<◌, ◌-◌, true, Some, slice_get};
-ghost use Rattle.world.specs.Doing.{receiver_of};
+ghost use Rattle.world.specs.EventSteps.{receiver_of};
 ghost use Rattle.world.specs.Found.{port_at_node};
 ghost use Rattle.world.specs.Inside.Steps.{EventResultOrLost, IsTrace};
 ghost use Rattle.world.specs.Quiet.{IsQuietAt, EventTakesNoMemory};

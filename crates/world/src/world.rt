@@ -6,8 +6,8 @@ ghost use Rattle.agreement.specs.World.{can_open};
 ghost use Rattle.ballot_base.specs.Losses.{greatest_count, one_more};
 ghost use Rattle.headline.specs.packet_world.World.{ClientsAreApart};
 ghost use Rattle.world.specs.Trace.{AgreedListGrows, AreReached, CountsOnce, StaysReached, KeepsGroup};
-ghost use Rattle.world.specs.Asking.{EventAsks, RunAsks};
-ghost use Rattle.world.specs.Happening.{EventHappens, EventsHappen, WorldOpens};
+ghost use Rattle.world.specs.Requests.{EventAsks, RunAsks};
+ghost use Rattle.world.specs.Events.{EventHappens, EventsHappen, WorldOpens};
 ghost use Rattle.world.specs.Cannot.{CannotHappen};
 ghost use Rattle.world.specs.Inside.Steps.{PublishesAsked, IsCounted, EventResultOrLost};
 ghost use Rattle.world.specs.Quiet.{EventTakesNoMemory};
@@ -214,7 +214,7 @@ impl World {
         }
     }
 
-    /// Says whether the nodes have counted no step in which something was lost since they had
+    /// Returns true if the nodes have counted no step in which something was lost since they had
     /// counted `before`.
     pub(crate) fn is_whole(&self, before: u64) -> bool
         ensures yes { result ≡ true →

@@ -1,7 +1,7 @@
 pub mod Connections
 pub mod ConnectionChanges
 pub mod Fronts
-pub mod Pending
-pub mod Refusing
+pub mod PendingOutput
+pub mod Refusals
 pub mod Silent
 pub mod Stands

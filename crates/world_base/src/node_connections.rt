@@ -2,18 +2,18 @@
 //! that wait to be handed over. This says what happens to it when it is read, written to or closed.
 
 mod connection;
+mod connection_list;
 mod front;
 mod handed;
-mod listing;
 mod piece;
 mod port;
 mod standing;
 mod unread;
 
 pub use connection::{Connection, ConnectionStage};
+pub use connection_list::{close_each, has_port, keep_listed, lowest_silent, push, push_idle};
 pub use front::Front;
 pub use handed::Handed;
-pub use listing::{close_each, has_port, keep_listed, lowest_silent, push, push_idle};
 pub use piece::Piece;
 pub use port::Port;
 pub use standing::Standing;

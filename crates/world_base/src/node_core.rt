@@ -1,15 +1,15 @@
 //! One replica of the broker with its connections: the state of a node between two items. Its input
 //! are bytes of clients, messages of other nodes and times, its output bytes and messages.
 
-mod driving;
-mod handing;
-mod ignoring;
+mod ignored_items;
 mod item;
-mod laws;
+mod item_steps;
 mod node_core;
+mod port_output;
+mod replica_calls;
 mod stepping_node;
-mod taking;
+mod theorems;
 
 pub use item::Item;
-pub use laws::{a_gap_is_closed, proposals_are_steps};
 pub use node_core::NodeCore;
+pub use theorems::{a_gap_is_closed, proposals_are_steps};

@@ -17,7 +17,7 @@ use Rattle.world_base.specs.node_core.Step.{node_step}
 use Rattle.headline.specs.node_moves.Moves.{NodeCall, done}
 use Rattle.headline.specs.node_moves.Moves.NodeCall.{takes}
 use Rattle.headline.specs.node_group.Group.{Group, group_after_outcome, with_record}
-use Rattle.headline.specs.node_group.Putting.{recorded_in}
+use Rattle.headline.specs.node_group.Proposals.{recorded_in}
 use Rattle.headline.specs.node_group.Steps.{all_given}
 use Rattle.headline.specs.node_group.Steps.GroupStep.{node_acts}
 use Rattle.headline.specs.byte_world.NodeCalls.{NodeCallWasSent, recorded_after}

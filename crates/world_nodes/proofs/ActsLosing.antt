@@ -14,7 +14,7 @@ use Rattle.headline.proofs.of_node_moves.LossesAreMoves.{losses_are_moves}
 use Rattle.headline.specs.node_group.Group.{Group, group_after_outcome, with_record}
 use Rattle.headline.specs.node_group.Steps.{with_messages}
 use Rattle.headline.specs.node_group.Steps.GroupStep.{node_loses}
-use Rattle.headline.specs.node_group.Losing.{WereSent, all_given, recorded_in}
+use Rattle.headline.specs.node_group.Losses.{WereSent, all_given, recorded_in}
 use Rattle.headline.specs.byte_world.NodeCalls.{NodeCallWasSent}
 use Rattle.headline.proofs.of_node_group.Placed.{get_mapped, set_mapped}
 use Rattle.headline.proofs.of_node_group.Recorded.{records_none, records_to}

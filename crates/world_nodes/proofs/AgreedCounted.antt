@@ -12,7 +12,7 @@ use Rattle.broker_base.specs.State.{State}
 use Rattle.world_base.specs.node_core.Core.{CoreState, CountedCore, rules}
 use Rattle.headline.specs.node_group.Group.{Group, moment_of_nodes, replica_of}
 use Rattle.headline.proofs.of_node_group.Placed.{get_mapped}
-use Rattle.master.specs.Inside.{HasCounted, HoldsAt, IsShort, ToldIn, held_by, least_but_one}
+use Rattle.master.specs.Inside.{HasCounted, HoldsAt, IsShort, AcknowledgedIn, held_by, least_but_one}
 use Rattle.master.proofs.Counting.{get_past, get_there}
 use Rattle.master.proofs.Groups.{in_item}
 use Rattle.master.proofs.Lawful.{rising_above}
@@ -23,13 +23,13 @@ use Rattle.world_nodes.specs.Inside.{HaveCounted, held_at, replicas_of}
 use Rattle.world_nodes.proofs.Acts.{core_in}
 
 -- what the members acknowledged is counted
-pub members_low : (n : NodesState) (told next : ToldIn) → HaveCounted n told next → (m : ℕ) → In m n.master.members → m < 16
+pub members_low : (n : NodesState) (told next : AcknowledgedIn) → HaveCounted n told next → (m : ℕ) → In m n.master.members → m < 16
 members_low n told next c m i =
     let lawful = group_lawful rules c.counts.config (moment_of_nodes c.group) c.counts.moments c.counts.came in
     (rising_above 0 c.group.master.members m lawful.active (subst (λ (k : MasterState). In m k.members) (sym c.stands.master) i)).1
 
 -- of several members, the second least of the numbers that they acknowledged
-pub several_agree : (n : NodesState) (told next : ToldIn) → HaveCounted n told next → ((m : ℕ) → get_or told.held m 0 < 2 ^ 64) → (length n.master.members ≡ 1 → ⊥)
+pub several_agree : (n : NodesState) (told next : AcknowledgedIn) → HaveCounted n told next → ((m : ℕ) → get_or told.held m 0 < 2 ^ 64) → (length n.master.members ≡ 1 → ⊥)
     → AgreeOnSoMany n (least_but_one told.held (2 ^ 64 - 1) (2 ^ 64 - 1) n.master.members)
 several_agree n told next c range several config g earlier stands came list agreed =
     let same : n.master ≡ g.master = sym stands.master in
@@ -90,7 +90,7 @@ front_agrees n count at base read rest many h same high seen kept config g earli
     (holds_in n g count at stands h) same high (seen ∙ sym stands.archive) kept
 
 -- the record has all places below the base of a node's log
-pub within_at : (n : NodesState) (told next : ToldIn) → HaveCounted n told next → (at : ℕ) (r : ReplicaState State Command)
+pub within_at : (n : NodesState) (told next : AcknowledgedIn) → HaveCounted n told next → (at : ℕ) (r : ReplicaState State Command)
     → slice_get (replicas_of n.nodes) at ≡ Some r → r.log.base ≤ length n.archive
 within_at n told next c at r stands =
     subst (λ (l : List Command). r.log.base ≤ length l) c.stands.archive

@@ -9,7 +9,7 @@ use Rattle.headline.specs.node_moves.Moves.{NodeCall}
 use Rattle.headline.specs.node_group.Group.{opening_group}
 use Rattle.headline.specs.node_group.Steps.GroupTrace.{opened}
 use Rattle.headline.proofs.of_node_group.GroupsHaveMoments.{goes_on, groups_have_moments}
-use Rattle.master.specs.Inside.{HasCounted, ToldIn}
+use Rattle.master.specs.Inside.{HasCounted, AcknowledgedIn}
 use Rattle.master.proofs.Groups.{front_of}
 use Rattle.world_nodes.specs.Nodes.{NodesState, NodesStandFor}
 use Rattle.world_nodes.specs.ExactSteps.{NodeDoesCall}
@@ -18,7 +18,7 @@ use Rattle.world_nodes.specs.Inside.{HaveCounted}
 abbrev pub Sent : Type 0
 Sent = List (ℕ × Message Command)
 
-pub opens_counting : (nodes : ℕ) (config : Config) (n : NodesState) (told next : ToldIn) → can_open nodes config ≡ true → NodesStandFor (opening_group nodes config) n
+pub opens_counting : (nodes : ℕ) (config : Config) (n : NodesState) (told next : AcknowledgedIn) → can_open nodes config ≡ true → NodesStandFor (opening_group nodes config) n
     → told.ballot ≡ 1 → ((m : ℕ) → get_or told.held m 0 ≡ 0) → ((m : ℕ) → get_or next.held m 0 ≡ 0) → HaveCounted n told next
 opens_counting nodes config n told next can stands one untold untold_next =
     let so_far = groups_have_moments nodes config (opening_group nodes config) (opened can) in
@@ -36,12 +36,12 @@ opens_counting nodes config n told next can stands one untold untold_next =
       };
     }
 
-pub loses_counting : (n : NodesState) (losses : ℕ) (told next : ToldIn) → HaveCounted n told next → HaveCounted (record n { losses = losses }) told next
+pub loses_counting : (n : NodesState) (losses : ℕ) (told next : AcknowledgedIn) → HaveCounted n told next → HaveCounted (record n { losses = losses }) told next
 loses_counting n losses told next c =
     record { group = c.group; stands = record { master = c.stands.master; nodes = c.stands.nodes; archive = c.stands.archive; sent = c.stands.sent }; counts = c.counts }
 
 -- a node does something, and what it acknowledged is counted
-pub acts_counting : (old new : NodesState) (at : ℕ) (node_call : NodeCall) (told next told' next' : ToldIn) → HaveCounted old told next → NodeDoesCall at node_call old new
+pub acts_counting : (old new : NodesState) (at : ℕ) (node_call : NodeCall) (told next told' next' : AcknowledgedIn) → HaveCounted old told next → NodeDoesCall at node_call old new
     → new.master ≡ old.master → told'.ballot ≡ told.ballot → next'.ballot ≡ next.ballot
     → (HasCounted old.sent told → HasCounted new.sent told') → (HasCounted old.sent next → HasCounted new.sent next') → HaveCounted new told' next'
 acts_counting old new at node_call told next told' next' c acts same one two counts counts_next =
@@ -64,7 +64,7 @@ acts_counting old new at node_call told next told' next' c acts same one two cou
     }
 
 -- what comes after the earlier messages is counted
-pub heard_after : (sent more now kept : Sent) (from : ℕ) (t u : ToldIn) → now ≡ more → more ≡ sent ++ kept → from ≡ length sent
+pub heard_after : (sent more now kept : Sent) (from : ℕ) (t u : AcknowledgedIn) → now ≡ more → more ≡ sent ++ kept → from ≡ length sent
     → (HasCounted (take from now) t → HasCounted now u) → HasCounted sent t → HasCounted more u
 heard_after sent more now kept from t u same is at hears counted =
     subst (λ (l : Sent). HasCounted l u) same (hears (subst (λ (l : Sent). HasCounted l t) (sym (front_of from sent kept now (same ∙ is) at)) counted))

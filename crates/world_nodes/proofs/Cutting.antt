@@ -2,13 +2,13 @@
 use Rattle.std.proofs.Common.{◌≡◌, inl, inr, ◌⊎◌, ◌<◌, ◌≤◌, ◌+◌, ◌-◌, ℕ, zero, suc, Bool, true, false, not, ◌&&◌, nat_lt, if◌then◌else◌, List, [], ◌∷◌, ◌++◌, length, take, drop, Option, Some, None, refl, sym, ap, ◌∙◌, subst, arith}
 use Rattle.std.specs.Prelude.{get_or, slice_get}
 use Rattle.std.proofs.lemmas.Bool.{and_parts, ltb-true, ltb-false}
-use Rattle.ballot_base.specs.Cutting.{can_cut}
+use Rattle.ballot_base.specs.Compaction.{can_cut}
 use Rattle.ballot_base.specs.Losses.{one_more}
 use Rattle.ballot_base.specs.declared.message.Message.{Message}
 use Rattle.ballot_base.specs.Replica.{status_of}
 use Rattle.ballot_base.specs.declared.status.Status.{Status}
 use Rattle.broker_spec.specs.declared.command.Command.{Command}
-use Rattle.master.specs.Inside.{ToldIn}
+use Rattle.master.specs.Inside.{AcknowledgedIn}
 use Rattle.agreement.specs.cut_logs.World.{messages, recorded}
 use Rattle.master.proofs.Archived.{begins_by, recorded_by, taken_back}
 use Rattle.world_base.specs.declared.node_core.item.Item.TheVariants.{Cut}
@@ -19,7 +19,7 @@ use Rattle.headline.proofs.of_node_group.Placed.{get_mapped}
 use Rattle.headline.proofs.of_node_moves.BaseStays.{cut_step_base}
 use Rattle.world_nodes.specs.Nodes.{NodesState, cores_of}
 use Rattle.world_nodes.specs.ExactSteps.{CutsExactly, after_node_call}
-use Rattle.world_nodes.specs.Running.{cutting, unless_stopped, unless_whole}
+use Rattle.world_nodes.specs.RunningNodes.{cutting, unless_stopped, unless_whole}
 use Rattle.world_nodes.specs.Inside.{HaveCounted, TookItem}
 use Rattle.world_nodes.specs.Steps.{CutsWithLosses, NodeCutOrLost, NodesLoseNothing, nodes_with_loss, recorded_if_cut}
 use Rattle.world_nodes.proofs.Acts.{after_turn_with, core_in, not_one_more, same_core, whole_turn}
@@ -55,7 +55,7 @@ module _ (old : NodesState) (at : ℕ) (core : CountedCore) (there : slice_get o
       ∙ by_can (can_cut core.core.replica.state) can)
 
   -- the record has the places below the base of its log
-  pub recorded_below : (told next : ToldIn) → HaveCounted old told next → core.core.replica.state.log.base ≤ length old.archive
+  pub recorded_below : (told next : AcknowledgedIn) → HaveCounted old told next → core.core.replica.state.log.base ≤ length old.archive
   recorded_below told next c =
       within_at old told next c at core.core.replica.state
       (get_mapped replica_of (cores_of old.nodes) at core.core (get_mapped core_in old.nodes at core there))
@@ -89,7 +89,7 @@ module _ (old : NodesState) (at : ℕ) (core : CountedCore) (there : slice_get o
       by false e = back ∙ sym (not_over new (let low = ltb-false base later e in omega (arith, a, b, low)))
 
   -- as it was read and cut back
-  pub archive_of : (told next : ToldIn) → HaveCounted old told next → (now more rest : List Command) (z new : CountedCore) (status : Status) (before base later : ℕ)
+  pub archive_of : (told next : AcknowledgedIn) → HaveCounted old told next → (now more rest : List Command) (z new : CountedCore) (status : Status) (before base later : ℕ)
       → z ≡ get_or old.nodes at z → base ≡ z.core.replica.state.log.base → status ≡ status_of z.core.replica.state → rest ≡ z.core.replica.state.log.rest
       → before ≡ length old.archive → more ≡ old.archive ++ drop (length old.archive - base) (take (status.committed - base) rest)
       → later ≡ new.core.replica.state.log.base → now ≡ (if nat_lt base later then more else take before more) → now ≡ recorded_if_cut old.archive core new
@@ -158,7 +158,7 @@ is_with_loss old archive losses is count =
     ap (λ (l : List Command). let n : NodesState = record old { archive = l; losses = losses } in n) is
     ∙ ap (λ (k : ℕ). let n : NodesState = record old { losses = k } in n) count
 
-pub rests_counting : (n : NodesState) (archive : List Command) (losses : ℕ) (told next : ToldIn) → archive ≡ n.archive → HaveCounted n told next
+pub rests_counting : (n : NodesState) (archive : List Command) (losses : ℕ) (told next : AcknowledgedIn) → archive ≡ n.archive → HaveCounted n told next
     → HaveCounted (record n { archive = archive; losses = losses }) told next
 rests_counting n archive losses told next is c =
     record {

@@ -9,7 +9,7 @@ use Rattle.world_base.specs.node_core.Core.{CountedCore}
 use Rattle.headline.specs.node_moves.Moves.NodeCall.{takes, hands_out}
 use Rattle.world_nodes.specs.Nodes.{NodesState}
 use Rattle.world_nodes.specs.ExactSteps.{NodeDoesCall, HandsOutExactly, TakesExactly, after_node_call}
-use Rattle.world_nodes.specs.Running.{numbered_node}
+use Rattle.world_nodes.specs.RunningNodes.{numbered_node}
 use Rattle.world_nodes.specs.Steps.{ActsWithLosses, NodeItemOrLost, NodesLoseNothing}
 use Rattle.world_nodes.proofs.Acts.{acts, not_one_more}
 

@@ -7,12 +7,12 @@ use Rattle.broker_spec.specs.declared.command.Command.{Command}
 use Rattle.world_base.specs.declared.node_core.Handed.{Handed}
 use Rattle.world_base.specs.declared.node_core.Port.{Port}
 use Rattle.world_base.specs.node_core.Core.{CountedCore}
-use Rattle.world_base.specs.node_connections.Pending.{handed_after, pending_bytes}
-use Rattle.world_base.specs.node_core.Handing.{hands_over, listed_at}
+use Rattle.world_base.specs.node_connections.PendingOutput.{handed_after, pending_bytes}
+use Rattle.world_base.specs.node_core.PortOutput.{hands_over, listed_at}
 use Rattle.headline.proofs.of_node_group.Placed.{set_same}
 use Rattle.world_nodes.specs.Nodes.{NodesState}
 use Rattle.world_nodes.specs.ExactSteps.{AnswersFor, HandsOutExactly, HandsOver}
-use Rattle.world_nodes.specs.Running.{numbered_node}
+use Rattle.world_nodes.specs.RunningNodes.{numbered_node}
 
 there : (nodes : List CountedCore) (at : ℕ) (z : CountedCore) → at < length nodes → z ≡ get_or nodes at z → slice_get nodes at ≡ Some z
 there [] at z below is = absurd (omega (arith, below))

@@ -14,7 +14,7 @@ use Rattle.world_base.specs.node_core.Core.{rules}
 use Rattle.headline.specs.node_group.Group.{Group, moment_of_nodes, with_master}
 use Rattle.master.specs.declared.error.AssignError.{AssignError}
 use Rattle.master.specs.declared.error.AssignError.TheVariants.{BadMembers, BallotsSpent}
-use Rattle.master.specs.Inside.{ToldIn}
+use Rattle.master.specs.Inside.{AcknowledgedIn}
 use Rattle.master.proofs.Groups.{group_answers, group_gives}
 use Rattle.world_nodes.specs.Nodes.{NodesState, NodesStandFor}
 use Rattle.world_nodes.specs.Inside.{HaveCounted}
@@ -29,7 +29,7 @@ pub no_refusal : (result : Result ℕ AssignError) (why : AssignError) (refused 
 no_refusal result BadMembers refused is none bad spent = let so = bad.0 is in cc
 no_refusal result BallotsSpent refused is none bad spent = let so = spent.0 is in cc
 
-pub gives_counting : (old : NodesState) (config : Config) (state : MasterState) (body : Body Command) (more : Sent) (told : Bool) (losses : ℕ) (t next next' : ToldIn)
+pub gives_counting : (old : NodesState) (config : Config) (state : MasterState) (body : Body Command) (more : Sent) (told : Bool) (losses : ℕ) (t next next' : AcknowledgedIn)
     → HaveCounted old t next → refusal old.master config ≡ None → state ≡ assigning old.master config
     → body ≡ NewBallot (old.master.given + 1) config.members old.master.active old.master.members
     → OnTrue told (more ≡ old.sent ++ (config.primary, record { from = 0; body = body }) ∷ []) → OnFalse told (more ≡ old.sent)
@@ -68,18 +68,18 @@ gives_counting old config state body more false losses t next next' c none state
 -- ---- the master answers, and its message is sent or not
 
 -- which counters correspond to the active ballot after an answer
-abbrev pub TurnsOver : ToldIn → ToldIn → ToldIn → ToldIn → MasterState → MasterState → Type 0
+abbrev pub TurnsOver : AcknowledgedIn → AcknowledgedIn → AcknowledgedIn → AcknowledgedIn → MasterState → MasterState → Type 0
 TurnsOver t next t' next' m k =
     ((k.active ≡ m.active) × (t' ≡ t) × (next' ≡ next)) ⊎ ((k.active ≡ m.active → ⊥) × (t' ≡ next) × (next' ≡ t))
 
-turns_in : (g : Group) (old : NodesState) (state : MasterState) (ballot : ℕ) (t next t' next' : ToldIn) → NodesStandFor g old
+turns_in : (g : Group) (old : NodesState) (state : MasterState) (ballot : ℕ) (t next t' next' : AcknowledgedIn) → NodesStandFor g old
     → state ≡ activating old.master ballot old.master.waiting → TurnsOver t next t' next' old.master state
     → TurnsOver t next t' next' g.master (activating g.master ballot g.master.waiting)
 turns_in g old state ballot t next t' next' s state_is turns =
     subst (λ (m : MasterState). TurnsOver t next t' next' m (activating m ballot m.waiting)) (sym s.master)
     (subst (λ (k : MasterState). TurnsOver t next t' next' old.master k) state_is turns)
 
-pub answers_counting : (old : NodesState) (from ballot : ℕ) (state : MasterState) (body : Body Command) (more : Sent) (told : Bool) (losses : ℕ) (t next t' next' : ToldIn)
+pub answers_counting : (old : NodesState) (from ballot : ℕ) (state : MasterState) (body : Body Command) (more : Sent) (told : Bool) (losses : ℕ) (t next t' next' : AcknowledgedIn)
     → HaveCounted old t next → In (0, record { from = from; body = Activate ballot }) old.sent → state ≡ activating old.master ballot old.master.waiting
     → body ≡ (if is_granted old.master ballot old.master.waiting then Activated ballot else Superseded ballot)
     → OnTrue told (more ≡ old.sent ++ (from, record { from = 0; body = body }) ∷ []) → OnFalse told (more ≡ old.sent)

@@ -6,15 +6,15 @@ use Rattle.std.proofs.lemmas.Option.{same_Some, slice_get_within}
 use Rattle.ballot_base.specs.declared.message.Body.{Body}
 use Rattle.ballot_base.specs.declared.message.Body.TheVariants.{NewBallot, Join, State, Install, Installed, Activate, Activated, Superseded, Append, Held, Commit}
 use Rattle.ballot_base.specs.declared.message.Effect.{Effect}
-use Rattle.master.specs.Copying.{has_numbers_alone}
-use Rattle.master.specs.Inside.{ToldIn, asks_for}
+use Rattle.master.specs.Copies.{has_numbers_alone}
+use Rattle.master.specs.Inside.{AcknowledgedIn, asks_for}
 use Rattle.master.proofs.EarlierMembers.{NamesSome, names_some, quiet_does_nothing}
 use Rattle.ballot_base.specs.Losses.{SendsAndAddsNothing, one_more}
 use Rattle.ballot_base.specs.declared.message.Message.{Message}
 use Rattle.ballot_base.specs.Protocol.{replica_step}
 use Rattle.ballot_base.specs.Protocol.Input.{Receives}
 use Rattle.ballot_base.specs.Replica.{ReplicaState}
-use Rattle.ballot_base.specs.Sending.{nothing_done}
+use Rattle.ballot_base.specs.StepOutcome.{nothing_done}
 use Rattle.lists.specs.Lists.{In}
 use Rattle.lists.proofs.Members.{in_at}
 use Rattle.broker_spec.specs.declared.command.Command.{Command}
@@ -32,7 +32,7 @@ use Rattle.headline.specs.node_group.Group.{moment_of_nodes}
 use Rattle.headline.specs.node_moves.Moves.NodeCall.{takes}
 use Rattle.world_nodes.specs.Nodes.{NodesState}
 use Rattle.world_nodes.specs.ExactSteps.{NodeDoesCall, MessageArrives, HeardByMaster, TakesExactly, after_node_call}
-use Rattle.world_nodes.specs.Running.{running}
+use Rattle.world_nodes.specs.RunningNodes.{running}
 use Rattle.world_nodes.specs.Quiet.{ComesUnheeded, IsUnheeded, RestsAt}
 use Rattle.world_nodes.specs.Steps.{DeliveryOrLost, NodeItemOrLost, NodesLoseNothing}
 use Rattle.world_nodes.specs.GroupSteps.{GroupDeliveryOrLost, NodeCallOrLost}
@@ -175,7 +175,7 @@ does_nothing message core more names free = (by free.0, free.1)
     by (inr quiet) = more_ignored message core more names quiet
 
 -- the messages of nodes were sent in a group
-pub names_sent : (n : NodesState) (told next : ToldIn) → HaveCounted n told next → (number : ℕ) (found : ℕ × Message Command) → slice_get n.sent number ≡ Some found →
+pub names_sent : (n : NodesState) (told next : AcknowledgedIn) → HaveCounted n told next → (number : ℕ) (found : ℕ × Message Command) → slice_get n.sent number ≡ Some found →
     NamesSome found.1.body
 names_sent n told next c number found there =
     names_some rules c.counts.config (moment_of_nodes c.group) c.counts.moments c.counts.came found.0 found.1

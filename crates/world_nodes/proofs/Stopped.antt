@@ -2,7 +2,7 @@
 use Rattle.std.proofs.Common.{◌≡◌, ◌↔◌, ℕ, zero, suc, Bool, true, false, not, if◌then◌else◌, List, Option, Some, None, refl, sym, ap, subst}
 use Rattle.std.proofs.lemmas.Option.{none-some}
 use Rattle.world_base.specs.node_core.Core.{CountedCore}
-use Rattle.world_nodes.specs.Running.{numbered_node, running, unless_stopped}
+use Rattle.world_nodes.specs.RunningNodes.{numbered_node, running, unless_stopped}
 
 pub runs_exactly : (nodes : List CountedCore) (node : ℕ) (core : CountedCore) → numbered_node nodes node ≡ Some core → (stopped : Bool) → stopped ≡ core.core.replica.state.stopped
     → (not stopped ≡ false) ↔ (running nodes node ≡ None)

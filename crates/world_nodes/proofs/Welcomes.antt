@@ -10,15 +10,15 @@ use Rattle.broker_spec.specs.declared.command.Command.{Command}
 use Rattle.broker_spec.specs.declared.command.Command.TheVariants as commands
 use Rattle.broker_spec.specs.Place.{Client}
 use Rattle.broker_base.specs.State.{State}
-use Rattle.master.specs.Inside.{ToldIn}
-use Rattle.agreement.specs.cut_logs.Laws.{IsCutRight}
+use Rattle.master.specs.Inside.{AcknowledgedIn}
+use Rattle.agreement.specs.cut_logs.Theorems.{IsCutRight}
 use Rattle.agreement.proofs.of_cut_logs.MomentsAgree.{logs_are_cut_right}
 use Rattle.world_base.specs.node_core.Core.{CoreState, CountedCore, rules}
 use Rattle.headline.specs.node_group.Group.{moment_of_nodes, replica_of}
 use Rattle.headline.proofs.of_node_group.Placed.{get_mapped}
 use Rattle.broker_spec.specs.Connection.{first_connection}
-use Rattle.world_nodes.specs.Asking.{is_welcome, whole_log_in, whole_log_of, welcomes_back}
-use Rattle.world_nodes.specs.Running.{numbered_node}
+use Rattle.world_nodes.specs.RecoveryChecks.{is_welcome, whole_log_in, whole_log_of, welcomes_back}
+use Rattle.world_nodes.specs.RunningNodes.{numbered_node}
 use Rattle.world_nodes.specs.Inside.{HaveCounted}
 use Rattle.world_nodes.specs.Nodes.{NodesState}
 use Rattle.world_nodes.proofs.Acts.{core_in}
@@ -36,7 +36,7 @@ done_more s commands i command before after below same held is =
     ∙ ap (replay_from rules s) (sym (take_more commands i command below ∙ ap (λ (c : Command). take i commands ++ c ∷ []) (sym same)))
 
 -- its log was cut right
-cut_right : (n : NodesState) (told next : ToldIn) → HaveCounted n told next → (node : ℕ) (core : CountedCore) → numbered_node n.nodes node ≡ Some core →
+cut_right : (n : NodesState) (told next : AcknowledgedIn) → HaveCounted n told next → (node : ℕ) (core : CountedCore) → numbered_node n.nodes node ≡ Some core →
     IsCutRight rules n.archive core.core.replica.state
 cut_right n told next c node core there =
     let found : slice_get (moment_of_nodes c.group).world.nodes (node - 1) ≡ Some (replica_of core.core) =
@@ -57,7 +57,7 @@ at_base archive r right base bytes machine is read fresh thawed = by base is fre
         same_Some machine (replay rules (take r.log.base archive)) (sym (old (omega arith)) ∙ ap rules.thawed read ∙ right.snapshot high)
 
 -- and so it says whether the client is welcomed back
-pub welcomed : (n : NodesState) (told next : ToldIn) → HaveCounted n told next → (node : ℕ) (core : CountedCore) → numbered_node n.nodes node ≡ Some core → (client : Client)
+pub welcomed : (n : NodesState) (told next : AcknowledgedIn) → HaveCounted n told next → (node : ℕ) (core : CountedCore) → numbered_node n.nodes node ≡ Some core → (client : Client)
     (base : ℕ) (bytes : List ℕ) (first last : State) (rest : List Command) (answer : Bool) → base ≡ core.core.replica.state.log.base → bytes ≡ core.core.replica.state.log.snapshot →
     (base ≡ 0 → first ≡ rules.opening) → (0 < base → rules.thawed bytes ≡ Some first) → rest ≡ core.core.replica.state.log.rest → last ≡ replay_from rules first rest →
     answer ≡ is_welcome (rules.gives (rules.after last (commands.Start 1)) (commands.Connect first_connection client false)) → answer ≡ welcomes_back client (whole_log_of n node)
@@ -76,7 +76,7 @@ welcomed n told next c node core there client base bytes first last rest answer 
     whole = at_base n.archive core.core.replica.state (cut_right n told next c node core there) base bytes first is read fresh thawed
 
 -- of nodes as they are seen, if there was memory for the answer
-pub welcomed_in : {E : Type 0} (n seen : NodesState) (told next : ToldIn) → HaveCounted n told next → n ≡ seen → (node : ℕ) (core : CountedCore) → numbered_node seen.nodes node ≡ Some core → (client : Client)
+pub welcomed_in : {E : Type 0} (n seen : NodesState) (told next : AcknowledgedIn) → HaveCounted n told next → n ≡ seen → (node : ℕ) (core : CountedCore) → numbered_node seen.nodes node ≡ Some core → (client : Client)
     (base : ℕ) (bytes : List ℕ) (first last : State) (rest : List Command) (result : Result Bool E) → base ≡ core.core.replica.state.log.base → bytes ≡ core.core.replica.state.log.snapshot →
     (base ≡ 0 → first ≡ rules.opening) → (0 < base → rules.thawed bytes ≡ Some first) → rest ≡ core.core.replica.state.log.rest → last ≡ replay_from rules first rest →
     IfOk result (λ answer. answer ≡ is_welcome (rules.gives (rules.after last (commands.Start 1)) (commands.Connect first_connection client false))) →

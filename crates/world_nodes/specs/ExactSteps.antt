@@ -4,7 +4,7 @@ use Rattle.ballot_base.specs.declared.message.Body.{Body}
 use Rattle.ballot_base.specs.declared.message.Body.TheVariants.{Activate}
 use Rattle.ballot_base.specs.declared.config.Config.{Config}
 use Rattle.ballot_base.specs.declared.message.Message.{Message}
-use Rattle.ballot_base.specs.Sending.{master}
+use Rattle.ballot_base.specs.StepOutcome.{master}
 use Rattle.agreement.specs.cut_logs.Masters.{MasterOutcome, activated, assigned}
 use Rattle.agreement.specs.cut_logs.World.{messages, recorded}
 use Rattle.broker_spec.specs.declared.command.Command.{Command}
@@ -13,14 +13,14 @@ use Rattle.world_base.specs.declared.node_core.Handed.{Handed}
 use Rattle.world_base.specs.declared.node_core.item.Item.{Item}
 use Rattle.world_base.specs.declared.node_core.item.Item.TheVariants.{Cut, Peer}
 use Rattle.world_base.specs.declared.node_core.Port.{Port}
-use Rattle.world_base.specs.node_connections.Pending.{handed_after, pending_bytes}
-use Rattle.world_base.specs.node_core.Handing.{listed_at}
+use Rattle.world_base.specs.node_connections.PendingOutput.{handed_after, pending_bytes}
+use Rattle.world_base.specs.node_core.PortOutput.{listed_at}
 use Rattle.headline.specs.node_moves.Moves.{NodeCall, done}
 use Rattle.headline.specs.node_moves.Moves.NodeCall.{takes, hands_out}
 use Rattle.headline.specs.node_group.Group.{Group}
 use Rattle.headline.specs.byte_world.Steps.{DoesCall}
 use Rattle.world_nodes.specs.Nodes.{NodesState, NodesStandFor}
-use Rattle.world_nodes.specs.Running.{running, numbered_node, cutting}
+use Rattle.world_nodes.specs.RunningNodes.{running, numbered_node, cutting}
 
 -- ---- a call of a node
 

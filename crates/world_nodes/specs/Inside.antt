@@ -17,9 +17,9 @@ use Rattle.world_base.specs.node_connections.Connections.{has_failed}
 use Rattle.world_base.specs.node_core.Losses.{DoesNothing, ItemTakesNoMemory}
 use Rattle.world_base.specs.node_core.LossyStep.{RunsOn}
 use Rattle.world_base.specs.node_core.Step.{node_step}
-use Rattle.master.specs.Inside.{IsGroup, ToldIn, held_by}
+use Rattle.master.specs.Inside.{IsGroup, AcknowledgedIn, held_by}
 use Rattle.headline.specs.node_group.Group.{Group, moment_of_nodes, replica_of}
-use Rattle.world_nodes.specs.Running.{running}
+use Rattle.world_nodes.specs.RunningNodes.{running}
 use Rattle.world_nodes.specs.Nodes.{NodesState, NodesStandFor, cores_of}
 
 -- messages were kept after those that were sent, except some that were lost
@@ -72,7 +72,7 @@ pub record TookItem (old : CountedCore) (item : Item) (new : CountedCore)
 
 -- Nodes came about as a group of the model does, and count what their messages acknowledge: in the
 -- active ballot, and in the one that waits.
-pub record HaveCounted (nodes : NodesState) (told next : ToldIn) : Type 0 where
+pub record HaveCounted (nodes : NodesState) (told next : AcknowledgedIn) : Type 0 where
   pub group : Group
   pub stands : NodesStandFor group nodes
   pub counts : IsGroup rules (moment_of_nodes group) told next

@@ -1,11 +1,11 @@
 pub mod recoveries
 pub mod Nodes
-pub mod Running
+pub mod RunningNodes
 pub mod ExactSteps
 pub mod Steps
 pub mod HandingOver
 pub mod GroupSteps
 pub mod Quiet
 pub mod Agreed
-pub mod Asking
+pub mod RecoveryChecks
 pub mod Inside

@@ -11,10 +11,10 @@ use Rattle.world_base.specs.declared.node_core.item.Item.{Item}
 use Rattle.world_base.specs.declared.node_core.item.Item.TheVariants.{Peer}
 use Rattle.world_base.specs.declared.node_core.Port.{Port}
 use Rattle.world_base.specs.node_core.Core.{CountedCore}
-use Rattle.world_base.specs.node_connections.Pending.{pending_bytes}
-use Rattle.world_base.specs.node_core.Handing.{listed_at}
+use Rattle.world_base.specs.node_connections.PendingOutput.{pending_bytes}
+use Rattle.world_base.specs.node_core.PortOutput.{listed_at}
 use Rattle.world_base.specs.node_core.Losses.{ItemTakesNoMemory}
-use Rattle.world_nodes.specs.Running.{numbered_node, running}
+use Rattle.world_nodes.specs.RunningNodes.{numbered_node, running}
 use Rattle.world_nodes.specs.Nodes.{NodesState}
 
 -- The node of this number runs, and the item takes no memory there. It has no failed connection

@@ -15,7 +15,7 @@ use Rattle.world_base.specs.node_core.Core.{CountedCore}
 use Rattle.world_base.specs.node_core.LossyStep.{RunsOn}
 use Rattle.headline.specs.node_moves.Moves.NodeCall.{takes}
 use Rattle.world_nodes.specs.ExactSteps.{after_answer, after_node_call, after_giving}
-use Rattle.world_nodes.specs.Running.{cutting, running}
+use Rattle.world_nodes.specs.RunningNodes.{cutting, running}
 use Rattle.world_nodes.specs.Nodes.{NodesState}
 
 -- the count is exact as long as it is below its greatest number

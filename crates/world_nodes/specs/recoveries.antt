@@ -1,4 +1,4 @@
-pub mod Coming
+pub mod Deliveries
 pub mod Led
 pub mod Opened
 pub mod Answered

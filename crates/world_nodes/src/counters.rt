@@ -8,7 +8,7 @@ ghost use Rattle.master.specs.Inside.{HasCounted, least_but_one};
 use ballot_base::Message;
 use broker_spec::Command;
 use machine::Memory;
-use master::{Told, follow_ballot};
+use master::{Acknowledged, follow_ballot};
 use std::alloc::Global;
 
 /// What was acknowledged in the active ballot, and in the one that waits. Its calls take no memory,
@@ -16,9 +16,9 @@ use std::alloc::Global;
 #[derive(Drop)]
 pub struct Counters {
     // What was acknowledged in the active ballot.
-    told: Told,
+    told: Acknowledged,
     // What was acknowledged in the ballot that waits, if one does.
-    next: Told,
+    next: Acknowledged,
 }
 
 impl Counters {
@@ -31,8 +31,8 @@ impl Counters {
         ensures next { IfOk result (λ counters.
             (member : ℕ) → get_or counters.next.held member 0 ≡ 0) }
     {
-        let told = Told::new(alloc, 1)?;
-        let next = Told::new(alloc, 1)?;
+        let told = Acknowledged::new(alloc, 1)?;
+        let next = Acknowledged::new(alloc, 1)?;
         Ok(Counters { told, next })
     }
 

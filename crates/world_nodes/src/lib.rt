@@ -1,14 +1,14 @@
 //! Nodes with the connections of their clients, their master, and all messages that they ever sent.
 #![tactic(auto)]
 
-mod acting;
-mod agreeing;
-mod asking;
+mod agreed_list;
 mod counters;
-mod keeping;
+mod kept_messages;
+mod node_actions;
+mod node_steps;
 mod nodes;
 pub mod recoveries;
-mod stepping;
+mod recovery_checks;
 
 pub use master::Idle;
 pub use nodes::Nodes;

@@ -8,7 +8,7 @@ ghost use Rattle.headline.specs.node_group.Group.{Group, opening_group};
 ghost use Rattle.headline.specs.node_moves.Moves.NodeCall.{takes};
 ghost use Rattle.world_nodes.specs.Nodes.{NodesState, NodesStandFor};
 ghost use Rattle.world_nodes.specs.ExactSteps.{NodeDoesCall, AnswersFor, MessageArrives, ComesToNobody, CutsExactly, HandsOutExactly, HandsOver, TakesExactly, after_giving};
-ghost use Rattle.world_nodes.specs.Running.{cutting, is_running, numbered_node, proposing, running};
+ghost use Rattle.world_nodes.specs.RunningNodes.{cutting, is_running, numbered_node, proposing, running};
 ghost use Rattle.world_nodes.specs.Quiet.{ComesUnheeded, RestsAt, WaitsAtNone};
 ghost use Rattle.world_nodes.specs.Steps.{DeliveryOrLost, NewBallotOrLost, NodeCutOrLost, NodeExpelOrLost, NodeItemOrLost, NodesLoseNothing};
 ghost use Rattle.world_nodes.specs.HandingOver.{HandoverOrLost};
@@ -371,7 +371,7 @@ impl Nodes {
         self.nodes.get(node as usize - 1)
     }
 
-    /// Says whether a node exists and has not stopped.
+    /// Returns true if a node exists and has not stopped.
     pub fn is_running(&self, node: u8) -> bool
         ensures exact { result ≡ is_running self.now.nodes node }
         ensures stopped { (result ≡ false) ↔ (running self.now.nodes node ≡ None) }

@@ -21,7 +21,7 @@ use Rattle.client_base.specs.declared.stage.Stage.TheVariants as stages
 use Rattle.client_base.specs.State.{ClientState, is_online, is_open}
 use Rattle.client_base.specs.Answered.{ClientOutcome, accepted_of, accepting, awaits_pubrec, on_publish, on_pubrec}
 use Rattle.client_base.specs.Calls.{on_connack, discarded, loses_session, numbered, on_first, on_later, client_receives}
-use Rattle.client_base.specs.Publishing.{publish_refusal, published}
+use Rattle.client_base.specs.Publications.{publish_refusal, published}
 use Rattle.client_base.specs.Handled.{packet_handled, handled_first, handled_online}
 use Rattle.client_base.specs.Handshakes.{is_sent_with, pubrec_answered, takes_in}
 use Rattle.client_base.specs.Steps.{Call, disconnected, keeper_step, request_refusal, subscribed, unless_refused, unsubscribed}

@@ -13,7 +13,7 @@ use Rattle.client_base.specs.Steps.{Call, keeper_step}
 use Rattle.client.specs.Core.{Core, AnswersCall, LeavesServer}
 use Rattle.world_pipes.specs.declared.sending.Sending.{Sending}
 use Rattle.world_pipes.specs.declared.sending.Sending.TheVariants as sendings
-use Rattle.world_pipes.specs.Following.{CallingFollows, FollowsBy}
+use Rattle.world_pipes.specs.ModelSteps.{CallingFollows, FollowsBy}
 use Rattle.world_pipes.specs.Steps.{ClientTrace, ClientStep}
 use Rattle.world_pipes.specs.Piped.{Calls, Piped, TakesLeave, is_holding, piped}
 use Rattle.world_pipes.specs.StandsFor.{ClientStandsFor}

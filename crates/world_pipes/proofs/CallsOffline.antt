@@ -13,7 +13,7 @@ use Rattle.client_base.specs.declared.stage.Stage.{Stage}
 use Rattle.client_base.specs.declared.stage.Stage.TheVariants as stages
 use Rattle.client_base.specs.State.{ClientState, is_online, is_open}
 use Rattle.client_base.specs.Answered.{ClientOutcome}
-use Rattle.client_base.specs.Publishing.{has_free_id, next_id, publish_refusal, published}
+use Rattle.client_base.specs.Publications.{has_free_id, next_id, publish_refusal, published}
 use Rattle.client_base.specs.History as history
 use Rattle.client_base.specs.Keeper.{Written}
 use Rattle.client_base.specs.Steps.{Call, keeper_step, subscribed, unless_refused, unsubscribed}
@@ -25,13 +25,13 @@ use Rattle.headline.specs.byte_world.World.{after_writing, newly_written, packet
 use Rattle.headline.proofs.of_byte_world.OnTheWay.{newly_is}
 use Rattle.world_pipes.specs.declared.sending.Sending.{Sending}
 use Rattle.world_pipes.specs.declared.sending.Sending.TheVariants as sendings
-use Rattle.world_pipes.specs.Following.{CallingFollows}
+use Rattle.world_pipes.specs.ModelSteps.{CallingFollows}
 use Rattle.world_pipes.specs.Piped.{GoesUpWhere, Piped, is_holding, piped}
 use Rattle.exactly_once.specs.Acceptance.{accepted_on}
-use Rattle.world_pipes.specs.StandsFor.{AreWays, CanGoOut, ClientStandsFor}
+use Rattle.world_pipes.specs.StandsFor.{ArePipePairs, CanGoOut, ClientStandsFor}
 use Rattle.headline.specs.byte_world.Accepted.{accepted_at_qos2}
 use Rattle.world_pipes.proofs.CallsFollow.{HasCall, up_follows}
-use Rattle.world_pipes.proofs.Ways.{none_sent}
+use Rattle.world_pipes.proofs.Pairs.{none_sent}
 
 -- ---- nothing is written
 
@@ -83,7 +83,7 @@ same_accepted more [] = refl
 same_accepted more (κ ∷ others) = refl
 
 idle_follows : (published : List Publication) (outcome : ClientOutcome) (old : Piped) (core : Core) (new : Piped) → is_holding old ≡ false → outcome.state.stage ≡ old.core.state.stage → outcome.writes ≡ [] →
-    HasCall published outcome old core → new ≡ piped core old.ways → CallingFollows published old (Ok sendings.Sent) new
+    HasCall published outcome old core → new ≡ piped core old.pairs → CallingFollows published old (Ok sendings.Sent) new
 idle_follows published outcome old core new closed stays none has is = λ m s.
     let called = has.too m s.keeper s.fits.keep_alive in
     let c = called.0 in
@@ -104,7 +104,7 @@ idle_follows published outcome old core new closed stays none has is = λ m s.
             accepted = ap (λ (state : ClientState). accepted_at_qos2 state.accepted) has.state ∙ ap accepted_at_qos2 has.accepts_none ∙ s.accepted
                 ∙ sym (ap accepted_on c.on_first ∙ same_accepted c.more m.connections);
             many = ap length c.on_first ∙ as_many c.more m.connections ∙ s.many ∙ ap length (sym same);
-            ways = subst (AreWays (reverse old.ways)) (sym same) s.ways;
+            pairs = subst (ArePipePairs (reverse old.pairs)) (sym same) s.pairs;
             held = λ on. absurd (both_ways (is_open core.state.stage) shut on);
           });
     }
@@ -112,7 +112,7 @@ idle_follows published outcome old core new closed stays none has is = λ m s.
 -- ---- a call, whether a connection is held or not
 
 pub call_follows : (published : List Publication) (outcome : ClientOutcome) (old : Piped) (core : Core) (new : Piped) (up : Bool) → is_holding old ≡ up → outcome.state.stage ≡ old.core.state.stage →
-    (is_holding old ≡ false → outcome.writes ≡ []) → HasCall published outcome old core → (sending : Sending) → GoesUpWhere up core old.ways sending new →
+    (is_holding old ≡ false → outcome.writes ≡ []) → HasCall published outcome old core → (sending : Sending) → GoesUpWhere up core old.pairs sending new →
     CallingFollows published old (Ok sending) new
 call_follows published outcome old core new true held stays none has sending goes = up_follows published outcome old core sending new held has goes
 call_follows published outcome old core new false held stays none has sending goes =

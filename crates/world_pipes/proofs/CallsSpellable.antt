@@ -13,7 +13,7 @@ use Rattle.packet.specs.Subscribe.{FitsSubscription}
 use Rattle.packet.specs.declared.packet.Packet.{Packet}
 use Rattle.packet.specs.declared.packet.Packet.TheVariants as packets
 use Rattle.packet_base.specs.declared.qos.QoS.{QoS}
-use Rattle.packet_base.specs.declared.qos.QoS.TheVariants as qualities
+use Rattle.packet_base.specs.declared.qos.QoS.TheVariants as qos_levels
 use Rattle.session_base.specs.declared.publication.Publication.{Publication}
 use Rattle.session_base.specs.Publication.{delivery_with, is_answered}
 use Rattle.session_base.proofs.IdentifiersOfFills.{least_free_is}
@@ -24,7 +24,7 @@ use Rattle.client_base.specs.declared.request.Request.TheVariants as requests
 use Rattle.client_base.specs.declared.stage.Stage.{Stage}
 use Rattle.client_base.specs.declared.stage.Stage.TheVariants as stages
 use Rattle.client_base.specs.State.{ClientState, is_online, used_ids}
-use Rattle.client_base.specs.Publishing.{has_free_id, next_id, publish_packet, publish_refusal, published}
+use Rattle.client_base.specs.Publications.{has_free_id, next_id, publish_packet, publish_refusal, published}
 use Rattle.client_base.specs.Steps.{Call, asked, disconnected, keeper_step, request_refusal, unless_refused}
 use Rattle.client_base.proofs.FollowsCalls.{kept_of, publish_outcome}
 use Rattle.world_pipes.specs.StandsFor.{CanGoOut}
@@ -64,9 +64,9 @@ unsubscribe_is id filter one good = ((one, all_one (λ f. IsTrue (is_filter f)) 
         let goal : suc (suc (suc (suc (length (filter ++ []))))) ≤ max_body = omega (arith, e, few) in goal
 
 delivery_fits : (qos : QoS) (id : ℕ) → (is_answered qos ≡ true → IsId id) → FitsDelivery (delivery_with qos false id)
-delivery_fits qualities.AtMostOnce id named = tt
-delivery_fits qualities.AtLeastOnce id named = named refl
-delivery_fits qualities.ExactlyOnce id named = named refl
+delivery_fits qos_levels.AtMostOnce id named = tt
+delivery_fits qos_levels.AtLeastOnce id named = named refl
+delivery_fits qos_levels.ExactlyOnce id named = named refl
 
 publish_is : (p : Publication) (state : ClientState) → IsTrue (is_topic p.topic) → publish_refusal p state ≡ None → IsPacket (publish_packet p state)
 publish_is p state good taken =
@@ -90,7 +90,7 @@ kept_fits p id state true true one fits =
         client = fits.client;
         released = fits.released;
         sent = each_append _ state.sent (kept_of p id ∷ []) fits.sent (one, tt);
-        unsent = fits.unsent;
+        queued = fits.queued;
       };
     }
 kept_fits p id state false true one fits = record { writes = (one, tt); left = fits }
@@ -102,7 +102,7 @@ kept_fits p id state answered false one fits =
         client = fits.client;
         released = fits.released;
         sent = fits.sent;
-        unsent = each_append _ state.unsent (kept_of p id ∷ []) fits.unsent (one, tt);
+        queued = each_append _ state.queued (kept_of p id ∷ []) fits.queued (one, tt);
       };
     }
 
@@ -123,7 +123,7 @@ asking_so (Some cause) request packet state one fits = record { writes = tt; lef
 asking_so None request packet state one fits =
     record {
       writes = (one refl, tt);
-      left = record { keep_alive = fits.keep_alive; client = fits.client; released = fits.released; sent = fits.sent; unsent = fits.unsent };
+      left = record { keep_alive = fits.keep_alive; client = fits.client; released = fits.released; sent = fits.sent; queued = fits.queued };
     }
 
 -- the identifier of a request that is not refused

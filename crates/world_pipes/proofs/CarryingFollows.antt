@@ -11,19 +11,19 @@ use Rattle.client_base.specs.State.{ClientState, is_open}
 use Rattle.client_base.specs.History as history
 use Rattle.client_base.proofs.FollowsHandled.{lost_stands}
 use Rattle.client.specs.Core.{Core, gone}
-use Rattle.client.specs.Reading.{EndsWith, Handles, OnBytes, fed}
+use Rattle.client.specs.Input.{EndsWith, Handles, OnBytes, fed}
 use Rattle.exactly_once.specs.Sides.{ClientConnection}
 use Rattle.headline.specs.byte_world.World.{ClientPipes, Pipe, with_pipe}
-use Rattle.world_pipes.specs.declared.way.Way.{Way}
-use Rattle.world_pipes.specs.Following.{ModelFollows, CarryingFollows, after_losing}
+use Rattle.world_pipes.specs.declared.pair.PipePair.{PipePair}
+use Rattle.world_pipes.specs.ModelSteps.{ModelFollows, CarryingFollows, after_losing}
 use Rattle.world_pipes.specs.Steps.{ClientTrace, ClientStep, published_in_steps, published_with}
 use Rattle.world_pipes.specs.Piped.{CarriesDown, Piped, broken, come_down, piped, piped_up}
 use Rattle.exactly_once.specs.Acceptance.{accepted_on}
-use Rattle.world_pipes.specs.StandsFor.{AreWays, CanGoOut, IsWay, ClientStandsFor}
+use Rattle.world_pipes.specs.StandsFor.{ArePipePairs, CanGoOut, IsPipePair, ClientStandsFor}
 use Rattle.headline.specs.byte_world.Accepted.{accepted_at_qos2}
 use Rattle.world_pipes.proofs.PacketsHandled.{GoFar, IsInMidst, all_go, one_goes}
 use Rattle.world_pipes.proofs.StaysOpen.{handled_stays}
-use Rattle.world_pipes.proofs.Ways.{last_same, losing, losing_silent, lost_fits, newest_way, same_pipes, with_newest}
+use Rattle.world_pipes.proofs.Pairs.{last_same, losing, losing_silent, lost_fits, newest_pair, same_pipes, with_newest}
 
 -- ---- after a piece
 
@@ -121,24 +121,24 @@ has_read piece stages.Online old new read up heard = record { last = heard.0; ha
 
 -- ---- after the call
 
-pub way_up : (older : List Way) (way : Way) (before : List ℕ) (core : Core) (m : ClientPipes) (others : List ClientConnection) (p₀ : Pipe) (further : List Pipe) (up rest : List ℕ) →
-    (l : IsLeft before core m others p₀ further) → p₀.node ≡ way.node → p₀.port ≡ way.port → p₀.down ≡ way.down → before ++ core.out ≡ up ++ rest →
-    IsWay (record way { up = up }) l.pipe
-way_up older way before core m others p₀ further up rest l node port down is =
+pub pair_up : (older : List PipePair) (pair : PipePair) (before : List ℕ) (core : Core) (m : ClientPipes) (others : List ClientConnection) (p₀ : Pipe) (further : List Pipe) (up rest : List ℕ) →
+    (l : IsLeft before core m others p₀ further) → p₀.node ≡ pair.node → p₀.port ≡ pair.port → p₀.down ≡ pair.down → before ++ core.out ≡ up ++ rest →
+    IsPipePair (record pair { up = up }) l.pipe
+pair_up older pair before core m others p₀ further up rest l node port down is =
     record { node = l.leads.0 ∙ node; port = l.leads.1 ∙ port; up = record { rest = rest; is = l.up ∙ is }; down = l.leads.2 ∙ down }
 
-pub finished : (older : List Way) (way : Way) (before : List ℕ) (core shown : Core) (m : ClientPipes) (others : List ClientConnection) (p₀ : Pipe) (further : List Pipe) (up rest : List ℕ) →
-    (l : IsLeft before core m others p₀ further) → shown.state ≡ core.state → length others ≡ length further → AreWays (reverse older) further →
-    IsWay (record way { up = up }) l.pipe →
+pub finished : (older : List PipePair) (pair : PipePair) (before : List ℕ) (core shown : Core) (m : ClientPipes) (others : List ClientConnection) (p₀ : Pipe) (further : List Pipe) (up rest : List ℕ) →
+    (l : IsLeft before core m others p₀ further) → shown.state ≡ core.state → length others ≡ length further → ArePipePairs (reverse older) further →
+    IsPipePair (record pair { up = up }) l.pipe →
     (is_open core.state.stage ≡ true → (l.pipe.up ≡ up) × (shown.out ≡ []) × (shown.unread ≡ core.unread)) →
-    ClientStandsFor (piped shown (older ++ record way { up = up } ∷ [])) m
-finished older way before core shown m others p₀ further up rest l same many ways one on =
+    ClientStandsFor (piped shown (older ++ record pair { up = up } ∷ [])) m
+finished older pair before core shown m others p₀ further up rest l same many pairs one on =
     record {
       keeper = subst (history.KeeperStandsFor m.keeper) (sym same) l.keeper;
       fits = subst CanGoOut (sym same) l.fits;
       accepted = ap (λ (state : ClientState). accepted_at_qos2 state.accepted) same ∙ l.accepted;
       many = ap length l.connections ∙ ap suc many ∙ sym (ap length l.pipes);
-      ways = subst (AreWays (reverse (older ++ record way { up = up } ∷ []))) (sym l.pipes) (with_newest older (record way { up = up }) further l.pipe one ways);
+      pairs = subst (ArePipePairs (reverse (older ++ record pair { up = up } ∷ []))) (sym l.pipes) (with_newest older (record pair { up = up }) further l.pipe one pairs);
       held = λ open-now.
           let opened : is_open core.state.stage ≡ true = ap (λ state. is_open state.stage) (sym same) ∙ open-now in
           record {
@@ -149,8 +149,8 @@ finished older way before core shown m others p₀ further up rest l same many w
             further = further;
             pipes = l.pipes;
             older = older;
-            way = record way { up = up };
-            ways = refl;
+            pair = record pair { up = up };
+            pairs = refl;
             up = (on opened).0;
             came = l.came opened ∙ sym (on opened).2;
             sent = (on opened).1;
@@ -179,18 +179,18 @@ carrying_follows count old new result m s up h =
     let p = held.pipe in
     let others = held.others in
     let further = held.further in
-    let same : h.way ≡ held.way = last_same h.older held.older h.way held.way (sym h.newest ∙ held.ways) in
-    let ways = newest_way old.ways h.older h.way m.pipes further p h.newest held.pipes s.ways in
-    let piece = take count h.way.down in
-    let rest = drop count h.way.down in
+    let same : h.pair ≡ held.pair = last_same h.older held.older h.pair held.pair (sym h.newest ∙ held.pairs) in
+    let pairs = newest_pair old.pairs h.older h.pair m.pipes further p h.newest held.pipes s.pairs in
+    let piece = take count h.pair.down in
+    let rest = drop count h.pair.down in
     let p₁ : Pipe = record p { down = rest; came = record p.came { bytes = p.came.bytes ++ piece } } in
     let m₁ : ClientPipes = with_pipe 0 p₁ m in
     let counted : suc (length others) ≡ suc (length further) = sym (ap length held.connections) ∙ s.many ∙ ap length held.pipes in
     let many : length others ≡ length further = omega (arith, counted) in
     let coming : ClientStep m m₁ =
     ClientStep.arrives 0 held.connection p piece rest (ap (λ l. slice_get l 0) held.connections) (ap (λ l. slice_get l 0) held.pipes)
-    (ways.0.down ∙ sym (take-append-drop count h.way.down)) in
-    let start : IsInMidst h.way.up (fed piece old.core) m₁ others p₁ further =
+    (pairs.0.down ∙ sym (take-append-drop count h.pair.down)) in
+    let start : IsInMidst h.pair.up (fed piece old.core) m₁ others p₁ further =
     record {
       keeper = s.keeper;
       fits = s.fits;
@@ -200,39 +200,39 @@ carrying_follows count old new result m s up h =
       pipe = p₁;
       pipes = ap (λ l. set l 0 p₁) held.pipes;
       leads = (refl, refl, refl);
-      up = held.up ∙ ap (λ (way : Way). way.up) (sym same) ∙ sym (append-nil h.way.up) ∙ ap (λ l. h.way.up ++ l) (sym held.sent);
+      up = held.up ∙ ap (λ (pair : PipePair). pair.up) (sym same) ∙ sym (append-nil h.pair.up) ∙ ap (λ l. h.pair.up ++ l) (sym held.sent);
       came = ap (λ (c : Stream). record c { bytes = c.bytes ++ piece }) held.came;
     } in
     let r = has_read piece old.core.state.stage old.core h.core h.read up h.carried in
-    let l = ends h.way.up r.last h.core m₁ others p₁ further h.read (handled_stays (fed piece old.core) r.last r.handled up)
-    (all_go h.way.up (fed piece old.core) r.last m₁ others p₁ further up start r.handled) r.ends in
-    shown count old new result m h others further p₁ m₁ many ways.1 ways.0.node ways.0.port refl coming refl l h.goes_up
+    let l = ends h.pair.up r.last h.core m₁ others p₁ further h.read (handled_stays (fed piece old.core) r.last r.handled up)
+    (all_go h.pair.up (fed piece old.core) r.last m₁ others p₁ further up start r.handled) r.ends in
+    shown count old new result m h others further p₁ m₁ many pairs.1 pairs.0.node pairs.0.port refl coming refl l h.goes_up
   where
     shown : (count : ℕ) (old new : Piped) (result : Result (Unit {0}) ClientError) (m : ClientPipes) (h : CarriesDown count old result new) (others : List ClientConnection)
-        (further : List Pipe) (p₁ : Pipe) (m₁ : ClientPipes) → length others ≡ length further → AreWays (reverse h.older) further → p₁.node ≡ h.way.node →
-        p₁.port ≡ h.way.port → p₁.down ≡ drop count h.way.down → (coming : ClientStep m m₁) → published_with coming ≡ [] → Leaves h.way.up h.core m₁ others p₁ further →
-        ((result ≡ h.read) × (new ≡ piped_up h.core h.older (come_down count h.way)))
-        ⊎ ((result ≡ Err errors.Memory) × (new ≡ broken h.core (h.older ++ come_down count h.way ∷ []))) → ModelFollows [] m new
-    shown count old new result m h others further p₁ m₁ many ways node port down coming silent l (inl end) =
-        let up = h.way.up ++ h.core.out in
+        (further : List Pipe) (p₁ : Pipe) (m₁ : ClientPipes) → length others ≡ length further → ArePipePairs (reverse h.older) further → p₁.node ≡ h.pair.node →
+        p₁.port ≡ h.pair.port → p₁.down ≡ drop count h.pair.down → (coming : ClientStep m m₁) → published_with coming ≡ [] → Leaves h.pair.up h.core m₁ others p₁ further →
+        ((result ≡ h.read) × (new ≡ piped_up h.core h.older (come_down count h.pair)))
+        ⊎ ((result ≡ Err errors.Memory) × (new ≡ broken h.core (h.older ++ come_down count h.pair ∷ []))) → ModelFollows [] m new
+    shown count old new result m h others further p₁ m₁ many pairs node port down coming silent l (inl end) =
+        let up = h.pair.up ++ h.core.out in
         record {
           next = l.last;
           goes = first_then coming l.steps;
           publishes = then_silent coming l.steps silent l.silent;
           stands = subst (λ q. ClientStandsFor q l.last) (sym end.1)
-              (finished h.older (come_down count h.way) h.way.up h.core (record h.core { out = [] }) l.last others p₁ further up [] l.left refl many ways
-              (way_up h.older (come_down count h.way) h.way.up h.core l.last others p₁ further up [] l.left node port down (sym (append-nil up)))
+              (finished h.older (come_down count h.pair) h.pair.up h.core (record h.core { out = [] }) l.last others p₁ further up [] l.left refl many pairs
+              (pair_up h.older (come_down count h.pair) h.pair.up h.core l.last others p₁ further up [] l.left node port down (sym (append-nil up)))
               (λ on. (l.left.up, refl, refl)));
         }
-    shown count old new result m h others further p₁ m₁ many ways node port down coming silent l (inr end) =
-        let gone-now = lose h.way.up h.core (gone h.core) m₁ others p₁ further refl l in
+    shown count old new result m h others further p₁ m₁ many pairs node port down coming silent l (inr end) =
+        let gone-now = lose h.pair.up h.core (gone h.core) m₁ others p₁ further refl l in
         record {
           next = gone-now.last;
           goes = first_then coming gone-now.steps;
           publishes = then_silent coming gone-now.steps silent gone-now.silent;
           stands = subst (λ q. ClientStandsFor q gone-now.last) (sym end.1)
-              (finished h.older (come_down count h.way) h.way.up (gone h.core) (gone h.core) gone-now.last others p₁ further h.way.up h.core.out gone-now.left
-              refl many ways
-              (way_up h.older (come_down count h.way) h.way.up (gone h.core) gone-now.last others p₁ further h.way.up h.core.out gone-now.left node port down refl)
+              (finished h.older (come_down count h.pair) h.pair.up (gone h.core) (gone h.core) gone-now.last others p₁ further h.pair.up h.core.out gone-now.left
+              refl many pairs
+              (pair_up h.older (come_down count h.pair) h.pair.up (gone h.core) gone-now.last others p₁ further h.pair.up h.core.out gone-now.left node port down refl)
               (λ on. absurd (both_ways false refl on)));
         }

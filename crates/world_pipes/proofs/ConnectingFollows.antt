@@ -19,16 +19,16 @@ use Rattle.headline.specs.node_moves.Puts.{spelled}
 use Rattle.world_base.specs.declared.node_core.Port.{Port}
 use Rattle.headline.specs.byte_world.World.{ClientPipes, new_client}
 use Rattle.headline.specs.byte_world.ClientSteps.{after_connecting}
-use Rattle.world_pipes.specs.declared.way.Way.{Way}
-use Rattle.world_pipes.specs.Following.{ConnectingFollows, FollowsAll}
+use Rattle.world_pipes.specs.declared.pair.PipePair.{PipePair}
+use Rattle.world_pipes.specs.ModelSteps.{ConnectingFollows, FollowsAll}
 use Rattle.world_pipes.specs.Steps.{ClientTrace}
-use Rattle.world_pipes.specs.Piped.{SendsConnect, Piped, is_holding, new_piped, new_way, piped, piped_up}
+use Rattle.world_pipes.specs.Piped.{SendsConnect, Piped, is_holding, new_piped, new_pair, piped, piped_up}
 use Rattle.exactly_once.specs.Acceptance.{accepted_on}
-use Rattle.world_pipes.specs.StandsFor.{AreWays, CanGoOut, ClientStandsFor}
+use Rattle.world_pipes.specs.StandsFor.{ArePipePairs, CanGoOut, ClientStandsFor}
 use Rattle.headline.specs.byte_world.Accepted.{accepted_at_qos2}
 use Rattle.world_pipes.proofs.PacketsHandled.{appended}
 use Rattle.world_pipes.proofs.TakenBack.{opened_and_lost}
-use Rattle.world_pipes.proofs.Ways.{with_newest}
+use Rattle.world_pipes.proofs.Pairs.{with_newest}
 
 -- ---- a client that was never connected
 
@@ -39,7 +39,7 @@ new_stands client fits =
         client = refl;
         released = refl;
         sent = refl;
-        unsent = refl;
+        queued = refl;
         received = λ id. refl;
         requests = refl;
         is_open = refl;
@@ -49,10 +49,10 @@ new_stands client fits =
         sent_first = tt;
         online_sent = λ on. refl;
       };
-      fits = record { keep_alive = refl; client = fits; released = tt; sent = tt; unsent = tt };
+      fits = record { keep_alive = refl; client = fits; released = tt; sent = tt; queued = tt };
       accepted = refl;
       many = refl;
-      ways = tt;
+      pairs = tt;
       held = λ up. absurd (both_ways false refl up);
     }
 
@@ -68,7 +68,7 @@ opened_stands keeper state s =
       client = s.client;
       released = s.released;
       sent = s.sent;
-      unsent = s.unsent;
+      queued = s.queued;
       received = s.received;
       requests = refl;
       is_open = refl;
@@ -85,10 +85,10 @@ not_there : (client : Piped) (m : ClientPipes) → is_holding client ≡ false �
 not_there client m closed up = both_ways (is_holding client) closed up
 
 opened_fits : (state : ClientState) → CanGoOut state → CanGoOut (keeper_step Call.Opens state).state
-opened_fits state fits = record { keep_alive = fits.keep_alive; client = fits.client; released = fits.released; sent = fits.sent; unsent = fits.unsent }
+opened_fits state fits = record { keep_alive = fits.keep_alive; client = fits.client; released = fits.released; sent = fits.sent; queued = fits.queued }
 
 connected : (node : ℕ) (port : Port) (old : Piped) (core : Core) (m : ClientPipes) (x : ConnectionName) → ClientStandsFor old m →
-    OpensConnection (keeper_step Call.Opens old.core.state) old.core (Ok tt) core → ClientStandsFor (piped_up core old.ways (new_way node port)) (after_connecting x node port m)
+    OpensConnection (keeper_step Call.Opens old.core.state) old.core (Ok tt) core → ClientStandsFor (piped_up core old.pairs (new_pair node port)) (after_connecting x node port m)
 connected node port old core m x s opens =
     let client : old.core.state.client ≡ m.keeper.client = s.keeper.client in
     let is : packets.Connect (record { client = old.core.state.client; clean = false; keep_alive = old.core.state.keep_alive })
@@ -98,14 +98,14 @@ connected node port old core m x s opens =
     let out : core.out ≡ spelled (packets.Connect (record { client = m.keeper.client; clean = false; keep_alive = 0 }) ∷ []) =
     appended [] core.out (packets.Connect (record { client = m.keeper.client; clean = false; keep_alive = 0 }) ∷ []) (fits, tt)
     (subst (λ p. AppendsAll [] core.out (p ∷ [])) is opens.1) in
-    let way : Way = record (new_way node port) { up = core.out } in
+    let pair : PipePair = record (new_pair node port) { up = core.out } in
     record {
       keeper = subst (history.KeeperStandsFor (record (handling.lost m.keeper) { is_open = true })) (sym opens.0) (opened_stands m.keeper old.core.state s.keeper);
       fits = subst CanGoOut (sym opens.0) (opened_fits old.core.state s.fits);
       accepted = ap (λ (state : ClientState). accepted_at_qos2 state.accepted) opens.0 ∙ s.accepted ∙ sym (append-nil (accepted_on m.connections));
       many = ap suc s.many;
-      ways = with_newest old.ways way m.pipes _
-          (record { node = refl; port = refl; up = record { rest = []; is = sym out ∙ sym (append-nil core.out) }; down = refl }) s.ways;
+      pairs = with_newest old.pairs pair m.pipes _
+          (record { node = refl; port = refl; up = record { rest = []; is = sym out ∙ sym (append-nil core.out) }; down = refl }) s.pairs;
       held = λ up. record {
         connection = opens_history.new_connection m.keeper.client x;
         others = m.connections;
@@ -119,9 +119,9 @@ connected node port old core m x s opens =
         };
         further = m.pipes;
         pipes = refl;
-        older = old.ways;
-        way = way;
-        ways = refl;
+        older = old.pairs;
+        pair = pair;
+        pairs = refl;
         up = sym out;
         came = sym opens.2;
         sent = refl;
@@ -134,7 +134,7 @@ connecting_follows node port old new (Ok done) closed (core, opens, is) = λ m x
   subst (λ p. ClientStandsFor p (after_connecting x node port m)) (sym is) (connected node port old core m x s opens),
   connect_is_packet m.keeper.client (subst (λ c. IsTrue (is_client c)) s.keeper.client s.fits.client),
 )
-connecting_follows node port old new (Err cause) closed (memory, ways, inl same) = λ m s.
-    record { next = m; goes = ClientTrace.stays; publishes = refl; stands = subst (λ p. ClientStandsFor p m) (sym (ap₂ piped same ways)) s }
-connecting_follows node port old new (Err cause) closed (memory, ways, inr (core, opens, lost)) =
-    subst (λ p. FollowsAll old p) (sym (ap₂ piped lost ways)) (opened_and_lost old core opens.0)
+connecting_follows node port old new (Err cause) closed (memory, pairs, inl same) = λ m s.
+    record { next = m; goes = ClientTrace.stays; publishes = refl; stands = subst (λ p. ClientStandsFor p m) (sym (ap₂ piped same pairs)) s }
+connecting_follows node port old new (Err cause) closed (memory, pairs, inr (core, opens, lost)) =
+    subst (λ p. FollowsAll old p) (sym (ap₂ piped lost pairs)) (opened_and_lost old core opens.0)

@@ -7,7 +7,7 @@ pub mod StepsInWorlds
 pub mod Renamed
 pub mod Spellable
 pub mod PacketsHandled
-pub mod Ways
+pub mod Pairs
 pub mod AcceptedAlike
 pub mod CarryingFollows
 pub mod TakenBack
@@ -18,6 +18,6 @@ pub mod ModelsCalls
 pub mod CallsFollow
 pub mod CallsOffline
 pub mod CallingFollows
-pub mod WaysApart
-pub mod WayChanged
+pub mod PairsApart
+pub mod PairChanged
 pub mod LeadsStay

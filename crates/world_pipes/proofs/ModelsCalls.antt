@@ -15,7 +15,7 @@ use Rattle.client_base.specs.State.{ClientState, is_online, is_open}
 use Rattle.client_base.specs.Answered.{ClientOutcome}
 use Rattle.client_base.specs.Called as called
 use Rattle.client_base.specs.Connected as connected
-use Rattle.client_base.specs.Publishing.{has_free_id, publish_refusal, published}
+use Rattle.client_base.specs.Publications.{has_free_id, publish_refusal, published}
 use Rattle.client_base.specs.Handled as handling
 use Rattle.client_base.specs.History as history
 use Rattle.client_base.specs.Keeper as keepers

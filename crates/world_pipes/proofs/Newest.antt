@@ -5,7 +5,7 @@ use Rattle.std.proofs.Math.Seq.{drop-cons, get_or-append_seam, set-append_seam}
 use Rattle.std.proofs.Math.ListN.{drop_of_length-le}
 use Rattle.client_base.specs.declared.error.ClientError.{ClientError}
 use Rattle.client.specs.Core.{Core}
-use Rattle.world_pipes.specs.declared.way.Way.{Way}
+use Rattle.world_pipes.specs.declared.pair.PipePair.{PipePair}
 use Rattle.world_pipes.specs.Inside.{MovesUp}
 
 -- ---- the last, and all before it
@@ -38,20 +38,20 @@ last_replaced older x y =
 
 -- ---- what is written goes up on it
 
-moved_up : (core : Core) (ways : List Way) (n : ℕ) (newest : Way) (up : List ℕ) (older : List Way) (way : Way) → n ≡ length ways →
-    newest ≡ slice_index_or ways (n - 1) newest → up ≡ newest.up ++ core.out → ways ≡ older ++ way ∷ [] →
-    slice_set ways (n - 1) (record newest { up = up }) ≡ older ++ record way { up = way.up ++ core.out } ∷ []
-moved_up core ways n newest up older way counted is moved splits =
-    let index : n - 1 ≡ length (older ++ way ∷ []) - 1 = ap (λ m. m - 1) counted ∙ ap (λ (all : List Way). length all - 1) splits in
-    let same : newest ≡ way = is ∙ ap₂ (λ (all : List Way) m. slice_index_or all m newest) splits index ∙ last_index older way newest in
-    ap₂ (λ (all : List Way) m. slice_set all m (record newest { up = up })) splits index
-    ∙ last_replaced older way (record newest { up = up })
+moved_up : (core : Core) (pairs : List PipePair) (n : ℕ) (newest : PipePair) (up : List ℕ) (older : List PipePair) (pair : PipePair) → n ≡ length pairs →
+    newest ≡ slice_index_or pairs (n - 1) newest → up ≡ newest.up ++ core.out → pairs ≡ older ++ pair ∷ [] →
+    slice_set pairs (n - 1) (record newest { up = up }) ≡ older ++ record pair { up = pair.up ++ core.out } ∷ []
+moved_up core pairs n newest up older pair counted is moved splits =
+    let index : n - 1 ≡ length (older ++ pair ∷ []) - 1 = ap (λ m. m - 1) counted ∙ ap (λ (all : List PipePair). length all - 1) splits in
+    let same : newest ≡ pair = is ∙ ap₂ (λ (all : List PipePair) m. slice_index_or all m newest) splits index ∙ last_index older pair newest in
+    ap₂ (λ (all : List PipePair) m. slice_set all m (record newest { up = up })) splits index
+    ∙ last_replaced older pair (record newest { up = up })
     ∙ ap (λ u. older ++ record newest { up = u } ∷ []) moved
-    ∙ ap (λ (w : Way). older ++ record w { up = w.up ++ core.out } ∷ []) same
+    ∙ ap (λ (w : PipePair). older ++ record w { up = w.up ++ core.out } ∷ []) same
 
-pub moved_where : (result : Result (Unit {0}) ClientError) (core left : Core) (ways : List Way) (n : ℕ) (newest : Way) (up : List ℕ)
-    → n ≡ length ways → newest ≡ slice_index_or ways (n - 1) newest → OnOk result (up ≡ newest.up ++ core.out) → OnOk result (left ≡ record core { out = [] })
-    → OnOk result (MovesUp core ways left (slice_set ways (n - 1) (record newest { up = up })))
-moved_where (Ok done) core left ways n newest up counted is moved handed =
-    record { handed = handed; moved = λ older way splits. moved_up core ways n newest up older way counted is moved splits }
-moved_where (Err cause) core left ways n newest up counted is moved handed = tt
+pub moved_where : (result : Result (Unit {0}) ClientError) (core left : Core) (pairs : List PipePair) (n : ℕ) (newest : PipePair) (up : List ℕ)
+    → n ≡ length pairs → newest ≡ slice_index_or pairs (n - 1) newest → OnOk result (up ≡ newest.up ++ core.out) → OnOk result (left ≡ record core { out = [] })
+    → OnOk result (MovesUp core pairs left (slice_set pairs (n - 1) (record newest { up = up })))
+moved_where (Ok done) core left pairs n newest up counted is moved handed =
+    record { handed = handed; moved = λ older pair splits. moved_up core pairs n newest up older pair counted is moved splits }
+moved_where (Err cause) core left pairs n newest up counted is moved handed = tt

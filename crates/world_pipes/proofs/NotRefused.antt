@@ -7,7 +7,7 @@ use Rattle.client_base.specs.declared.error.ClientError.{ClientError}
 use Rattle.client_base.specs.declared.error.ClientError.TheVariants as errors
 use Rattle.client_base.specs.State.{ClientState, is_online}
 use Rattle.client_base.specs.Answered.{ClientOutcome}
-use Rattle.client_base.specs.Publishing.{has_free_id, is_over_limit, publish_packet, publish_refusal}
+use Rattle.client_base.specs.Publications.{has_free_id, is_over_limit, publish_packet, publish_refusal}
 use Rattle.client_base.specs.Steps.{unless_refused}
 
 -- a call that is not refused

@@ -14,7 +14,7 @@ use Rattle.client_base.specs.Keeper as keepers
 use Rattle.client_base.proofs.FollowsHandled.{handled_follows}
 use Rattle.client_base.proofs.FollowsPackets.{Same}
 use Rattle.client.specs.Core.{AppendsAll, Core, IsDone}
-use Rattle.client.specs.Reading.{Handles, ReadsPacket, outcome_of_packet}
+use Rattle.client.specs.Input.{Handles, ReadsPacket, outcome_of_packet}
 use Rattle.headline.specs.node_moves.Puts.{spelled}
 use Rattle.exactly_once.specs.Sides.{ClientConnection, Side}
 use Rattle.headline.specs.byte_world.World.{ClientPipes, Pipe, newly_written}

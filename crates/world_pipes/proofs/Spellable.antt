@@ -7,7 +7,7 @@ use Rattle.packet.specs.declared.delivery.Delivery.{Delivery}
 use Rattle.packet.specs.declared.delivery.Delivery.TheVariants as deliveries
 use Rattle.packet.specs.declared.publish.Publish.{Publish}
 use Rattle.packet_base.specs.declared.qos.QoS.{QoS}
-use Rattle.packet_base.specs.declared.qos.QoS.TheVariants as qualities
+use Rattle.packet_base.specs.declared.qos.QoS.TheVariants as qos_levels
 use Rattle.packet.specs.declared.packet.Packet.{Packet}
 use Rattle.packet.specs.declared.packet.Packet.TheVariants as packets
 use Rattle.packet.specs.Spelling.{Fits, IsPacket}
@@ -47,9 +47,9 @@ answers_fit id fits = ((fits, tt, omega arith), (fits, tt, omega arith), (fits, 
 dup_fits_at : (qos : QoS) (id : ℕ) (retain : Bool) (topic payload : List ℕ) →
     IsPacket (publish_kept false (record { id = id; publication = record { retain = retain; qos = qos; topic = topic; payload = payload } })) →
     IsPacket (publish_kept true (record { id = id; publication = record { retain = retain; qos = qos; topic = topic; payload = payload } }))
-dup_fits_at qualities.AtMostOnce id retain topic payload fits = fits
-dup_fits_at qualities.AtLeastOnce id retain topic payload fits = fits
-dup_fits_at qualities.ExactlyOnce id retain topic payload fits = fits
+dup_fits_at qos_levels.AtMostOnce id retain topic payload fits = fits
+dup_fits_at qos_levels.AtLeastOnce id retain topic payload fits = fits
+dup_fits_at qos_levels.ExactlyOnce id retain topic payload fits = fits
 
 pub dup_fits : (kept : UnacknowledgedPublication) → IsPacket (publish_kept false kept) → IsPacket (publish_kept true kept)
 dup_fits kept fits = dup_fits_at kept.publication.qos kept.id kept.publication.retain kept.publication.topic kept.publication.payload fits
@@ -58,21 +58,21 @@ dup_fits kept fits = dup_fits_at kept.publication.qos kept.id kept.publication.r
 
 resent_fits : (state : ClientState) → CanGoOut state → Each IsPacket (resent state)
 resent_fits state fits =
-    each_append IsPacket (map packets.Pubrel state.released ++ map (publish_kept true) state.sent) (map (publish_kept false) state.unsent)
+    each_append IsPacket (map packets.Pubrel state.released ++ map (publish_kept true) state.sent) (map (publish_kept false) state.queued)
     (each_append IsPacket (map packets.Pubrel state.released) (map (publish_kept true) state.sent)
     (each_map IsPacket packets.Pubrel state.released
     (each_then IsId (λ id. IsPacket (packets.Pubrel id)) state.released (λ id one. (answers_fit id one).2) fits.released))
     (each_map IsPacket (publish_kept true) state.sent (each_then _ _ state.sent dup_fits fits.sent)))
-    (each_map IsPacket (publish_kept false) state.unsent fits.unsent)
+    (each_map IsPacket (publish_kept false) state.queued fits.queued)
 
 confirmed_where : (lacking : Bool) (present : Bool) (state : ClientState) → CanGoOut state →
     let kept = if lacking then discarded state else numbered state in
-    Each IsPacket (resent kept) × CanGoOut (record kept { sent = kept.sent ++ kept.unsent; unsent = []; stage = stages.Online; session_present = present })
+    Each IsPacket (resent kept) × CanGoOut (record kept { sent = kept.sent ++ kept.queued; queued = []; stage = stages.Online; session_present = present })
 confirmed_where true present state fits =
-    (tt, record { keep_alive = fits.keep_alive; client = fits.client; released = tt; sent = tt; unsent = tt })
+    (tt, record { keep_alive = fits.keep_alive; client = fits.client; released = tt; sent = tt; queued = tt })
 confirmed_where false present state fits = (
-  resent_fits (numbered state) (record { keep_alive = fits.keep_alive; client = fits.client; released = fits.released; sent = fits.sent; unsent = fits.unsent }),
-  record { keep_alive = fits.keep_alive; client = fits.client; released = fits.released; sent = each_append _ state.sent state.unsent fits.sent fits.unsent; unsent = tt },
+  resent_fits (numbered state) (record { keep_alive = fits.keep_alive; client = fits.client; released = fits.released; sent = fits.sent; queued = fits.queued }),
+  record { keep_alive = fits.keep_alive; client = fits.client; released = fits.released; sent = each_append _ state.sent state.queued fits.sent fits.queued; queued = tt },
 )
 
 confirmed_fits : (present : Bool) (state : ClientState) → CanGoOut state → AllSpelled (on_connack present state)
@@ -87,19 +87,19 @@ silently : (state : ClientState) → CanGoOut state → AllSpelled (record { sta
 silently state fits = record { writes = tt; left = fits }
 
 pub lost_fits : (state : ClientState) → CanGoOut state → CanGoOut (lost state)
-lost_fits state fits = record { keep_alive = fits.keep_alive; client = fits.client; released = fits.released; sent = fits.sent; unsent = fits.unsent }
+lost_fits state fits = record { keep_alive = fits.keep_alive; client = fits.client; released = fits.released; sent = fits.sent; queued = fits.queued }
 
 publish_fits : (p : Publish) (delivery : Delivery) (state : ClientState) → Fits (packets.Publish (record p { delivery = delivery })) → CanGoOut state → AllSpelled (on_publish p delivery state)
 publish_fits p deliveries.AtMostOnce state one fits =
-    record { writes = tt; left = record { keep_alive = fits.keep_alive; client = fits.client; released = fits.released; sent = fits.sent; unsent = fits.unsent } }
+    record { writes = tt; left = record { keep_alive = fits.keep_alive; client = fits.client; released = fits.released; sent = fits.sent; queued = fits.queued } }
 publish_fits p (deliveries.AtLeastOnce dup id) state one fits =
-    record { writes = ((answers_fit id one.1).0, tt); left = record { keep_alive = fits.keep_alive; client = fits.client; released = fits.released; sent = fits.sent; unsent = fits.unsent } }
+    record { writes = ((answers_fit id one.1).0, tt); left = record { keep_alive = fits.keep_alive; client = fits.client; released = fits.released; sent = fits.sent; queued = fits.queued } }
 publish_fits p (deliveries.ExactlyOnce dup id) state one fits =
     record { writes = ((answers_fit id one.1).1, tt); left = by (has_id id state.received) }
   where
     by : (b : Bool) → CanGoOut (if b then state else record state { accepted = (on_publish p deliveries.AtMostOnce state).state.accepted; received = state.received ++ id ∷ [] })
     by true = fits
-    by false = record { keep_alive = fits.keep_alive; client = fits.client; released = fits.released; sent = fits.sent; unsent = fits.unsent }
+    by false = record { keep_alive = fits.keep_alive; client = fits.client; released = fits.released; sent = fits.sent; queued = fits.queued }
 
 pubrec_fits : (id : ℕ) (state : ClientState) → IsId id → CanGoOut state → AllSpelled (on_pubrec id state)
 pubrec_fits id state one fits = by (list_any (awaits_pubrec id) state.sent)
@@ -121,7 +121,7 @@ pubrec_fits id state one fits = by (list_any (awaits_pubrec id) state.sent)
             client = fits.client;
             released = each_append IsId state.released (id ∷ []) fits.released (one, tt);
             sent = each_filter _ _ state.sent fits.sent;
-            unsent = fits.unsent;
+            queued = fits.queued;
           };
         }
     by false = again (has_id id state.released)
@@ -129,16 +129,16 @@ pubrec_fits id state one fits = by (list_any (awaits_pubrec id) state.sent)
 later_fits : (packet : Packet) (state : ClientState) → Fits packet → CanGoOut state → AllSpelled (on_later packet state)
 later_fits (packets.Publish p) state one fits = publish_fits p p.delivery state one fits
 later_fits (packets.Puback id) state one fits =
-    record { writes = tt; left = record { keep_alive = fits.keep_alive; client = fits.client; released = fits.released; sent = each_filter _ _ state.sent fits.sent; unsent = fits.unsent } }
+    record { writes = tt; left = record { keep_alive = fits.keep_alive; client = fits.client; released = fits.released; sent = each_filter _ _ state.sent fits.sent; queued = fits.queued } }
 later_fits (packets.Pubrec id) state one fits = pubrec_fits id state one fits
 later_fits (packets.Pubcomp id) state one fits =
-    record { writes = tt; left = record { keep_alive = fits.keep_alive; client = fits.client; released = each_filter IsId _ state.released fits.released; sent = fits.sent; unsent = fits.unsent } }
+    record { writes = tt; left = record { keep_alive = fits.keep_alive; client = fits.client; released = each_filter IsId _ state.released fits.released; sent = fits.sent; queued = fits.queued } }
 later_fits (packets.Pubrel id) state one fits =
-    record { writes = ((answers_fit id one).3, tt); left = record { keep_alive = fits.keep_alive; client = fits.client; released = fits.released; sent = fits.sent; unsent = fits.unsent } }
+    record { writes = ((answers_fit id one).3, tt); left = record { keep_alive = fits.keep_alive; client = fits.client; released = fits.released; sent = fits.sent; queued = fits.queued } }
 later_fits (packets.Suback s) state one fits =
-    record { writes = tt; left = record { keep_alive = fits.keep_alive; client = fits.client; released = fits.released; sent = fits.sent; unsent = fits.unsent } }
+    record { writes = tt; left = record { keep_alive = fits.keep_alive; client = fits.client; released = fits.released; sent = fits.sent; queued = fits.queued } }
 later_fits (packets.Unsuback id) state one fits =
-    record { writes = tt; left = record { keep_alive = fits.keep_alive; client = fits.client; released = fits.released; sent = fits.sent; unsent = fits.unsent } }
+    record { writes = tt; left = record { keep_alive = fits.keep_alive; client = fits.client; released = fits.released; sent = fits.sent; queued = fits.queued } }
 later_fits packets.Pingresp state one fits = record { writes = tt; left = fits }
 later_fits _ state one fits = record { writes = tt; left = lost_fits state fits }
 

@@ -18,10 +18,10 @@ use Rattle.client_base.specs.declared.stage.Stage.TheVariants as stages
 use Rattle.client_base.specs.State.{ClientState, is_open, is_online}
 use Rattle.client_base.specs.Answered.{ClientOutcome, on_publish, on_pubrec, awaits_pubrec}
 use Rattle.client_base.specs.Calls.{on_first, on_later, client_receives}
-use Rattle.client_base.specs.Publishing.{publish_refusal, published}
+use Rattle.client_base.specs.Publications.{publish_refusal, published}
 use Rattle.client_base.specs.Steps.{Call, keeper_step, request_refusal, subscribed, unsubscribed, unless_refused}
 use Rattle.client.specs.Core.{Core}
-use Rattle.client.specs.Reading.{Handles, OnBytes, EndsWith}
+use Rattle.client.specs.Input.{Handles, OnBytes, EndsWith}
 use Rattle.lists.specs.Lists.{has_id}
 use Rattle.world_pipes.specs.Inside.{stays_open}
 

@@ -10,15 +10,15 @@ use Rattle.client_base.specs.Steps.{Call, keeper_step}
 use Rattle.client_base.proofs.FollowsHandled.{lost_stands}
 use Rattle.client.specs.Core.{Core, gone}
 use Rattle.world_base.specs.declared.node_core.Port.{Port}
-use Rattle.world_pipes.specs.declared.way.Way.{Way}
-use Rattle.world_pipes.specs.Following.{FollowsAll, after_losing}
-use Rattle.world_pipes.specs.Piped.{SendsConnect, Piped, new_way, piped, taken_back}
-use Rattle.world_pipes.specs.StandsFor.{AreWays, CanGoOut}
+use Rattle.world_pipes.specs.declared.pair.PipePair.{PipePair}
+use Rattle.world_pipes.specs.ModelSteps.{FollowsAll, after_losing}
+use Rattle.world_pipes.specs.Piped.{SendsConnect, Piped, new_pair, piped, taken_back}
+use Rattle.world_pipes.specs.StandsFor.{ArePipePairs, CanGoOut}
 use Rattle.headline.specs.byte_world.Accepted.{accepted_at_qos2}
-use Rattle.world_pipes.proofs.Ways.{losing_goes, losing_publishes, same_pipes}
+use Rattle.world_pipes.proofs.Pairs.{losing_goes, losing_publishes, same_pipes}
 
 -- the model's client lost its connection, and opened none
-pub opened_and_lost : (old : Piped) (core : Core) → core.state ≡ (keeper_step Call.Opens old.core.state).state → FollowsAll old (piped (gone core) old.ways)
+pub opened_and_lost : (old : Piped) (core : Core) → core.state ≡ (keeper_step Call.Opens old.core.state).state → FollowsAll old (piped (gone core) old.pairs)
 opened_and_lost old core opens m s =
     record {
       next = after_losing m;
@@ -27,30 +27,30 @@ opened_and_lost old core opens m s =
       stands = record {
         keeper = subst (λ state. history.KeeperStandsFor (lost m.keeper) (closing.lost state)) (sym opens) (lost_stands m.keeper old.core.state s.keeper);
         fits = subst (λ state. CanGoOut (closing.lost state)) (sym opens)
-            (record { keep_alive = s.fits.keep_alive; client = s.fits.client; released = s.fits.released; sent = s.fits.sent; unsent = s.fits.unsent });
+            (record { keep_alive = s.fits.keep_alive; client = s.fits.client; released = s.fits.released; sent = s.fits.sent; queued = s.fits.queued });
         accepted = ap (λ (state : ClientState). accepted_at_qos2 state.accepted) opens ∙ s.accepted;
         many = s.many ∙ ap length (sym (same_pipes m));
-        ways = subst (AreWays (reverse old.ways)) (sym (same_pipes m)) s.ways;
+        pairs = subst (ArePipePairs (reverse old.pairs)) (sym (same_pipes m)) s.pairs;
         held = λ up. absurd (both_ways false refl up);
       };
     }
 
-all_but_last : (ways : List Way) (way : Way) → take (length (ways ++ way ∷ []) - 1) (ways ++ way ∷ []) ≡ ways
-all_but_last ways way =
-    let longer = length-append ways (way ∷ []) in
-    take_at ways (way ∷ []) (length (ways ++ way ∷ []) - 1) (let e : length ways ≡ length (ways ++ way ∷ []) - 1 = omega (arith, longer) in e)
+all_but_last : (pairs : List PipePair) (pair : PipePair) → take (length (pairs ++ pair ∷ []) - 1) (pairs ++ pair ∷ []) ≡ pairs
+all_but_last pairs pair =
+    let longer = length-append pairs (pair ∷ []) in
+    take_at pairs (pair ∷ []) (length (pairs ++ pair ∷ []) - 1) (let e : length pairs ≡ length (pairs ++ pair ∷ []) - 1 = omega (arith, longer) in e)
 
 -- one that its node does not take
 pub taking_back_follows : (node : ℕ) (port : Port) (old new : Piped) → SendsConnect node port (keeper_step Call.Opens old.core.state) old (Ok tt) new
     → FollowsAll old (taken_back new)
 taking_back_follows node port old new (core, opens, is) =
     let bare : Core = record core { out = [] } in
-    let way : Way = record (new_way node port) { up = core.out } in
+    let pair : PipePair = record (new_pair node port) { up = core.out } in
     subst (λ p. FollowsAll old p)
-    (sym (ap taken_back is ∙ ap (λ ways. piped (gone bare) ways) (all_but_last old.ways way))) (opened_and_lost old bare opens.0)
+    (sym (ap taken_back is ∙ ap (λ pairs. piped (gone bare) pairs) (all_but_last old.pairs pair))) (opened_and_lost old bare opens.0)
 
 -- after it connections lead to the same nodes
-pub taken_back_ways : (node : ℕ) (port : Port) (old new : Piped) → SendsConnect node port (keeper_step Call.Opens old.core.state) old (Ok tt) new
-    → (taken_back new).ways ≡ old.ways
-taken_back_ways node port old new (core, opens, is) =
-    ap (λ p. (taken_back p).ways) is ∙ all_but_last old.ways (record (new_way node port) { up = core.out })
+pub taken_back_pairs : (node : ℕ) (port : Port) (old new : Piped) → SendsConnect node port (keeper_step Call.Opens old.core.state) old (Ok tt) new
+    → (taken_back new).pairs ≡ old.pairs
+taken_back_pairs node port old new (core, opens, is) =
+    ap (λ p. (taken_back p).pairs) is ∙ all_but_last old.pairs (record (new_pair node port) { up = core.out })

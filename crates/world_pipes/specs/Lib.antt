@@ -5,5 +5,5 @@ pub mod Held
 pub mod Inside
 pub mod StandsFor
 pub mod Steps
-pub mod Following
+pub mod ModelSteps
 pub mod FollowingBytes

@@ -7,27 +7,27 @@ use Rattle.client_base.specs.declared.error.ClientError.TheVariants as errors
 use Rattle.client_base.specs.State.{is_open}
 use Rattle.client_base.specs.Answered.{ClientOutcome}
 use Rattle.client.specs.Core.{Core, AnswersCall, LeavesServer, OpensConnection, gone, new_core}
-use Rattle.client.specs.Reading.{OnBytes}
-use Rattle.world_pipes.specs.declared.way.Way.{Way}
+use Rattle.client.specs.Input.{OnBytes}
+use Rattle.world_pipes.specs.declared.pair.PipePair.{PipePair}
 use Rattle.world_pipes.specs.declared.sending.Sending.{Sending}
 use Rattle.world_pipes.specs.declared.sending.Sending.TheVariants as sendings
 
 -- a client, and its connections with the bytes in transit, the oldest first
 pub record Piped : Type 0 where
   pub core : Core
-  pub ways : List Way
+  pub pairs : List PipePair
 
 -- a `Piped` of a client and its connections
-abbrev pub piped : Core → List Way → Piped
-piped core ways = record { core = core; ways = ways }
+abbrev pub piped : Core → List PipePair → Piped
+piped core pairs = record { core = core; pairs = pairs }
 
 -- whether a client holds its newest connection
 abbrev pub is_holding : Piped → Bool
 is_holding client = is_open client.core.state.stage
 
 -- nothing is in transit yet
-abbrev pub new_way : ℕ → Port → Way
-new_way node port = record { node = node; port = port; up = []; down = [] }
+abbrev pub new_pair : ℕ → Port → PipePair
+new_pair node port = record { node = node; port = port; up = []; down = [] }
 
 -- a client that was never connected
 abbrev pub new_piped : List ℕ → Piped
@@ -36,24 +36,25 @@ new_piped client = piped (new_core client 0) []
 -- ---- what is written goes up
 
 -- what the client wrote is after what is in transit on its newest connection
-abbrev pub piped_up : Core → List Way → Way → Piped
-piped_up core older way =
-    piped (record core { out = [] }) (older ++ record way { up = way.up ++ core.out } ∷ [])
+abbrev pub piped_up : Core → List PipePair → PipePair → Piped
+piped_up core older pair =
+    piped (record core { out = [] }) (older ++ record pair { up = pair.up ++ core.out } ∷ [])
 
 -- there was no memory for what the client wrote: the connection is lost
-abbrev pub broken : Core → List Way → Piped
-broken core ways = piped (gone core) ways
+abbrev pub broken : Core → List PipePair → Piped
+broken core pairs = piped (gone core) pairs
 
 -- what a client wrote goes up on the last of its connections
-abbrev pub GoesUp : Core → List Way → Sending → Piped → Type 0
-GoesUp core ways sendings.Sent new =
-    (older : List Way) × (way : Way) × (ways ≡ older ++ way ∷ []) × (new ≡ piped_up core older way)
-GoesUp core ways sendings.Lost new = new ≡ broken core ways
+abbrev pub GoesUp : Core → List PipePair → Sending → Piped → Type 0
+GoesUp core pairs sendings.Sent new =
+    (older : List PipePair) × (pair : PipePair) × (pairs ≡ older ++ pair ∷ [])
+    × (new ≡ piped_up core older pair)
+GoesUp core pairs sendings.Lost new = new ≡ broken core pairs
 
 -- there is anything to send up only while a client holds a connection
-abbrev pub GoesUpWhere : Bool → Core → List Way → Sending → Piped → Type 0
-GoesUpWhere true core ways sending new = GoesUp core ways sending new
-GoesUpWhere false core ways sending new = (sending ≡ sendings.Sent) × (new ≡ piped core ways)
+abbrev pub GoesUpWhere : Bool → Core → List PipePair → Sending → Piped → Type 0
+GoesUpWhere true core pairs sending new = GoesUp core pairs sending new
+GoesUpWhere false core pairs sending new = (sending ≡ sendings.Sent) × (new ≡ piped core pairs)
 
 -- ---- calls
 
@@ -61,16 +62,16 @@ GoesUpWhere false core ways sending new = (sending ≡ sendings.Sent) × (new �
 abbrev pub Calls : ClientOutcome → Piped → Result Sending ClientError → Piped → Type 0
 Calls outcome old (Ok sending) new =
     (core : Core) × AnswersCall outcome old.core (Ok tt) core
-    × GoesUpWhere (is_holding old) core old.ways sending new
+    × GoesUpWhere (is_holding old) core old.pairs sending new
 Calls outcome old (Err cause) new =
-    AnswersCall outcome old.core (Err cause) new.core × (new.ways ≡ old.ways)
+    AnswersCall outcome old.core (Err cause) new.core × (new.pairs ≡ old.pairs)
 
 -- disconnecting is a call like the others
 abbrev pub TakesLeave : ClientOutcome → Piped → Result Sending ClientError → Piped → Type 0
 TakesLeave outcome old (Ok sending) new =
-    (core : Core) × LeavesServer outcome old.core (Ok tt) core × GoesUp core old.ways sending new
+    (core : Core) × LeavesServer outcome old.core (Ok tt) core × GoesUp core old.pairs sending new
 TakesLeave outcome old (Err cause) new =
-    LeavesServer outcome old.core (Err cause) new.core × (new.ways ≡ old.ways)
+    LeavesServer outcome old.core (Err cause) new.core × (new.pairs ≡ old.pairs)
 
 -- a client's CONNECT is all that is in transit on a new connection; only memory may run out, and
 -- then there is no connection
@@ -78,31 +79,32 @@ abbrev pub SendsConnect :
     ℕ → Port → ClientOutcome → Piped → Result (Unit {0}) ClientError → Piped → Type 0
 SendsConnect node port outcome old (Ok done) new =
     (core : Core) × OpensConnection outcome old.core (Ok tt) core
-    × (new ≡ piped_up core old.ways (new_way node port))
-SendsConnect node port outcome old (Err cause) new = (cause ≡ errors.Memory) × (new.ways ≡ old.ways)
+    × (new ≡ piped_up core old.pairs (new_pair node port))
+SendsConnect node port outcome old (Err cause) new =
+    (cause ≡ errors.Memory) × (new.pairs ≡ old.pairs)
     × ((new.core ≡ old.core)
     ⊎ ((core : Core) × OpensConnection outcome old.core (Ok tt) core × (new.core ≡ gone core)))
 
 -- a connection that its node does not take is removed: nothing is left of it
 abbrev pub taken_back : Piped → Piped
-taken_back client = piped (gone client.core) (take (length client.ways - 1) client.ways)
+taken_back client = piped (gone client.core) (take (length client.pairs - 1) client.pairs)
 
 -- ---- receiving
 
 -- the first bytes in transit to the client have come
-abbrev pub come_down : ℕ → Way → Way
-come_down count way = record way { down = drop count way.down }
+abbrev pub come_down : ℕ → PipePair → PipePair
+come_down count pair = record pair { down = drop count pair.down }
 
 -- The first bytes on the newest connection reach the client, and what it writes goes up. If there
 -- is no memory for that the answer is Memory, and the connection is lost.
 pub record CarriesDown (count : ℕ) (old : Piped) (result : Result (Unit {0}) ClientError)
     (new : Piped) : Type 0 where
-  pub older : List Way
-  pub way : Way
-  pub newest : old.ways ≡ older ++ way ∷ []
+  pub older : List PipePair
+  pub pair : PipePair
+  pub newest : old.pairs ≡ older ++ pair ∷ []
   pub core : Core
   pub read : Result (Unit {0}) ClientError
-  pub carried : OnBytes (take count way.down) old.core.state.stage old.core read core
+  pub carried : OnBytes (take count pair.down) old.core.state.stage old.core read core
   pub goes_up :
-      ((result ≡ read) × (new ≡ piped_up core older (come_down count way)))
-      ⊎ ((result ≡ Err errors.Memory) × (new ≡ broken core (older ++ come_down count way ∷ [])))
+      ((result ≡ read) × (new ≡ piped_up core older (come_down count pair)))
+      ⊎ ((result ≡ Err errors.Memory) × (new ≡ broken core (older ++ come_down count pair ∷ [])))

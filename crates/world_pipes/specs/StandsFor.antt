@@ -11,22 +11,22 @@ use Rattle.exactly_once.specs.Acceptance.{accepted_on}
 use Rattle.exactly_once.specs.Sides.{ClientConnection}
 use Rattle.headline.specs.byte_world.Accepted.{accepted_at_qos2}
 use Rattle.headline.specs.byte_world.World.{ClientPipes, Pipe}
-use Rattle.world_pipes.specs.declared.way.Way.{Way}
+use Rattle.world_pipes.specs.declared.pair.PipePair.{PipePair}
 use Rattle.world_pipes.specs.Piped.{Piped, is_holding}
 
 -- A connection leads where the model's does. Of what is in transit up, the end may be missing if
 -- memory ran out: then the connection is lost.
-pub record IsWay (way : Way) (pipe : Pipe) : Type 0 where
-  pub node : pipe.node ≡ way.node
-  pub port : pipe.port ≡ way.port
-  pub up : IsPrefixOf way.up pipe.up
-  pub down : pipe.down ≡ way.down
+pub record IsPipePair (pair : PipePair) (pipe : Pipe) : Type 0 where
+  pub node : pipe.node ≡ pair.node
+  pub port : pipe.port ≡ pair.port
+  pub up : IsPrefixOf pair.up pipe.up
+  pub down : pipe.down ≡ pair.down
 
 -- the connections correspond to the model's pipes, one to one and in the same order
-abbrev pub AreWays : List Way → List Pipe → Type 0
-AreWays (way ∷ ways) (pipe ∷ pipes) = IsWay way pipe × AreWays ways pipes
-AreWays [] [] = Unit {0}
-AreWays _ _ = ⊥
+abbrev pub ArePipePairs : List PipePair → List Pipe → Type 0
+ArePipePairs (pair ∷ pairs) (pipe ∷ pipes) = IsPipePair pair pipe × ArePipePairs pairs pipes
+ArePipePairs [] [] = Unit {0}
+ArePipePairs _ _ = ⊥
 
 -- the connection that is held, from end to end: what came and is not handled is what the client did
 -- not read
@@ -37,10 +37,10 @@ pub record IsHolding (client : Piped) (model : ClientPipes) : Type 0 where
   pub pipe : Pipe
   pub further : List Pipe
   pub pipes : model.pipes ≡ pipe ∷ further
-  pub older : List Way
-  pub way : Way
-  pub ways : client.ways ≡ older ++ way ∷ []
-  pub up : pipe.up ≡ way.up
+  pub older : List PipePair
+  pub pair : PipePair
+  pub pairs : client.pairs ≡ older ++ pair ∷ []
+  pub up : pipe.up ≡ pair.up
   pub came : pipe.came ≡ client.core.unread
   pub sent : client.core.out ≡ []
 
@@ -51,8 +51,8 @@ pub record CanGoOut (state : ClientState) : Type 0 where
   pub released : Each IsId state.released
   pub sent : Each
       (λ (kept : UnacknowledgedPublication). IsPacket (publish_kept false kept)) state.sent
-  pub unsent : Each
-      (λ (kept : UnacknowledgedPublication). IsPacket (publish_kept false kept)) state.unsent
+  pub queued : Each
+      (λ (kept : UnacknowledgedPublication). IsPacket (publish_kept false kept)) state.queued
 
 -- the client in code corresponds to this one of the model
 pub record ClientStandsFor (client : Piped) (model : ClientPipes) : Type 0 where
@@ -61,5 +61,5 @@ pub record ClientStandsFor (client : Piped) (model : ClientPipes) : Type 0 where
   -- at QoS 2 it shows what the model's client accepted, connection by connection
   pub accepted : accepted_at_qos2 client.core.state.accepted ≡ accepted_on model.connections
   pub many : length model.connections ≡ length model.pipes
-  pub ways : AreWays (reverse client.ways) model.pipes
+  pub pairs : ArePipePairs (reverse client.pairs) model.pipes
   pub held : is_holding client ≡ true → IsHolding client model

@@ -2,6 +2,6 @@ pub mod Clients
 pub mod SlotsAreValid
 pub mod NodesGoOn
 pub mod Opening
-pub mod Calling
-pub mod Carrying
-pub mod Handing
+pub mod ClientCalls
+pub mod Transport
+pub mod NodeOutput

@@ -22,9 +22,9 @@ impl Model for BytesInTransit {
 
     ghost Value = { List ℕ };
 
-    ghost view = { λ way. drop way.come way.bytes.items };
+    ghost view = { λ pair. drop pair.come pair.bytes.items };
 
-    ghost invariant = { λ way. way.come ≤ length way.bytes.items };
+    ghost invariant = { λ pair. pair.come ≤ length pair.bytes.items };
 }
 
 impl BytesInTransit {

@@ -2,8 +2,8 @@
 
 mod escape_error;
 mod event;
-mod scheduling;
+mod schedule;
 
 pub use escape_error::EscapeError;
 pub use event::Event;
-pub use scheduling::{push_answers, push_client, push_group};
+pub use schedule::{push_answers, push_client, push_group};

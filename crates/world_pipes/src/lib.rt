@@ -3,19 +3,19 @@
 #![tactic(auto)]
 
 mod bytes_in_transit;
-mod calling;
-mod carrying;
+mod calls;
 pub mod clients;
-mod connecting;
+mod connections;
 pub mod events;
-mod laws;
+mod pair;
 mod piped_client;
 mod sending;
-mod way;
+mod theorems;
+mod transport;
 
 pub use client::ClientCore;
 pub use client_base::{Accepted, ClientError};
-pub use laws::clients_step_in_worlds;
 pub use piped_client::PipedClient;
 pub use sending::Sending;
+pub use theorems::clients_step_in_worlds;
 pub use world_base::node_connections::Port;

@@ -3,12 +3,12 @@
 ghost use Rattle.std.specs.Prelude.{◌≡◌, ◌<◌, ◌≤◌, drop, length, set, slice_get, IfSome};
 ghost use Rattle.client.specs.Core.{gone};
 ghost use Rattle.headline.specs.byte_world.World.{new_client};
-ghost use Rattle.world_pipes.specs.Following.{FollowsLosing};
+ghost use Rattle.world_pipes.specs.ModelSteps.{FollowsLosing};
 ghost use Rattle.world_pipes.specs.FollowingBytes.{SwappingFollows, TakingUpFollows};
 ghost use Rattle.world_pipes.specs.Piped.{is_holding, new_piped};
 ghost use Rattle.world_pipes.specs.StandsFor.{ClientStandsFor};
 
-use crate::way::Way;
+use crate::pair::PipePair;
 use client::ClientCore;
 use packet_base::ClientId;
 use std::alloc::Global;
@@ -24,7 +24,7 @@ pub struct PipedClient {
     /// The client. While it holds a connection, all that it wrote on that went up.
     pub(crate) core: ClientCore,
     /// Its connections, the oldest first.
-    pub(crate) ways: Vec<Way>,
+    pub(crate) pairs: Vec<PipePair>,
     /// Whether it holds the newest connection.
     pub(crate) holds: bool,
 }
@@ -34,7 +34,7 @@ impl Drop for PipedClient {
         let PipedClient {
             alloc: _,
             core: _core,
-            ways: _ways,
+            pairs: _pairs,
             holds: _,
         } = self;
     }
@@ -46,9 +46,9 @@ impl Model for PipedClient {
 
     ghost Value = { Piped };
 
-    ghost view = { λ piped. record { core = piped.core; ways = piped.ways.items } };
+    ghost view = { λ piped. record { core = piped.core; pairs = piped.pairs.items } };
 
-    ghost invariant = { λ piped. IsHeld piped.holds piped.core piped.ways.items };
+    ghost invariant = { λ piped. IsHeld piped.holds piped.core piped.pairs.items };
 }
 
 impl PipedClient {
@@ -61,7 +61,7 @@ impl PipedClient {
         PipedClient {
             alloc,
             core: ClientCore::new(alloc, client, 0),
-            ways: Vec::new(alloc),
+            pairs: Vec::new(alloc),
             holds: false,
         }
     }
@@ -73,7 +73,7 @@ impl PipedClient {
         &self.core
     }
 
-    /// Says whether it holds its newest connection.
+    /// Returns true if it holds its newest connection.
     pub fn is_open(&self) -> bool
         ensures { result ≡ is_holding self.now }
     {
@@ -82,45 +82,45 @@ impl PipedClient {
 
     /// Returns how many connections it opened.
     pub fn len(&self) -> usize
-        ensures { result ≡ length self.now.ways }
+        ensures { result ≡ length self.now.pairs }
     {
-        self.ways.len()
+        self.pairs.len()
     }
 
     /// Returns where a connection leads: the index of its node, and the port by which the node
     /// knows it.
     pub fn leads_to(&self, at: usize) -> (usize, Port)
-        requires { at < length self.now.ways }
-        ensures { IfSome (slice_get self.now.ways at) (λ way. result ≡ (way.node, way.port)) }
+        requires { at < length self.now.pairs }
+        ensures { IfSome (slice_get self.now.pairs at) (λ pair. result ≡ (pair.node, pair.port)) }
     {
-        let way = &self.ways[at];
-        (way.node, way.port)
+        let pair = &self.pairs[at];
+        (pair.node, pair.port)
     }
 
     /// Returns what is in transit on a connection to its node.
     pub fn up(&self, at: usize) -> &[u8]
-        requires { at < length self.now.ways }
-        ensures { IfSome (slice_get self.now.ways at) (λ way. result.now ≡ way.up) }
+        requires { at < length self.now.pairs }
+        ensures { IfSome (slice_get self.now.pairs at) (λ pair. result.now ≡ pair.up) }
     {
-        self.ways[at].up.as_slice()
+        self.pairs[at].up.as_slice()
     }
 
     /// Returns what is in transit on a connection to the client.
     pub fn down(&self, at: usize) -> &[u8]
-        requires { at < length self.now.ways }
-        ensures { IfSome (slice_get self.now.ways at) (λ way. result.now ≡ way.down) }
+        requires { at < length self.now.pairs }
+        ensures { IfSome (slice_get self.now.pairs at) (λ pair. result.now ≡ pair.down) }
     {
-        self.ways[at].down.as_slice()
+        self.pairs[at].down.as_slice()
     }
 
     /// Removes the first `count` bytes from those in transit to a node: they have reached it.
     pub fn take_up(&mut self, at: usize, count: usize)
-        requires at { at < length self.old.ways }
-        requires count { IfSome (slice_get self.old.ways at) (λ way. count ≤ length way.up) }
-        ensures taken { IfSome (slice_get self.old.ways at) (λ way. self.new
+        requires at { at < length self.old.pairs }
+        requires count { IfSome (slice_get self.old.pairs at) (λ pair. count ≤ length pair.up) }
+        ensures taken { IfSome (slice_get self.old.pairs at) (λ pair. self.new
             ≡ record self.old {
-              ways = set self.old.ways at
-                  (record way { up = drop count way.up });
+              pairs = set self.old.pairs at
+                  (record pair { up = drop count pair.up });
             }) }
         ensures goes { TakingUpFollows at count self.old self.new }
     {
@@ -129,28 +129,28 @@ impl PipedClient {
 
     // Takes the first `count` bytes that are in transit to a node from the front.
     fn come_up(&mut self, at: usize, count: usize)
-        requires at { at < length self.old.ways }
-        requires count { IfSome (slice_get self.old.ways at) (λ way. count ≤ length way.up) }
-        ensures { IfSome (slice_get self.old.ways at) (λ way. self.new
+        requires at { at < length self.old.pairs }
+        requires count { IfSome (slice_get self.old.pairs at) (λ pair. count ≤ length pair.up) }
+        ensures { IfSome (slice_get self.old.pairs at) (λ pair. self.new
             ≡ record self.old {
-              ways = set self.old.ways at
-                  (record way { up = drop count way.up });
+              pairs = set self.old.pairs at
+                  (record pair { up = drop count pair.up });
             }) }
     {
-        let way = &mut self.ways[at];
-        way.up.take(count);
+        let pair = &mut self.pairs[at];
+        pair.up.take(count);
     }
 
     /// Exchanges what is in transit on a connection to the client, so that a node may hand over
     /// more after it.
     pub fn swap_down(&mut self, at: usize, bytes: &mut Vec<u8>)
-        requires { at < length self.old.ways }
-        ensures left { IfSome (slice_get self.old.ways at) (λ way. self.new
+        requires { at < length self.old.pairs }
+        ensures left { IfSome (slice_get self.old.pairs at) (λ pair. self.new
             ≡ record self.old {
-              ways = set self.old.ways at
-                  (record way { down = bytes.old.items });
+              pairs = set self.old.pairs at
+                  (record pair { down = bytes.old.items });
             }) }
-        ensures given { IfSome (slice_get self.old.ways at) (λ way. bytes.new.items ≡ way.down) }
+        ensures given { IfSome (slice_get self.old.pairs at) (λ pair. bytes.new.items ≡ pair.down) }
         ensures goes { SwappingFollows at bytes.old.items self.old self.new }
     {
         self.exchange(at, bytes);
@@ -158,16 +158,16 @@ impl PipedClient {
 
     // Exchanges what is in transit on a connection to the client.
     fn exchange(&mut self, at: usize, bytes: &mut Vec<u8>)
-        requires { at < length self.old.ways }
-        ensures left { IfSome (slice_get self.old.ways at) (λ way. self.new
+        requires { at < length self.old.pairs }
+        ensures left { IfSome (slice_get self.old.pairs at) (λ pair. self.new
             ≡ record self.old {
-              ways = set self.old.ways at
-                  (record way { down = bytes.old.items });
+              pairs = set self.old.pairs at
+                  (record pair { down = bytes.old.items });
             }) }
-        ensures given { IfSome (slice_get self.old.ways at) (λ way. bytes.new.items ≡ way.down) }
+        ensures given { IfSome (slice_get self.old.pairs at) (λ pair. bytes.new.items ≡ pair.down) }
     {
-        let way = &mut self.ways[at];
-        way.down.swap(bytes);
+        let pair = &mut self.pairs[at];
+        pair.down.swap(bytes);
     }
 
     /// Loses the connection, if it holds one. What is in transit on it stays.

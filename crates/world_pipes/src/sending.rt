@@ -3,7 +3,7 @@
 ghost use Rattle.std.specs.Prelude.{◌≡◌, ◌<◌, true, length, OnOk, OnErr, IsErrOf};
 ghost use Rattle.world_pipes.specs.Inside.{MovesUp, SendsUp};
 
-use crate::way::Way;
+use crate::pair::PipePair;
 use client::ClientCore;
 use client_base::ClientError;
 
@@ -18,14 +18,14 @@ pub enum Sending {
 
 /// Sends what a client wrote up on its newest connection, if the client holds it. If memory runs
 /// out, the connection is lost.
-pub(crate) fn send_up(core: &mut ClientCore, ways: &mut Vec<Way>, holds: &mut bool) -> Sending
-    requires { holds.old ≡ true → 0 < length ways.old.items }
-    ensures { SendsUp holds.old core.old ways.old.items result holds.new core.new ways.new.items }
+pub(crate) fn send_up(core: &mut ClientCore, pairs: &mut Vec<PipePair>, holds: &mut bool) -> Sending
+    requires { holds.old ≡ true → 0 < length pairs.old.items }
+    ensures { SendsUp holds.old core.old pairs.old.items result holds.new core.new pairs.new.items }
 {
     if !*holds {
         return Sending::Sent;
     }
-    if move_up(core, ways).is_ok() {
+    if move_up(core, pairs).is_ok() {
         return Sending::Sent;
     }
     core.lose_connection();
@@ -34,14 +34,14 @@ pub(crate) fn send_up(core: &mut ClientCore, ways: &mut Vec<Way>, holds: &mut bo
 }
 
 /// Sends what a client wrote up on its newest connection. If memory runs out nothing changes.
-pub(crate) fn move_up(core: &mut ClientCore, ways: &mut Vec<Way>) -> Result<(), ClientError>
-    requires { 0 < length ways.old.items }
-    ensures ok { OnOk result (MovesUp core.old ways.old.items core.new ways.new.items) }
+pub(crate) fn move_up(core: &mut ClientCore, pairs: &mut Vec<PipePair>) -> Result<(), ClientError>
+    requires { 0 < length pairs.old.items }
+    ensures ok { OnOk result (MovesUp core.old pairs.old.items core.new pairs.new.items) }
     ensures memory { OnErr result (IsErrOf result ClientError.Memory) }
     ensures same { OnErr result (core.new ≡ core.old) }
-    ensures err { OnErr result (ways.new.items ≡ ways.old.items) }
+    ensures err { OnErr result (pairs.new.items ≡ pairs.old.items) }
 {
-    let newest = ways.len() - 1;
-    let way = &mut ways[newest];
-    way.up.follow(core)
+    let newest = pairs.len() - 1;
+    let pair = &mut pairs[newest];
+    pair.up.follow(core)
 }

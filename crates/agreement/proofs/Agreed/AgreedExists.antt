@@ -8,18 +8,18 @@ use Rattle.agreement.specs.World.{GroupWorld}
 use Rattle.lists.specs.Lists.{In, IsPrefixOf}
 use Rattle.lists.specs.Lists.In.{here, there}
 use Rattle.agreement.specs.Inside.Chosen.{IsAgreedIn}
-use Rattle.agreement.specs.Inside.Ballots.{Given, Line, History, Told, IsChosenIn}
+use Rattle.agreement.specs.Inside.Ballots.{Given, Line, History, Acknowledged, IsChosenIn}
 use Rattle.agreement.specs.Inside.BallotsStand.{IsChain}
 use Rattle.agreement.specs.MasterState.{MasterState}
 use Rattle.agreement.specs.Inside.Masters.{IsMaster}
 use Rattle.agreement.specs.Inside.Sound.{IsSoundWorld}
-use Rattle.agreement.specs.Inside.ToldLengths.{told_length, least_of, chosen_length}
+use Rattle.agreement.specs.Inside.AcknowledgedLengths.{acknowledged_length, least_of, chosen_length}
 use Rattle.lists.proofs.Prefixes.{prefix_then, prefix_take, take_prefix}
 use Rattle.agreement.proofs.Frame.Apart.{chosen_within}
 use Rattle.agreement.proofs.Masters.Assigned.{at_most_newest}
 use Rattle.agreement.proofs.Frame.Framing.{within_of}
 use Rattle.agreement.proofs.Frame.SaysLater.{told_less}
-use Rattle.agreement.proofs.Agreed.MaxTold.{told_whole, told_at_most}
+use Rattle.agreement.proofs.Agreed.MaxAcknowledged.{told_whole, told_at_most}
 use Rattle.agreement.proofs.Frame.Bases.{chosen_told, base_is, one_line}
 use Rattle.agreement.proofs.Frame.Taking.{activated_base}
 
@@ -53,12 +53,12 @@ pub chosen_least : {S C O : Type 0} (rules : Rules S C O) (w : GroupWorld S C O)
 chosen_least {S = S} {C = C} rules w h b g l s active given lined = (
   g,
   given,
-  λ m i. told_less w h m b (told_length w.sent b g l m) (chosen_length w.sent b g l)
-      (least_each (length l.list) (told_length w.sent b g l) g.members m i)
+  λ m i. told_less w h m b (acknowledged_length w.sent b g l m) (chosen_length w.sent b g l)
+      (least_each (length l.list) (acknowledged_length w.sent b g l) g.members m i)
       (told_whole w h m b g l given lined (some_told m i)),
 )
   where
-    some_told : (m : ℕ) → In m g.members → Told w h m b 0
+    some_told : (m : ℕ) → In m g.members → Acknowledged w h m b 0
     some_told m i =
         let t = s.lines.told b active in
         told_less w h m b (length t.0.base) 0 (omega arith) (chosen_told w h b (length t.0.base) g m t.2 given i)
@@ -67,7 +67,7 @@ chosen_least {S = S} {C = C} rules w h b g l s active given lined = (
 pub chosen_at_most : {S C O : Type 0} (rules : Rules S C O) (w : GroupWorld S C O) (h : History C) (b j : ℕ) (g : Given) (l : Line C) →
     IsSoundWorld rules w h → h.given b ≡ Some g → h.line b ≡ Some l → IsChosenIn w h b j → j ≤ chosen_length w.sent b g l
 chosen_at_most rules w h b j g l s given lined chosen =
-    least_most (length l.list) (told_length w.sent b g l) g.members j
+    least_most (length l.list) (acknowledged_length w.sent b g l) g.members j
     (chosen_within w h s.ballots (within_of rules w h s) b j l lined chosen)
     (λ m i. told_at_most rules w h m b j g l s given lined (chosen_told w h b j g m chosen given i))
 
@@ -93,7 +93,7 @@ newest_agreed {S = S} {C = C} rules w h b older g l s newest given lined =
     active = subst (λ bs. In b bs) (sym newest) here
 
     top : chosen_length w.sent b g l ≤ length l.list
-    top = least_top (length l.list) (told_length w.sent b g l) g.members
+    top = least_top (length l.list) (acknowledged_length w.sent b g l) g.members
 
     by_order : (c j : ℕ) (y : Line C) → In c h.activated → h.line c ≡ Some y → IsChosenIn w h c j → (c < b) ⊎ (b ≤ c) →
         IsPrefixOf (take j y.list) (take (chosen_length w.sent b g l) l.list)

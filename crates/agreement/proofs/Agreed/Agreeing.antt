@@ -9,7 +9,7 @@ use Rattle.agreement.specs.World.{GroupWorld}
 use Rattle.lists.specs.Lists.{In, IsPrefixOf}
 use Rattle.agreement.specs.Inside.Chosen.{ChosenList, IsAgreedIn}
 use Rattle.agreement.specs.Agreement.{Agrees}
-use Rattle.agreement.specs.Leaving.{LeftInOrder, Segment}
+use Rattle.agreement.specs.LeftOutputs.{LeftInOrder, Segment}
 use Rattle.agreement.specs.Moments.{Moment, WasActive}
 use Rattle.agreement.specs.Inside.Ballots.{Line, History, IsChosenIn}
 use Rattle.agreement.specs.Inside.Keeps.{HistoryGoesOn}

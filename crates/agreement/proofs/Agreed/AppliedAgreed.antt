@@ -8,7 +8,7 @@ use Rattle.agreement.specs.World.{GroupWorld}
 use Rattle.lists.specs.Lists.{In, IsPrefixOf}
 use Rattle.lists.specs.Lists.In.{here}
 use Rattle.agreement.specs.Inside.Chosen.{ChosenList, IsAgreedIn}
-use Rattle.agreement.specs.Inside.Ballots.{Given, Line, History, Told, Sealed, IsChosenIn}
+use Rattle.agreement.specs.Inside.Ballots.{Given, Line, History, Acknowledged, Sealed, IsChosenIn}
 use Rattle.agreement.specs.Inside.BallotsStand.{IsChain, Applied}
 use Rattle.agreement.specs.Inside.BallotsStand.Applied.{nothing, in_ballot}
 use Rattle.agreement.specs.Inside.Sound.{IsSoundWorld}
@@ -42,7 +42,7 @@ newest_held {S = S} {C = C} {O = O} rules w h b k older g l n r s newest given m
     active : In b h.activated
     active = subst (λ bs. In b bs) (sym newest) here
 
-    told : Told w h (n + 1) b k
+    told : Acknowledged w h (n + 1) b k
     told = chosen_told w h b k g (n + 1) chosen given member
 
     between : (x : Given) × (h.given r.held_in ≡ Some x) × ((y : Line C) × (h.line r.held_in ≡ Some y)
@@ -68,7 +68,7 @@ newest_held {S = S} {C = C} {O = O} rules w h b k older g l n r s newest given m
         let z = t.placed.told b k told in let same : b ≡ r.held_in = omega (arith, z, low) in
         let y = between.2.0 in
         let one : y ≡ l = one_line (h.line r.held_in) y l between.2.1 (ap h.line (sym same) ∙ lined) in
-        let long = t.placed.told_here k (subst (λ c. Told w h (n + 1) c k) same told) in
+        let long = t.placed.acknowledged_here k (subst (λ c. Acknowledged w h (n + 1) c k) same told) in
         let list : IsPrefixOf r.log l.list = subst (λ (u : Line C). IsPrefixOf r.log u.list) one between.2.3 in
         subst (λ (us : List C). IsPrefixOf us r.log) (sym (take_prefix k list long)) (prefix_take k r.log)
 

@@ -4,12 +4,12 @@ use Rattle.machine.specs.Machine.{Rules}
 use Rattle.lists.specs.Lists.{In}
 use Rattle.lists.specs.Lists.In.{here, there}
 use Rattle.ballot_base.specs.declared.config.Config.{Config}
-use Rattle.agreement.specs.Inside.Ballots.{Given, History, Told, TellsHere}
-use Rattle.agreement.specs.Inside.Extending.{Extends}
+use Rattle.agreement.specs.Inside.Ballots.{Given, History, Acknowledged, TellsHere}
+use Rattle.agreement.specs.Inside.Extension.{Extends}
 use Rattle.agreement.specs.Inside.Serves.{Serves}
 use Rattle.agreement.specs.Inside.OpeningHistory.{first_ballot}
 use Rattle.agreement.specs.MasterState.{MasterState}
-use Rattle.agreement.specs.Moments.{Moment, HasConfig, WasActive, HasTold}
+use Rattle.agreement.specs.Moments.{Moment, HasConfig, WasActive, HasAcknowledged}
 use Rattle.agreement.specs.Moments.HasConfig.{was_assigned}
 use Rattle.agreement.specs.Steps.{MayHappen}
 use Rattle.agreement.specs.World.{GroupWorld}
@@ -78,14 +78,14 @@ known_step {S = S} {C = C} {O = O} rules config a v moments adds q x s =
     active b (inl j) = active_stays (a ∷ moments) v b (q.active b j)
     active b (inr e) = (v, here, e)
 
-    tells : (n b k : ℕ) → Told v.world x.run.group.goes_on.history (n + 1) b k →
-        Told a.world q.history (n + 1) b k ⊎ TellsHere v.world (n + 1) b k →
-        (k ≡ 0) ⊎ ((xs : List C) × HasTold config (v ∷ a ∷ moments) b n xs × (k ≤ length xs))
+    tells : (n b k : ℕ) → Acknowledged v.world x.run.group.goes_on.history (n + 1) b k →
+        Acknowledged a.world q.history (n + 1) b k ⊎ TellsHere v.world (n + 1) b k →
+        (k ≡ 0) ⊎ ((xs : List C) × HasAcknowledged config (v ∷ a ∷ moments) b n xs × (k ≤ length xs))
     tells n b k t (inr now) = told_now rules config v (a ∷ moments) x.run.group.goes_on.history n b k s configs now t
     tells n b k t (inl before) = by_before (q.tells n b k before)
       where
-        by_before : (k ≡ 0) ⊎ ((xs : List C) × HasTold config (a ∷ moments) b n xs × (k ≤ length xs)) →
-            (k ≡ 0) ⊎ ((xs : List C) × HasTold config (v ∷ a ∷ moments) b n xs × (k ≤ length xs))
+        by_before : (k ≡ 0) ⊎ ((xs : List C) × HasAcknowledged config (a ∷ moments) b n xs × (k ≤ length xs)) →
+            (k ≡ 0) ⊎ ((xs : List C) × HasAcknowledged config (v ∷ a ∷ moments) b n xs × (k ≤ length xs))
         by_before (inl nothing) = inl nothing
         by_before (inr (xs, has, short)) = inr (xs, told_stays config (a ∷ moments) v b n xs has, short)
 
@@ -110,7 +110,7 @@ known_same {S = S} {C = C} {O = O} rules config a v moments q same =
     histories c here = q.histories a here
     histories c (there i) = q.histories c i
 
-    tells : (n b k : ℕ) → (k ≡ 0) ⊎ ((xs : List C) × HasTold config (a ∷ moments) b n xs × (k ≤ length xs)) →
-        (k ≡ 0) ⊎ ((xs : List C) × HasTold config (a ∷ a ∷ moments) b n xs × (k ≤ length xs))
+    tells : (n b k : ℕ) → (k ≡ 0) ⊎ ((xs : List C) × HasAcknowledged config (a ∷ moments) b n xs × (k ≤ length xs)) →
+        (k ≡ 0) ⊎ ((xs : List C) × HasAcknowledged config (a ∷ a ∷ moments) b n xs × (k ≤ length xs))
     tells n b k (inl nothing) = inl nothing
     tells n b k (inr (xs, has, short)) = inr (xs, told_stays config (a ∷ moments) a b n xs has, short)

@@ -4,7 +4,7 @@ use Rattle.machine.specs.Machine.{Rules}
 use Rattle.lists.specs.Lists.{IsPrefixOf}
 use Rattle.ballot_base.specs.declared.config.Config.{Config}
 use Rattle.agreement.specs.Inside.Chosen.{ChosenList, IsAgreedIn}
-use Rattle.agreement.specs.Laws.{HasAgreed, NodesAgree, MachinesReplay}
+use Rattle.agreement.specs.Theorems.{HasAgreed, NodesAgree, MachinesReplay}
 use Rattle.agreement.specs.Moments.{Moment, WasActive, IsChosen, IsAgreed}
 use Rattle.agreement.proofs.Agreed.AgreedExists.{agreed_exists}
 use Rattle.agreement.proofs.Agreed.Agreeing.{sound_agrees, sound_leaves}

@@ -5,8 +5,8 @@ use Rattle.lists.specs.Lists.{In, IsPrefixOf}
 use Rattle.lists.proofs.Prefixes.{prefix_then, prefix_take, prefix_length, take_prefix}
 use Rattle.ballot_base.specs.declared.config.Config.{Config}
 use Rattle.agreement.specs.Inside.Chosen.{ChosenList}
-use Rattle.agreement.specs.Inside.Ballots.{Given, Line, Told}
-use Rattle.agreement.specs.Moments.{Moment, HasConfig, WasActive, HasTold, IsChosen}
+use Rattle.agreement.specs.Inside.Ballots.{Given, Line, Acknowledged}
+use Rattle.agreement.specs.Moments.{Moment, HasConfig, WasActive, HasAcknowledged, IsChosen}
 use Rattle.agreement.proofs.Machines.Comparing.{front_of_longer}
 use Rattle.agreement.proofs.Frame.SaysLater.{told_less}
 use Rattle.agreement.proofs.Agreed.MomentsAreKnown.{IsKnown}
@@ -39,21 +39,21 @@ chosen_known {S = S} {C = C} {O = O} rules config a moments q b ys active (c, ha
     g = config_known rules config a moments q b c has
 
     by_node : (n : ℕ) → In (n + 1) c.members →
-        (l : Line C) × (q.history.line b ≡ Some l) × IsPrefixOf ys l.list × Told a.world q.history (n + 1) b (length ys)
+        (l : Line C) × (q.history.line b ≡ Some l) × IsPrefixOf ys l.list × Acknowledged a.world q.history (n + 1) b (length ys)
     by_node n i =
         let z = all n i in
         let t = told_known rules config a moments q b n z.0 low z.1 in
         (t.0, t.1, prefix_then z.2 t.2, told_less a.world q.history (n + 1) b (length z.0) (length ys) (prefix_length z.2) t.3)
 
-    by_number : (m : ℕ) → (n : ℕ) × (m ≡ n + 1) → In m c.members → Told a.world q.history m b (length ys)
+    by_number : (m : ℕ) → (n : ℕ) × (m ≡ n + 1) → In m c.members → Acknowledged a.world q.history m b (length ys)
     by_number m (n, is) i =
-        subst (λ x. Told a.world q.history x b (length ys)) (sym is) (by_node n (subst (λ x. In x c.members) is i)).3
+        subst (λ x. Acknowledged a.world q.history x b (length ys)) (sym is) (by_node n (subst (λ x. In x c.members) is i)).3
 
     primary : In c.primary c.members
     primary =
         subst (λ x. In x c.members) g.3 (subst (λ ms. In g.0.primary ms) g.2 (q.serves.sound.ballots.led b g.0 g.1))
 
-    first : (l : Line C) × (q.history.line b ≡ Some l) × IsPrefixOf ys l.list × Told a.world q.history ((g.4 c.primary primary).0 + 1) b (length ys)
+    first : (l : Line C) × (q.history.line b ≡ Some l) × IsPrefixOf ys l.list × Acknowledged a.world q.history ((g.4 c.primary primary).0 + 1) b (length ys)
     first = by_node (g.4 c.primary primary).0 (subst (λ x. In x c.members) (g.4 c.primary primary).1 primary)
 
     all_of : {X : Type 0} (xs : List X) → take (length xs) xs ≡ xs
@@ -85,8 +85,8 @@ chosen_back {S = S} {C = C} {O = O} rules config a moments q (x ∷ xs) c =
     front : IsPrefixOf (x ∷ xs) c.line.list
     front = subst (λ (us : List C). IsPrefixOf us c.line.list) (sym c.is) (prefix_take c.places c.line.list)
 
-    by_told : (n : ℕ) → (length (x ∷ xs) ≡ 0) ⊎ ((ys : List C) × HasTold config (a ∷ moments) c.ballot n ys × (length (x ∷ xs) ≤ length ys)) →
-        (told : List C) × HasTold config (a ∷ moments) c.ballot n told × IsPrefixOf (x ∷ xs) told
+    by_told : (n : ℕ) → (length (x ∷ xs) ≡ 0) ⊎ ((ys : List C) × HasAcknowledged config (a ∷ moments) c.ballot n ys × (length (x ∷ xs) ≤ length ys)) →
+        (told : List C) × HasAcknowledged config (a ∷ moments) c.ballot n told × IsPrefixOf (x ∷ xs) told
     by_told n (inl none) = absurd (omega (arith, none))
     by_told n (inr (ys, has, longer)) =
         let t = told_known rules config a moments q c.ballot n ys low has in
@@ -95,7 +95,7 @@ chosen_back {S = S} {C = C} {O = O} rules config a moments q (x ∷ xs) c =
         (ys, has, front_of_longer (x ∷ xs) ys c.line.list front begins longer)
 
     by_node : (n : ℕ) → In (n + 1) given.0.members →
-        (told : List C) × HasTold config (a ∷ moments) c.ballot n told × IsPrefixOf (x ∷ xs) told
+        (told : List C) × HasAcknowledged config (a ∷ moments) c.ballot n told × IsPrefixOf (x ∷ xs) told
     by_node n i =
         by_told n (q.tells n c.ballot (length (x ∷ xs))
         (told_less a.world q.history (n + 1) c.ballot c.places (length (x ∷ xs)) short

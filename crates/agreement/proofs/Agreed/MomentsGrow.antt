@@ -5,10 +5,10 @@ use Rattle.lists.specs.Lists.{IsPrefixOf}
 use Rattle.lists.specs.Lists.In.{there}
 use Rattle.ballot_base.specs.declared.config.Config.{Config}
 use Rattle.machine.specs.Machine.{Rules}
-use Rattle.agreement.specs.Laws.{AgreedGrows}
-use Rattle.agreement.specs.Moments.{Moment, HasConfig, WasActive, HasTold, IsChosen, IsAgreed}
+use Rattle.agreement.specs.Theorems.{AgreedGrows}
+use Rattle.agreement.specs.Moments.{Moment, HasConfig, WasActive, HasAcknowledged, IsChosen, IsAgreed}
 use Rattle.agreement.specs.Moments.HasConfig.{opened_with, was_assigned}
-use Rattle.agreement.specs.Moments.HasTold.{told_as_log, told_by_message}
+use Rattle.agreement.specs.Moments.HasAcknowledged.{told_as_log, told_by_message}
 
 pub config_stays : {S C O : Type 0} (config : Config) (moments : List (Moment S C O)) (v : Moment S C O) (b : ℕ) (c : Config) →
     HasConfig config moments b c → HasConfig config (v ∷ moments) b c
@@ -19,7 +19,7 @@ pub active_stays : {S C O : Type 0} (moments : List (Moment S C O)) (v : Moment 
 active_stays moments v b (a, i, e) = (a, there i, e)
 
 pub told_stays : {S C O : Type 0} (config : Config) (moments : List (Moment S C O)) (v : Moment S C O) (b n : ℕ) (xs : List C) →
-    HasTold config moments b n xs → HasTold config (v ∷ moments) b n xs
+    HasAcknowledged config moments b n xs → HasAcknowledged config (v ∷ moments) b n xs
 told_stays config moments v b n xs (told_as_log a r c i stands held has primary is) =
     told_as_log a r c (there i) stands held (config_stays config moments v b c has) primary is
 told_stays config moments v b n xs (told_by_message a r i stands held sent front) = told_by_message a r (there i) stands held sent front

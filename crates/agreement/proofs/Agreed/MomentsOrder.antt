@@ -3,7 +3,7 @@ use Rattle.std.proofs.Common.{◌≡◌, ℕ, ◌⊎◌, inl, inr, List, [], ◌
 use Rattle.std.specs.Prelude.{filter, slice_get}
 use Rattle.std.proofs.lemmas.List.{append-nil}
 use Rattle.machine.specs.Machine.{Rules}
-use Rattle.agreement.specs.whole_logs.Applying.{applied_to}
+use Rattle.agreement.specs.whole_logs.Application.{applied_to}
 use Rattle.ballot_base.specs.declared.config.Config.{Config}
 use Rattle.agreement.specs.whole_logs.Replica.{ReplicaState}
 use Rattle.lists.specs.Lists.{In}
@@ -12,7 +12,7 @@ use Rattle.agreement.specs.Inside.Ballots.{Line}
 use Rattle.agreement.specs.Inside.BallotsStand.{Applied}
 use Rattle.agreement.specs.Inside.OpeningHistory.{opening_history}
 use Rattle.agreement.specs.Inside.Own.{OwnLines}
-use Rattle.agreement.specs.Laws.{KeepsTheOrder}
+use Rattle.agreement.specs.Theorems.{KeepsTheOrder}
 use Rattle.agreement.specs.Moments.{Learns, Moment, Moments, opening_moment}
 use Rattle.agreement.specs.Moments.Moments.{began, went_on, learned}
 use Rattle.agreement.specs.Proposals.{taken_of}

@@ -8,12 +8,12 @@ use Rattle.lists.proofs.Prefixes.{prefix_then, prefix_length}
 use Rattle.agreement.specs.whole_logs.Messages.Body.{Held, Installed}
 use Rattle.ballot_base.specs.declared.config.Config.{Config}
 use Rattle.agreement.specs.whole_logs.Replica.{ReplicaState}
-use Rattle.agreement.specs.Inside.Ballots.{Given, Line, Told}
-use Rattle.agreement.specs.Inside.Ballots.Told.{told_by_held, told_by_installed, told_as_primary}
+use Rattle.agreement.specs.Inside.Ballots.{Given, Line, Acknowledged}
+use Rattle.agreement.specs.Inside.Ballots.Acknowledged.{told_by_held, told_by_installed, told_as_primary}
 use Rattle.agreement.specs.Inside.OpeningHistory.{first_ballot}
-use Rattle.agreement.specs.Moments.{Moment, HasConfig, WasActive, HasTold}
+use Rattle.agreement.specs.Moments.{Moment, HasConfig, WasActive, HasAcknowledged}
 use Rattle.agreement.specs.Moments.HasConfig.{opened_with, was_assigned}
-use Rattle.agreement.specs.Moments.HasTold.{told_as_log, told_by_message}
+use Rattle.agreement.specs.Moments.HasAcknowledged.{told_as_log, told_by_message}
 use Rattle.agreement.proofs.Agreed.MomentsAreKnown.{IsKnown}
 
 -- a ballot that was active is activated in the history
@@ -58,8 +58,8 @@ log_known rules config a moments q c n b r i stands held low =
 
 -- what a node has acknowledged by the moments it has acknowledged by the history
 pub told_known : {S C O : Type 0} (rules : Rules S C O) (config : Config) (a : Moment S C O) (moments : List (Moment S C O)) →
-    (q : IsKnown rules config a moments) → (b n : ℕ) (xs : List C) → 0 < b → HasTold config (a ∷ moments) b n xs →
-    (l : Line C) × (q.history.line b ≡ Some l) × IsPrefixOf xs l.list × Told a.world q.history (n + 1) b (length xs)
+    (q : IsKnown rules config a moments) → (b n : ℕ) (xs : List C) → 0 < b → HasAcknowledged config (a ∷ moments) b n xs →
+    (l : Line C) × (q.history.line b ≡ Some l) × IsPrefixOf xs l.list × Acknowledged a.world q.history (n + 1) b (length xs)
 told_known {S = S} {C = C} {O = O} rules config a moments q b n xs low (told_as_log c r given i stands held has primary is) =
     let y = log_known rules config a moments q c n b r i stands held low in
     let front = subst (λ (us : List C). IsPrefixOf us y.0.list) is y.2 in
@@ -70,6 +70,6 @@ told_known {S = S} {C = C} {O = O} rules config a moments q b n xs low (told_by_
     (y.0, y.1, prefix_then front y.2, by_sent sent)
   where
     by_sent : In (receiver, record { from = n + 1; body = Held b (length xs) }) c.world.sent
-        ⊎ In (receiver, record { from = n + 1; body = Installed b (length xs) }) c.world.sent → Told a.world q.history (n + 1) b (length xs)
+        ⊎ In (receiver, record { from = n + 1; body = Installed b (length xs) }) c.world.sent → Acknowledged a.world q.history (n + 1) b (length xs)
     by_sent (inl j) = told_by_held receiver (length xs) ((q.histories c i).2.sent _ j) (omega arith)
     by_sent (inr j) = told_by_installed receiver (length xs) ((q.histories c i).2.sent _ j) (omega arith)

@@ -13,7 +13,7 @@ use Rattle.agreement.specs.whole_logs.Protocol.{Input, replica_step}
 use Rattle.agreement.specs.whole_logs.Protocol.Input.{Receives, Proposes, Ticks}
 use Rattle.agreement.specs.whole_logs.Replica.{ReplicaState}
 use Rattle.agreement.proofs.of_whole_logs.StepRows.{added-log}
-use Rattle.agreement.specs.Laws.{OneNodeTakesABallot}
+use Rattle.agreement.specs.Theorems.{OneNodeTakesABallot}
 use Rattle.agreement.specs.MasterState.{MasterState}
 use Rattle.agreement.specs.Moments.{Moment, Moments}
 use Rattle.agreement.specs.Moments.Moments.{began, went_on, learned}

@@ -4,7 +4,7 @@ use Rattle.machine.specs.Machine.{Rules}
 use Rattle.lists.specs.Lists.{In}
 use Rattle.ballot_base.specs.declared.config.Config.{Config}
 use Rattle.agreement.specs.Inside.Ballots.{Given}
-use Rattle.agreement.specs.Laws.{OnePrimaryABallot}
+use Rattle.agreement.specs.Theorems.{OnePrimaryABallot}
 use Rattle.agreement.specs.Moments.{Moment}
 use Rattle.agreement.specs.Primaries.{IsPrimary}
 use Rattle.agreement.proofs.Agreed.MomentsAreKnown.{IsKnown}

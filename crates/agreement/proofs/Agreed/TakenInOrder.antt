@@ -10,7 +10,7 @@ use Rattle.agreement.specs.whole_logs.Protocol.{replica_step}
 use Rattle.agreement.specs.whole_logs.Protocol.Input.{Receives, Proposes, Ticks}
 use Rattle.agreement.specs.whole_logs.Replica.{ReplicaState}
 use Rattle.ballot_base.specs.declared.status.Role.TheVariants.{Active}
-use Rattle.agreement.specs.whole_logs.Serving.{added}
+use Rattle.agreement.specs.whole_logs.Service.{added}
 use Rattle.agreement.specs.Inside.Ballots.{History}
 use Rattle.agreement.specs.Inside.MomentSteps.{MomentStep, adds_of}
 use Rattle.agreement.specs.Inside.MomentSteps.MomentStep.{takes}

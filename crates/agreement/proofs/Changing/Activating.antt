@@ -4,24 +4,24 @@ use Rattle.std.specs.Prelude.{slice_get, nat_lt, nat_le, ◌&&◌, ◌==◌}
 use Rattle.std.proofs.lemmas.Bool.{cases_Bool, and_parts, leb-true, eqb-true}
 use Rattle.machine.specs.Machine.{Rules, replay}
 use Rattle.ballot_base.proofs.AppliesInOrder.{replay_goes_on}
-use Rattle.agreement.specs.whole_logs.Applying.{applied_to}
+use Rattle.agreement.specs.whole_logs.Application.{applied_to}
 use Rattle.agreement.specs.whole_logs.Messages.Body.{Activated}
 use Rattle.ballot_base.specs.declared.status.Progress.{Progress}
 use Rattle.ballot_base.specs.declared.status.Role.TheVariants.{Active}
 use Rattle.agreement.specs.whole_logs.Replica.{ReplicaState}
 use Rattle.ballot_base.specs.Replica.{is_installing, others, progress_at}
-use Rattle.agreement.specs.whole_logs.Sending.{Outcome}
-use Rattle.ballot_base.specs.Serving.{max_places}
-use Rattle.agreement.specs.whole_logs.Activating.{on_activated}
+use Rattle.agreement.specs.whole_logs.StepOutcome.{Outcome}
+use Rattle.ballot_base.specs.Service.{max_places}
+use Rattle.agreement.specs.whole_logs.Activation.{on_activated}
 use Rattle.agreement.specs.World.{GroupWorld}
 use Rattle.lists.specs.Lists.{In, IsPrefixOf}
 use Rattle.lists.specs.Lists.In.{here, there}
-use Rattle.agreement.specs.Inside.Ballots.{Given, History, Told}
+use Rattle.agreement.specs.Inside.Ballots.{Given, History, Acknowledged}
 use Rattle.agreement.specs.Inside.BallotsStand.Applied.{in_ballot}
 use Rattle.agreement.specs.Inside.Keeps.{KeepsAdding}
 use Rattle.agreement.specs.Inside.Sound.{IsSoundWorld}
 use Rattle.agreement.specs.Inside.SoundNodes.{IsInstalling, IsSoundNode}
-use Rattle.agreement.specs.Inside.Saying.{SpeaksTruth}
+use Rattle.agreement.specs.Inside.MessageMeaning.{SpeaksTruth}
 use Rattle.agreement.proofs.Frame.Adding.{adds_less}
 use Rattle.agreement.proofs.Frame.EqualLists.{prefix_of_same}
 use Rattle.agreement.proofs.Serving.CommandAdded.{keeps_added}
@@ -75,7 +75,7 @@ activated_leads {S = S} {C = C} rules w h n r s stands j none active =
         in_others r.id r.members reached.member z.0,
         omega (arith, e, f),
         omega (arith, f),
-        subst (λ k. Told w h reached.member r.joined k) (sym e ∙ sym f)
+        subst (λ k. Acknowledged w h reached.member r.joined k) (sym e ∙ sym f)
             (chosen_told w h r.joined (length j.line.base) j.leads.0 reached.member all j.leads.1 (subst (λ ms. In reached.member ms) j.leads.3 (in_others r.id r.members reached.member z.0))),
       );
       others = λ reached i e. not_others r.id r.members reached.member (reached_of (length r.log) (others r.id r.members) reached i).0 (e ∙ sym t.id);
@@ -84,7 +84,7 @@ activated_leads {S = S} {C = C} rules w h n r s stands j none active =
     t : IsSoundNode w h n r
     t = s.nodes n r stands
 
-    all : (g : Given) × (h.given r.joined ≡ Some g) × ((m : ℕ) → In m g.members → Told w h m r.joined (length j.line.base))
+    all : (g : Given) × (h.given r.joined ≡ Some g) × ((m : ℕ) → In m g.members → Acknowledged w h m r.joined (length j.line.base))
     all = all_installed w h n r j none
 
     list : IsPrefixOf r.log j.line.list

@@ -5,8 +5,8 @@ use Rattle.std.proofs.lemmas.Bool.{cases_Bool, and_parts, or_cases, ltb-true, le
 use Rattle.machine.specs.Machine.{Rules}
 use Rattle.agreement.specs.whole_logs.Messages.Body.{Install, Installed}
 use Rattle.agreement.specs.whole_logs.Replica.{ReplicaState}
-use Rattle.agreement.specs.whole_logs.Sending.{Outcome, message_to}
-use Rattle.agreement.specs.whole_logs.Changing.{on_install}
+use Rattle.agreement.specs.whole_logs.StepOutcome.{Outcome, message_to}
+use Rattle.agreement.specs.whole_logs.Transfer.{on_install}
 use Rattle.agreement.specs.World.{GroupWorld, moved}
 use Rattle.lists.specs.Lists.{In, IsPrefixOf}
 use Rattle.agreement.specs.Inside.Ballots.{Given, Line, History}

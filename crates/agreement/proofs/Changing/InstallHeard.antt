@@ -7,15 +7,15 @@ use Rattle.agreement.specs.whole_logs.Messages.{Message, Effect}
 use Rattle.agreement.specs.whole_logs.Messages.Body.{Install, Installed}
 use Rattle.agreement.specs.whole_logs.Losses.{Thinned}
 use Rattle.agreement.specs.whole_logs.Replica.{ReplicaState}
-use Rattle.agreement.specs.whole_logs.Sending.{message_to}
+use Rattle.agreement.specs.whole_logs.StepOutcome.{message_to}
 use Rattle.agreement.specs.World.{GroupWorld, messages, outputs}
 use Rattle.lists.specs.Lists.{In, IsPrefixOf}
 use Rattle.lists.specs.Lists.In.{here, there}
 use Rattle.agreement.specs.Inside.Ballots.{Given, Line, History}
-use Rattle.agreement.specs.Inside.Extending.{Extends}
+use Rattle.agreement.specs.Inside.Extension.{Extends}
 use Rattle.agreement.specs.Inside.MovesAt.{MovesAt}
 use Rattle.agreement.specs.Inside.Sound.{IsSoundWorld}
-use Rattle.agreement.specs.Inside.Saying.{SpeaksTruth, IsOf}
+use Rattle.agreement.specs.Inside.MessageMeaning.{SpeaksTruth, IsOf}
 use Rattle.lists.proofs.Prefixes.{prefix_length, take_prefix}
 use Rattle.agreement.proofs.Effects.{thinned_messages, thinned_outputs}
 use Rattle.agreement.proofs.Frame.SaysLater.{of_kept}

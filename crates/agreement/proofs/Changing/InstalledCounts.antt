@@ -6,19 +6,19 @@ use Rattle.agreement.specs.whole_logs.Messages.{Message, Effect}
 use Rattle.agreement.specs.whole_logs.Messages.Body.{Installed}
 use Rattle.agreement.specs.whole_logs.Replica.{ReplicaState}
 use Rattle.ballot_base.specs.Replica.{is_installing, others}
-use Rattle.agreement.specs.whole_logs.Activating.{activates}
+use Rattle.agreement.specs.whole_logs.Activation.{activates}
 use Rattle.agreement.specs.World.{GroupWorld, messages, outputs, moved}
 use Rattle.lists.specs.Lists.{In}
 use Rattle.lists.specs.Lists.In.{here, there}
-use Rattle.agreement.specs.Inside.Ballots.{Given, Line, History, Told}
+use Rattle.agreement.specs.Inside.Ballots.{Given, Line, History, Acknowledged}
 use Rattle.agreement.specs.Inside.BallotsStand.{Applied}
-use Rattle.agreement.specs.Inside.Extending.{Extends}
-use Rattle.agreement.specs.Inside.Ballots.Told.{told_by_installed}
+use Rattle.agreement.specs.Inside.Extension.{Extends}
+use Rattle.agreement.specs.Inside.Ballots.Acknowledged.{told_by_installed}
 use Rattle.agreement.specs.Inside.BallotsStand.Applied.{nothing, in_ballot}
 use Rattle.agreement.specs.Inside.Keeps.{KeepsSoundness}
 use Rattle.agreement.specs.Inside.Sound.{IsSoundWorld}
 use Rattle.agreement.specs.Inside.SoundNodes.{IsInstalling, IsSoundNode}
-use Rattle.agreement.specs.Inside.Saying.{SpeaksTruth}
+use Rattle.agreement.specs.Inside.MessageMeaning.{SpeaksTruth}
 use Rattle.agreement.proofs.Frame.Later.{told_kept}
 use Rattle.agreement.proofs.Frame.Joining.{IsSilent, MovesQuietly, quiet_extends}
 use Rattle.agreement.proofs.Frame.Quiet.{before_quiet, quiet_keeps}
@@ -27,11 +27,11 @@ use Rattle.agreement.proofs.Changing.OtherMembers.{in_others, others_in}
 
 -- if nobody lacks the log, every member acknowledged the base
 pub all_installed : {S C O : Type 0} (w : GroupWorld S C O) (h : History C) (n : ℕ) (r : ReplicaState S C) (i : IsInstalling w h n r) →
-    r.lacking ≡ [] → (g : Given) × (h.given r.joined ≡ Some g) × ((m : ℕ) → In m g.members → Told w h m r.joined (length i.line.base))
+    r.lacking ≡ [] → (g : Given) × (h.given r.joined ≡ Some g) × ((m : ℕ) → In m g.members → Acknowledged w h m r.joined (length i.line.base))
 all_installed w h n r i none =
     (i.leads.0, i.leads.1, λ m j. by_noted m (i.noted m (subst (λ ms. In m ms) (sym i.leads.3) j)))
   where
-    by_noted : (m : ℕ) → In m r.lacking ⊎ Told w h m r.joined (length i.line.base) → Told w h m r.joined (length i.line.base)
+    by_noted : (m : ℕ) → In m r.lacking ⊎ Acknowledged w h m r.joined (length i.line.base) → Acknowledged w h m r.joined (length i.line.base)
     by_noted m (inl j) = absurd (elim (subst (λ ms. In m ms) none j) [ ])
     by_noted m (inr t) = t
 
@@ -67,7 +67,7 @@ installed_noted {S = S} {C = C} {O = O} rules w h n r from b held s stands sent 
     node : (given : List (Effect C O)) → MovesQuietly w n r new given → IsSoundNode (moved w n new given) h n new
     node given q = let t = before_quiet rules w h n r new given s q in record {
       id = t.id;
-      placed = record { order = t.placed.order; between = t.placed.between; told = t.placed.told; told_here = t.placed.told_here };
+      placed = record { order = t.placed.order; between = t.placed.between; told = t.placed.told; acknowledged_here = t.placed.acknowledged_here };
       empty = t.empty;
       member = t.member;
       primary_log = t.primary_log;
@@ -83,7 +83,7 @@ installed_noted {S = S} {C = C} {O = O} rules w h n r from b held s stands sent 
         by_applied (nothing e) = nothing e
         by_applied (in_ballot c k l i up e chosen front) = in_ballot c k l i up e chosen front
 
-        told_from : (l : Line C) → h.line r.joined ≡ Some l → Told (moved w n new given) h from r.joined (length l.base)
+        told_from : (l : Line C) → h.line r.joined ≡ Some l → Acknowledged (moved w n new given) h from r.joined (length l.base)
         told_from l lined =
             let x : Extends w h (moved w n new given) h = quiet_extends w h n r new given q in
             let z = said.4 in
@@ -107,13 +107,13 @@ installed_noted {S = S} {C = C} {O = O} rules w h n r from b held s stands sent 
         }
           where
             by_without : (m : ℕ) → (m ≡ from) ⊎ In m (others from r.lacking) →
-                In m (others from r.lacking) ⊎ Told (moved w n new given) h m r.joined (length j.line.base)
+                In m (others from r.lacking) ⊎ Acknowledged (moved w n new given) h m r.joined (length j.line.base)
             by_without m (inl e) =
-                inr (subst (λ k. Told (moved w n new given) h k r.joined (length j.line.base)) (sym e) (told_from j.line j.lined))
+                inr (subst (λ k. Acknowledged (moved w n new given) h k r.joined (length j.line.base)) (sym e) (told_from j.line j.lined))
             by_without m (inr i) = inl i
 
-            by_noted : (m : ℕ) → In m r.lacking ⊎ Told (moved w n new given) h m r.joined (length j.line.base) →
-                In m (others from r.lacking) ⊎ Told (moved w n new given) h m r.joined (length j.line.base)
+            by_noted : (m : ℕ) → In m r.lacking ⊎ Acknowledged (moved w n new given) h m r.joined (length j.line.base) →
+                In m (others from r.lacking) ⊎ Acknowledged (moved w n new given) h m r.joined (length j.line.base)
             by_noted m (inl i) = by_without m (others_in from r.lacking m i)
             by_noted m (inr t) = inr t
 

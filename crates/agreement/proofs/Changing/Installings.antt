@@ -7,8 +7,8 @@ use Rattle.machine.specs.Machine.{Rules}
 use Rattle.agreement.specs.whole_logs.Messages.Body.{Installed}
 use Rattle.agreement.specs.whole_logs.Replica.{ReplicaState}
 use Rattle.ballot_base.specs.Replica.{is_installing}
-use Rattle.agreement.specs.whole_logs.Sending.{Outcome}
-use Rattle.agreement.specs.whole_logs.Activating.{on_installed}
+use Rattle.agreement.specs.whole_logs.StepOutcome.{Outcome}
+use Rattle.agreement.specs.whole_logs.Activation.{on_installed}
 use Rattle.agreement.specs.World.{GroupWorld}
 use Rattle.lists.specs.Lists.{In}
 use Rattle.agreement.specs.Inside.Ballots.{History}

@@ -5,7 +5,7 @@ use Rattle.machine.specs.Machine.{Rules}
 use Rattle.agreement.specs.whole_logs.Messages.Body.{Installed}
 use Rattle.ballot_base.specs.declared.status.Role.TheVariants.{Backup}
 use Rattle.agreement.specs.whole_logs.Replica.{ReplicaState}
-use Rattle.agreement.specs.whole_logs.Sending.{message_to}
+use Rattle.agreement.specs.whole_logs.StepOutcome.{message_to}
 use Rattle.agreement.specs.World.{GroupWorld, moved}
 use Rattle.lists.specs.Lists.{In, IsPrefixOf}
 use Rattle.agreement.specs.Inside.Ballots.{Given, History}
@@ -84,7 +84,7 @@ install_taken {S = S} {C = C} {O = O} rules w h n r from b log s stands q low be
               ),
             );
             told = told_placed w h h.line n r new given moves t.placed (omega (arith, below));
-            told_here = told_in_log w h h.line n r new given moves t.placed (inl below);
+            acknowledged_here = told_in_log w h h.line n r new given moves t.placed (inl below);
           };
           empty = λ e. absurd (omega (arith, e, below));
           member = λ g e. subst (λ (x : Given). In (n + 1) x.members) (let f = q.is_of.given in let z : q.ballot ≡ g = cc in z) q.member;

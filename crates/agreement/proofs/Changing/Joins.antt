@@ -7,8 +7,8 @@ use Rattle.agreement.specs.whole_logs.Messages.{Message, Effect}
 use Rattle.agreement.specs.whole_logs.Messages.Body.{Join, State}
 use Rattle.ballot_base.specs.declared.status.Role.TheVariants.{Backup}
 use Rattle.agreement.specs.whole_logs.Replica.{ReplicaState}
-use Rattle.agreement.specs.whole_logs.Sending.{Outcome, message_to}
-use Rattle.agreement.specs.whole_logs.Changing.{on_join}
+use Rattle.agreement.specs.whole_logs.StepOutcome.{Outcome, message_to}
+use Rattle.agreement.specs.whole_logs.Transfer.{on_join}
 use Rattle.agreement.specs.World.{GroupWorld, messages, moved}
 use Rattle.lists.specs.Lists.{In}
 use Rattle.lists.specs.Lists.In.{here, there}
@@ -18,7 +18,7 @@ use Rattle.agreement.specs.Inside.BallotsStand.Applied.{nothing, in_ballot}
 use Rattle.agreement.specs.Inside.Keeps.{KeepsSoundness}
 use Rattle.agreement.specs.Inside.Sound.{IsSoundWorld}
 use Rattle.agreement.specs.Inside.SoundNodes.{IsSoundNode}
-use Rattle.agreement.specs.Inside.Saying.{SpeaksTruth, IsOffered}
+use Rattle.agreement.specs.Inside.MessageMeaning.{SpeaksTruth, IsOffered}
 use Rattle.lists.proofs.Places.{get_set}
 use Rattle.agreement.proofs.Frame.Framing.{within_of}
 use Rattle.agreement.proofs.Frame.SaysLater.{joined_kept}
@@ -63,7 +63,7 @@ answers_node {S = S} {C = C} {O = O} v h n r new b g (joins less) given old give
         order = (let o = t.placed.order in omega (arith, o, less));
         between = t.placed.between;
         told = t.placed.told;
-        told_here = t.placed.told_here;
+        acknowledged_here = t.placed.acknowledged_here;
       };
       empty = t.empty;
       member = t.member;

@@ -7,19 +7,19 @@ use Rattle.agreement.specs.whole_logs.Messages.{Message, Body, Effect}
 use Rattle.agreement.specs.whole_logs.Messages.Body.{NewBallot, Join}
 use Rattle.ballot_base.specs.declared.status.Role.TheVariants.{Fetching}
 use Rattle.agreement.specs.whole_logs.Replica.{ReplicaState}
-use Rattle.agreement.specs.whole_logs.Sending.{Outcome, message_to_each}
-use Rattle.agreement.specs.whole_logs.Changing.{on_new_ballot}
+use Rattle.agreement.specs.whole_logs.StepOutcome.{Outcome, message_to_each}
+use Rattle.agreement.specs.whole_logs.Transfer.{on_new_ballot}
 use Rattle.agreement.specs.World.{GroupWorld, messages, outputs, moved}
 use Rattle.lists.specs.Lists.{In}
 use Rattle.lists.specs.Lists.In.{here, there}
 use Rattle.agreement.specs.Inside.Ballots.{Given, Line, History}
 use Rattle.agreement.specs.Inside.BallotsStand.{Applied}
-use Rattle.agreement.specs.Inside.Ballots.Told.{told_as_primary}
+use Rattle.agreement.specs.Inside.Ballots.Acknowledged.{told_as_primary}
 use Rattle.agreement.specs.Inside.BallotsStand.Applied.{nothing, in_ballot}
 use Rattle.agreement.specs.Inside.Keeps.{KeepsSoundness}
 use Rattle.agreement.specs.Inside.Sound.{IsSoundWorld}
 use Rattle.agreement.specs.Inside.SoundNodes.{IsSoundNode}
-use Rattle.agreement.specs.Inside.Saying.{SpeaksTruth}
+use Rattle.agreement.specs.Inside.MessageMeaning.{SpeaksTruth}
 use Rattle.lists.proofs.Places.{get_set}
 use Rattle.agreement.proofs.Frame.Joining.{IsSilent, MovesQuietly}
 use Rattle.agreement.proofs.Frame.Quiet.{before_quiet, quiet_keeps, keeps_nothing}
@@ -99,7 +99,7 @@ new_ballot_taken {S = S} {C = C} {O = O} rules w h n r from b a members old s st
         order = (let o = t.placed.order in omega (arith, o, low));
         between = t.placed.between;
         told = t.placed.told;
-        told_here = t.placed.told_here;
+        acknowledged_here = t.placed.acknowledged_here;
       };
       empty = t.empty;
       member = t.member;

@@ -3,8 +3,8 @@ use Rattle.std.proofs.Common.{ℕ, ◌⊎◌, inl, inr, List, length, refl, arit
 use Rattle.agreement.specs.whole_logs.Messages.{Effect}
 use Rattle.agreement.specs.whole_logs.Replica.{ReplicaState}
 use Rattle.agreement.specs.World.{GroupWorld, moved}
-use Rattle.agreement.specs.Inside.Ballots.{Line, History, Told}
-use Rattle.agreement.specs.Inside.Extending.{Extends, AcknowledgedIsWithin}
+use Rattle.agreement.specs.Inside.Ballots.{Line, History, Acknowledged}
+use Rattle.agreement.specs.Inside.Extension.{Extends, AcknowledgedIsWithin}
 use Rattle.agreement.specs.Inside.MovesAt.{MovesAt, with_lines}
 use Rattle.agreement.specs.Inside.SoundNodes.{IsSoundNode}
 use Rattle.agreement.proofs.Frame.Framing.{move_extends}
@@ -22,7 +22,7 @@ same_node {S = S} {C = C} {O = O} w h n r given q within s =
         order = s.placed.order;
         between = s.placed.between;
         told = told_placed w h h.line n r r given q s.placed (omega arith);
-        told_here = told_in_log w h h.line n r r given q s.placed (inr (refl, omega arith));
+        acknowledged_here = told_in_log w h h.line n r r given q s.placed (inr (refl, omega arith));
       };
       empty = s.empty;
       member = s.member;
@@ -65,8 +65,8 @@ same_node {S = S} {C = C} {O = O} w h n r given q within s =
     x : Extends w h (moved w n r given) (with_lines h h.line)
     x = move_extends w h h.line n r r given q
 
-    noted : {X : Type 0} (k : ℕ) (l : Line C) → X ⊎ Told w h k r.joined (length l.base) →
-        X ⊎ Told (moved w n r given) (with_lines h h.line) k r.joined (length l.base)
+    noted : {X : Type 0} (k : ℕ) (l : Line C) → X ⊎ Acknowledged w h k r.joined (length l.base) →
+        X ⊎ Acknowledged (moved w n r given) (with_lines h h.line) k r.joined (length l.base)
     noted k l (inl y) = inl y
     noted k l (inr t) = inr (told_kept w (moved w n r given) h (with_lines h h.line) k r.joined (length l.base)
         (move_extends w h h.line n r r given q) t)

@@ -6,7 +6,7 @@ use Rattle.agreement.specs.World.{GroupWorld}
 use Rattle.lists.specs.Lists.{IsPrefixOf}
 use Rattle.agreement.specs.Inside.Ballots.{Given, Line, History, Sealed}
 use Rattle.agreement.specs.Inside.SoundNodes.{IsFetching}
-use Rattle.agreement.specs.Inside.Saying.{SpeaksTruth, IsOf, IsOffered}
+use Rattle.agreement.specs.Inside.MessageMeaning.{SpeaksTruth, IsOf, IsOffered}
 
 -- what a fetching primary knows when a State of its ballot comes
 pub record StateHeard {S C O : Type 0} (w : GroupWorld S C O) (h : History C) (n : ℕ) (r : ReplicaState S C) (xs : List C) : Type 0 where

@@ -5,14 +5,14 @@ use Rattle.machine.specs.Machine.{Rules}
 use Rattle.ballot_base.specs.declared.status.Role.TheVariants.{Installing}
 use Rattle.agreement.specs.whole_logs.Replica.{ReplicaState}
 use Rattle.ballot_base.specs.Replica.{others}
-use Rattle.agreement.specs.whole_logs.Changing.{install_effects}
+use Rattle.agreement.specs.whole_logs.Transfer.{install_effects}
 use Rattle.agreement.specs.World.{GroupWorld, moved}
 use Rattle.lists.specs.Lists.{In, IsPrefixOf}
-use Rattle.agreement.specs.Inside.Ballots.{Given, Line, History, Told}
+use Rattle.agreement.specs.Inside.Ballots.{Given, Line, History, Acknowledged}
 use Rattle.agreement.specs.Inside.BallotsStand.{Applied}
-use Rattle.agreement.specs.Inside.Extending.{Extends}
+use Rattle.agreement.specs.Inside.Extension.{Extends}
 use Rattle.agreement.specs.Inside.BallotsStand.Applied.{nothing, in_ballot}
-use Rattle.agreement.specs.Inside.Ballots.Told.{told_as_primary}
+use Rattle.agreement.specs.Inside.Ballots.Acknowledged.{told_as_primary}
 use Rattle.agreement.specs.Inside.Keeps.{KeepsSoundness, LineAdds}
 use Rattle.agreement.specs.Inside.Keeps.LineAdds.{as_it_was, begins_after}
 use Rattle.agreement.specs.Inside.MovesAt.{MovesAt, with_lines, lined_at}
@@ -114,7 +114,7 @@ state_taken {S = S} {C = C} {O = O} rules w h n r xs s stands q long given thinn
         }
       where
         by_member : (m : ℕ) → (m ≡ r.id) ⊎ In m (others r.id r.members) →
-            In m (others r.id r.members) ⊎ Told (moved w n new given) (with_lines h line) m r.joined (length xs)
+            In m (others r.id r.members) ⊎ Acknowledged (moved w n new given) (with_lines h line) m r.joined (length xs)
         by_member m (inr i) = inl i
         by_member m (inl e) =
             inr (told_as_primary q.ballot begun q.is_of.given (q.primary ∙ sym t.id ∙ sym e) lined (omega arith))
@@ -127,7 +127,7 @@ state_taken {S = S} {C = C} {O = O} rules w h n r xs s stands q long given thinn
             order = omega arith;
             between = λ up. (q.ballot, q.is_of.given, (begun, lined, prefix_same xs, prefix_same xs));
             told = told_placed w h line n r new given moves t.placed (let z = q.below in omega (arith, z));
-            told_here = told_in_log w h line n r new given moves t.placed (inl q.below);
+            acknowledged_here = told_in_log w h line n r new given moves t.placed (inl q.below);
           };
           empty = λ e. absurd (let z = q.below in omega (arith, e, z));
           member = λ g e. subst (λ (y : Given). In (n + 1) y.members) (let f = q.is_of.given in let z : q.ballot ≡ g = cc in z) member;

@@ -7,8 +7,8 @@ use Rattle.agreement.specs.whole_logs.Messages.Body.{State}
 use Rattle.ballot_base.specs.declared.status.Role.TheVariants.{Installing}
 use Rattle.agreement.specs.whole_logs.Replica.{ReplicaState}
 use Rattle.ballot_base.specs.Replica.{is_fetching, others}
-use Rattle.agreement.specs.whole_logs.Sending.{Outcome}
-use Rattle.agreement.specs.whole_logs.Changing.{install_effects, on_state}
+use Rattle.agreement.specs.whole_logs.StepOutcome.{Outcome}
+use Rattle.agreement.specs.whole_logs.Transfer.{install_effects, on_state}
 use Rattle.agreement.specs.World.{GroupWorld}
 use Rattle.lists.specs.Lists.{In}
 use Rattle.agreement.specs.Inside.Ballots.{History}

@@ -7,8 +7,8 @@ use Rattle.agreement.specs.whole_logs.Messages.{Effect}
 use Rattle.ballot_base.specs.declared.status.Role.TheVariants.{Backup}
 use Rattle.agreement.specs.whole_logs.Replica.{ReplicaState}
 use Rattle.ballot_base.specs.Replica.{is_installing}
-use Rattle.agreement.specs.whole_logs.Sending.{Outcome}
-use Rattle.agreement.specs.whole_logs.Activating.{on_superseded}
+use Rattle.agreement.specs.whole_logs.StepOutcome.{Outcome}
+use Rattle.agreement.specs.whole_logs.Activation.{on_superseded}
 use Rattle.agreement.specs.World.{GroupWorld, moved}
 use Rattle.agreement.specs.Inside.Ballots.{History}
 use Rattle.agreement.specs.Inside.BallotsStand.{Applied}
@@ -31,7 +31,7 @@ keeps_superseded {S = S} {C = C} {O = O} rules w h n r b s stands = by_role (cas
     node : (given : List (Effect C O)) → MovesQuietly w n r new given → IsSoundNode (moved w n new given) h n new
     node given q = let t = before_quiet rules w h n r new given s q in record {
       id = t.id;
-      placed = record { order = t.placed.order; between = t.placed.between; told = t.placed.told; told_here = t.placed.told_here };
+      placed = record { order = t.placed.order; between = t.placed.between; told = t.placed.told; acknowledged_here = t.placed.acknowledged_here };
       empty = t.empty;
       member = t.member;
       primary_log = t.primary_log;

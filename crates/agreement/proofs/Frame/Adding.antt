@@ -1,7 +1,7 @@
 -- Adding.antt: a step that adds no more than it may adds no more than what is asked less strictly.
 use Rattle.std.proofs.Common.{ℕ}
 use Rattle.machine.specs.Machine.{Rules}
-use Rattle.agreement.specs.whole_logs.Sending.{Outcome}
+use Rattle.agreement.specs.whole_logs.StepOutcome.{Outcome}
 use Rattle.agreement.specs.World.{GroupWorld}
 use Rattle.agreement.specs.Inside.Ballots.{Line, History}
 use Rattle.agreement.specs.Inside.Keeps.{KeepsAdding, LineAdds}

@@ -7,8 +7,8 @@ use Rattle.agreement.specs.World.{GroupWorld}
 use Rattle.lists.specs.Lists.{In}
 use Rattle.agreement.specs.Inside.Ballots.{Line, History, IsChosenIn}
 use Rattle.agreement.specs.Inside.BallotsStand.{AreBallots, BallotListsStand}
-use Rattle.agreement.specs.Inside.Extending.{AcknowledgedIsWithin}
-use Rattle.agreement.specs.Leaving.{Segment}
+use Rattle.agreement.specs.Inside.Extension.{AcknowledgedIsWithin}
+use Rattle.agreement.specs.LeftOutputs.{Segment}
 use Rattle.lists.proofs.Prefixes.{prefix_length}
 use Rattle.agreement.proofs.Frame.Bases.{chosen_told}
 use Rattle.agreement.proofs.Frame.Taking.{activated_base}

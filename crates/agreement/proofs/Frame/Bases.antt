@@ -3,7 +3,7 @@ use Rattle.std.proofs.Common.{◌≡◌, ℕ, ◌+◌, List, [], ◌∷◌, leng
 use Rattle.agreement.specs.World.{GroupWorld}
 use Rattle.lists.specs.Lists.{In, IsPrefixOf}
 use Rattle.lists.specs.Lists.In.{here, there}
-use Rattle.agreement.specs.Inside.Ballots.{Given, Line, History, Told, IsChosenIn, Sealed}
+use Rattle.agreement.specs.Inside.Ballots.{Given, Line, History, Acknowledged, IsChosenIn, Sealed}
 use Rattle.agreement.specs.Inside.BallotsStand.{IsChain, BallotListsStand}
 use Rattle.lists.proofs.Prefixes.{prefix_then, take_prefix}
 
@@ -13,7 +13,7 @@ one_line o l m e f = cc
 
 -- what is chosen was acknowledged by each member
 pub chosen_told : {S C O : Type 0} (w : GroupWorld S C O) (h : History C) (b k : ℕ) (g : Given) (m : ℕ) → IsChosenIn w h b k →
-    h.given b ≡ Some g → In m g.members → Told w h m b k
+    h.given b ≡ Some g → In m g.members → Acknowledged w h m b k
 chosen_told w h b k g m chosen given member =
     chosen.2 m (subst (λ (x : Given). In m x.members) (one_ballot (h.given b) g chosen.0 given chosen.1) member)
   where

@@ -6,8 +6,8 @@ use Rattle.machine.specs.Machine.{Rules}
 use Rattle.agreement.specs.whole_logs.Messages.{Effect}
 use Rattle.agreement.specs.whole_logs.Replica.{ReplicaState}
 use Rattle.agreement.specs.World.{GroupWorld, messages, moved}
-use Rattle.agreement.specs.Inside.Ballots.{Line, History, Told}
-use Rattle.agreement.specs.Inside.Extending.{Extends, AcknowledgedIsWithin}
+use Rattle.agreement.specs.Inside.Ballots.{Line, History, Acknowledged}
+use Rattle.agreement.specs.Inside.Extension.{Extends, AcknowledgedIsWithin}
 use Rattle.agreement.specs.Inside.MovesAt.{MovesAt, with_lines, TellsNow}
 use Rattle.agreement.specs.Inside.Sound.{IsSoundWorld}
 use Rattle.lists.proofs.Prefixes.{prefix_length}
@@ -56,8 +56,8 @@ move_extends {S = S} {C = C} {O = O} w h line n old new given q =
     by_node m r (inr (other, e)) = (r, e, omega arith)
 
     by_teller : (m b k : ℕ) (r : ReplicaState S C) → slice_get w.nodes m ≡ Some r →
-        Told w h (m + 1) b k ⊎ ((m + 1 ≡ n + 1) × TellsNow line old new b k) →
-        Told w h (m + 1) b k ⊎ (r.joined ≤ b)
+        Acknowledged w h (m + 1) b k ⊎ ((m + 1 ≡ n + 1) × TellsNow line old new b k) →
+        Acknowledged w h (m + 1) b k ⊎ (r.joined ≤ b)
     by_teller m b k r e (inl t) = inl t
     by_teller m b k r e (inr (one, l)) =
         let same : m ≡ n = omega (arith, one) in
@@ -67,8 +67,8 @@ move_extends {S = S} {C = C} {O = O} w h line n old new given q =
 -- what is acknowledged stays within the lists
 pub move_within : {S C O : Type 0} (w : GroupWorld S C O) (h : History C) (line : ℕ → Option (Line C)) (n : ℕ)
     (old new : ReplicaState S C) (given : List (Effect C O)) → MovesAt w h line n old new given →
-    ((m b k : ℕ) → Told w h m b k → (k ≡ 0) ⊎ ((l : Line C) × (h.line b ≡ Some l) × (k ≤ length l.list))) →
-    (m b k : ℕ) → Told (moved w n new given) (with_lines h line) m b k →
+    ((m b k : ℕ) → Acknowledged w h m b k → (k ≡ 0) ⊎ ((l : Line C) × (h.line b ≡ Some l) × (k ≤ length l.list))) →
+    (m b k : ℕ) → Acknowledged (moved w n new given) (with_lines h line) m b k →
     (k ≡ 0) ⊎ ((l : Line C) × (line b ≡ Some l) × (k ≤ length l.list))
 move_within {S = S} {C = C} {O = O} w h line n old new given q within m b k t = by_teller (q.tells m b k t)
   where
@@ -78,7 +78,7 @@ move_within {S = S} {C = C} {O = O} w h line n old new given q within m b k t = 
     by_line (inr (l, e, below)) =
         let y = q.lines b l e in let z = prefix_length y.3 in inr (y.0, y.1, omega (arith, below, z))
 
-    by_teller : Told w h m b k ⊎ ((m ≡ n + 1) × TellsNow line old new b k) →
+    by_teller : Acknowledged w h m b k ⊎ ((m ≡ n + 1) × TellsNow line old new b k) →
         (k ≡ 0) ⊎ ((l : Line C) × (line b ≡ Some l) × (k ≤ length l.list))
     by_teller (inl before) = by_line (within m b k before)
     by_teller (inr (one, l)) = inr (l.told, l.lined, l.within)

@@ -8,16 +8,16 @@ use Rattle.std.proofs.lemmas.List.{append-nil, take-take}
 use Rattle.machine.specs.Machine.{Rules, replay}
 use Rattle.agreement.specs.whole_logs.Messages.{Effect}
 use Rattle.agreement.specs.whole_logs.Replica.{ReplicaState}
-use Rattle.agreement.specs.whole_logs.Applying.{outputs_from, outputs_between}
+use Rattle.agreement.specs.whole_logs.Application.{outputs_from, outputs_between}
 use Rattle.agreement.specs.World.{GroupWorld, outputs, moved}
 use Rattle.lists.specs.Lists.{In, IsPrefixOf}
 use Rattle.lists.specs.Lists.In.{here, there}
 use Rattle.agreement.specs.Inside.Ballots.{Given, Line, History, IsChosenIn}
 use Rattle.agreement.specs.Inside.BallotsStand.{AreBallots, BallotListsStand}
-use Rattle.agreement.specs.Inside.Extending.{Extends, AcknowledgedIsWithin}
+use Rattle.agreement.specs.Inside.Extension.{Extends, AcknowledgedIsWithin}
 use Rattle.agreement.specs.Inside.MovesAt.{MovesAt, with_lines}
 use Rattle.agreement.specs.Inside.Sound.{LeftIs, IsSoundWorld}
-use Rattle.agreement.specs.Leaving.{Segment}
+use Rattle.agreement.specs.LeftOutputs.{Segment}
 use Rattle.lists.proofs.Places.{get_set}
 use Rattle.lists.proofs.Members.{in_append, in_at}
 use Rattle.agreement.proofs.Frame.Apart.{above_now, below_now, chosen_within}

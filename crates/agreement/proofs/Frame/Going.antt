@@ -4,8 +4,8 @@ use Rattle.std.specs.Prelude.{slice_get}
 use Rattle.machine.specs.Machine.{Rules}
 use Rattle.agreement.specs.whole_logs.Replica.{ReplicaState}
 use Rattle.agreement.specs.World.{GroupWorld}
-use Rattle.agreement.specs.Inside.Ballots.{History, Told}
-use Rattle.agreement.specs.Inside.Extending.{Extends}
+use Rattle.agreement.specs.Inside.Ballots.{History, Acknowledged}
+use Rattle.agreement.specs.Inside.Extension.{Extends}
 use Rattle.agreement.specs.Inside.Keeps.{HistoryGoesOn}
 use Rattle.agreement.specs.Inside.Sound.{IsSoundWorld}
 use Rattle.lists.proofs.Prefixes.{prefix_same, prefix_then}
@@ -39,7 +39,7 @@ extends_then {S = S} {C = C} u w v g h i x y =
     }
   where
     by_second : (n b k : ℕ) (r : ReplicaState S C) → slice_get u.nodes n ≡ Some r → (q : ReplicaState S C) → r.joined ≤ q.joined →
-        Told w h (n + 1) b k ⊎ (q.joined ≤ b) → Told u g (n + 1) b k ⊎ (r.joined ≤ b)
+        Acknowledged w h (n + 1) b k ⊎ (q.joined ≤ b) → Acknowledged u g (n + 1) b k ⊎ (r.joined ≤ b)
     by_second n b k r e q up (inl t) = x.told n b k r e t
     by_second n b k r e q up (inr low) = inr (omega (arith, up, low))
 

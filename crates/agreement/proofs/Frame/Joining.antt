@@ -8,9 +8,9 @@ use Rattle.agreement.specs.whole_logs.Messages.Body.{Installed, Held}
 use Rattle.agreement.specs.whole_logs.Replica.{ReplicaState}
 use Rattle.agreement.specs.World.{GroupWorld, messages, outputs, moved}
 use Rattle.lists.specs.Lists.{In}
-use Rattle.agreement.specs.Inside.Ballots.{Line, History, Told}
-use Rattle.agreement.specs.Inside.Extending.{Extends, AcknowledgedIsWithin}
-use Rattle.agreement.specs.Inside.Ballots.Told.{told_at_opening, told_by_held, told_by_installed, told_as_primary}
+use Rattle.agreement.specs.Inside.Ballots.{Line, History, Acknowledged}
+use Rattle.agreement.specs.Inside.Extension.{Extends, AcknowledgedIsWithin}
+use Rattle.agreement.specs.Inside.Ballots.Acknowledged.{told_at_opening, told_by_held, told_by_installed, told_as_primary}
 use Rattle.agreement.specs.Inside.SoundNodes.{IsSoundNode}
 use Rattle.lists.proofs.Prefixes.{prefix_same}
 use Rattle.lists.proofs.Places.{get_set, get_set_other}
@@ -37,20 +37,20 @@ pub record MovesQuietly {S C O : Type 0} (w : GroupWorld S C O) (n : ℕ) (old n
 
 -- what is acknowledged after such a move was acknowledged before
 pub told_back : {S C O : Type 0} (w : GroupWorld S C O) (h : History C) (n : ℕ) (old new : ReplicaState S C) (given : List (Effect C O)) →
-    MovesQuietly w n old new given → (m b k : ℕ) → Told (moved w n new given) h m b k → Told w h m b k
+    MovesQuietly w n old new given → (m b k : ℕ) → Acknowledged (moved w n new given) h m b k → Acknowledged w h m b k
 told_back w h n old new given q m b k (told_at_opening g one none is member) = told_at_opening g one none is member
 told_back {S = S} {C = C} w h n old new given q m b k (told_by_held receiver held j below) =
     by_sent (in_append w.sent (messages given) j)
   where
     by_sent : In {X = ℕ × Message C} (receiver, record { from = m; body = Held b held }) w.sent
-        ⊎ In {X = ℕ × Message C} (receiver, record { from = m; body = Held b held }) (messages given) → Told w h m b k
+        ⊎ In {X = ℕ × Message C} (receiver, record { from = m; body = Held b held }) (messages given) → Acknowledged w h m b k
     by_sent (inl i) = told_by_held receiver held i below
     by_sent (inr i) = absurd (q.silent receiver _ i)
 told_back {S = S} {C = C} w h n old new given q m b k (told_by_installed receiver held j below) =
     by_sent (in_append w.sent (messages given) j)
   where
     by_sent : In {X = ℕ × Message C} (receiver, record { from = m; body = Installed b held }) w.sent
-        ⊎ In {X = ℕ × Message C} (receiver, record { from = m; body = Installed b held }) (messages given) → Told w h m b k
+        ⊎ In {X = ℕ × Message C} (receiver, record { from = m; body = Installed b held }) (messages given) → Acknowledged w h m b k
     by_sent (inl i) = told_by_installed receiver held i below
     by_sent (inr i) = absurd (q.silent receiver _ i)
 told_back w h n old new given q m b k (told_as_primary g l is primary lined below) = told_as_primary g l is primary lined below
@@ -100,7 +100,7 @@ quiet_node {S = S} {C = C} {O = O} w h n old new given q within m r s =
         order = s.placed.order;
         between = s.placed.between;
         told = λ b k t. s.placed.told b k (told_back w h n old new given q (m + 1) b k t);
-        told_here = λ k t. s.placed.told_here k (told_back w h n old new given q (m + 1) r.held_in k t);
+        acknowledged_here = λ k t. s.placed.acknowledged_here k (told_back w h n old new given q (m + 1) r.held_in k t);
       };
       empty = s.empty;
       member = s.member;
@@ -134,8 +134,8 @@ quiet_node {S = S} {C = C} {O = O} w h n old new given q within m r s =
       };
     }
   where
-    noted : {X : Type 0} (k : ℕ) (l : Line C) → X ⊎ Told w h k r.joined (length l.base) →
-        X ⊎ Told (moved w n new given) h k r.joined (length l.base)
+    noted : {X : Type 0} (k : ℕ) (l : Line C) → X ⊎ Acknowledged w h k r.joined (length l.base) →
+        X ⊎ Acknowledged (moved w n new given) h k r.joined (length l.base)
     noted k l (inl y) = inl y
     noted k l (inr t) =
         inr (told_kept w (moved w n new given) h h k r.joined (length l.base) (quiet_extends w h n old new given q) t)

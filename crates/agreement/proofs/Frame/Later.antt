@@ -3,11 +3,11 @@ use Rattle.std.proofs.Common.{◌≡◌, ℕ, zero, suc, ◌++◌, ◌+◌, ◌�
 use Rattle.agreement.specs.whole_logs.Replica.{ReplicaState}
 use Rattle.agreement.specs.World.{GroupWorld}
 use Rattle.lists.specs.Lists.{In, IsPrefixOf}
-use Rattle.agreement.specs.Inside.Ballots.{Line, History, Told, IsChosenIn, Sealed}
+use Rattle.agreement.specs.Inside.Ballots.{Line, History, Acknowledged, IsChosenIn, Sealed}
 use Rattle.agreement.specs.Inside.BallotsStand.{Applied}
-use Rattle.agreement.specs.Inside.Extending.{Extends, AcknowledgedIsWithin}
+use Rattle.agreement.specs.Inside.Extension.{Extends, AcknowledgedIsWithin}
 use Rattle.agreement.specs.Inside.BallotsStand.Applied.{nothing, in_ballot}
-use Rattle.agreement.specs.Inside.Ballots.Told.{told_at_opening, told_by_held, told_by_installed, told_as_primary}
+use Rattle.agreement.specs.Inside.Ballots.Acknowledged.{told_at_opening, told_by_held, told_by_installed, told_as_primary}
 use Rattle.lists.proofs.Prefixes.{prefix_then, prefix_length, take_prefix}
 
 -- prefixes of a list and of one that it begins
@@ -22,7 +22,7 @@ takes {X = X} (suc k) {xs = x ∷ xs} {ys = y ∷ ys} p =
 
 -- what was acknowledged stays so
 pub told_kept : {S C O : Type 0} (w v : GroupWorld S C O) (h i : History C) (m b k : ℕ) → Extends w h v i →
-    Told w h m b k → Told v i m b k
+    Acknowledged w h m b k → Acknowledged v i m b k
 told_kept w v h i m b k x (told_at_opening g one none given member) = told_at_opening g one none (x.given 1 g given) member
 told_kept w v h i m b k x (told_by_held receiver held j below) = told_by_held receiver held (x.sent _ j) below
 told_kept w v h i m b k x (told_by_installed receiver held j below) = told_by_installed receiver held (x.sent _ j) below
@@ -51,7 +51,7 @@ sealed_kept {S = S} {C = C} {O = O} w v h i b xs x within s =
     }
   where
     by_telling : (k : ℕ) (l : Line C) → IsPrefixOf s.line.list l.list →
-        Told w h (s.node + 1) b k ⊎ (s.replica.joined ≤ b) → IsPrefixOf (take k l.list) xs
+        Acknowledged w h (s.node + 1) b k ⊎ (s.replica.joined ≤ b) → IsPrefixOf (take k l.list) xs
     by_telling k l p (inl told) =
         subst (λ (us : List C). IsPrefixOf us xs) (sym (take_prefix k p (within (s.node + 1) b k s.line s.lined told)))
         (s.covers k told)

@@ -9,10 +9,10 @@ use Rattle.agreement.specs.whole_logs.Replica.{ReplicaState}
 use Rattle.agreement.specs.World.{GroupWorld, outputs, moved}
 use Rattle.lists.specs.Lists.{In, IsPrefixOf}
 use Rattle.agreement.specs.Inside.Ballots.{Line, History, IsChosenIn}
-use Rattle.agreement.specs.Inside.Extending.{Extends}
+use Rattle.agreement.specs.Inside.Extension.{Extends}
 use Rattle.agreement.specs.Inside.MovesAt.{MovesAt, with_lines}
 use Rattle.agreement.specs.Inside.Sound.{LeftIs}
-use Rattle.agreement.specs.Leaving.{Segment}
+use Rattle.agreement.specs.LeftOutputs.{Segment}
 use Rattle.lists.proofs.Prefixes.{prefix_then}
 use Rattle.lists.proofs.Places.{get_set, get_set_other}
 use Rattle.agreement.proofs.Frame.Later.{chosen_kept, takes}

@@ -6,7 +6,7 @@ use Rattle.agreement.specs.whole_logs.Messages.{Effect}
 use Rattle.agreement.specs.whole_logs.Losses.{Loses, halted}
 use Rattle.agreement.specs.whole_logs.Losses.Thinned.{none}
 use Rattle.agreement.specs.whole_logs.Replica.{ReplicaState}
-use Rattle.agreement.specs.whole_logs.Sending.{Outcome, nothing_done}
+use Rattle.agreement.specs.whole_logs.StepOutcome.{Outcome, nothing_done}
 use Rattle.agreement.specs.World.{GroupWorld, moved}
 use Rattle.agreement.specs.Inside.Ballots.{History}
 use Rattle.agreement.specs.Inside.Keeps.{NodeGoesOn, KeepsAdding}

@@ -5,9 +5,9 @@ use Rattle.agreement.specs.whole_logs.Messages.{Effect}
 use Rattle.agreement.specs.whole_logs.Replica.{ReplicaState}
 use Rattle.agreement.specs.World.{GroupWorld, moved}
 use Rattle.lists.specs.Lists.{In, IsPrefixOf}
-use Rattle.agreement.specs.Inside.Ballots.{TellsHere, Given, Line, History, Told, IsChosenIn, Sealed}
+use Rattle.agreement.specs.Inside.Ballots.{TellsHere, Given, Line, History, Acknowledged, IsChosenIn, Sealed}
 use Rattle.agreement.specs.Inside.BallotsStand.{BallotListsStand}
-use Rattle.agreement.specs.Inside.Extending.{AcknowledgedIsWithin}
+use Rattle.agreement.specs.Inside.Extension.{AcknowledgedIsWithin}
 use Rattle.agreement.specs.Inside.MovesAt.{MovesAt, with_lines, LineGoesOn, TellsNow}
 use Rattle.agreement.specs.Inside.MovesAt.LineGoesOn.{stays, grows, begins}
 use Rattle.lists.proofs.Prefixes.{prefix_same, prefix_then}
@@ -79,10 +79,10 @@ move_lines {S = S} {C = C} {O = O} w h line n old new given q within s =
 -- what is newly acknowledged after a move is acknowledged by the node that moved
 pub tells_here : {S C O : Type 0} (w : GroupWorld S C O) (h : History C) (line : ℕ → Option (Line C)) (n : ℕ)
     (old new : ReplicaState S C) (given : List (Effect C O)) → MovesAt w h line n old new given → (m b k : ℕ) →
-    Told (moved w n new given) (with_lines h line) m b k → Told w h m b k ⊎ TellsHere (moved w n new given) m b k
+    Acknowledged (moved w n new given) (with_lines h line) m b k → Acknowledged w h m b k ⊎ TellsHere (moved w n new given) m b k
 tells_here {S = S} {C = C} {O = O} w h line n old new given q m b k t = by_teller (q.tells m b k t)
   where
-    by_teller : Told w h m b k ⊎ ((m ≡ n + 1) × TellsNow line old new b k) → Told w h m b k ⊎ TellsHere (moved w n new given) m b k
+    by_teller : Acknowledged w h m b k ⊎ ((m ≡ n + 1) × TellsNow line old new b k) → Acknowledged w h m b k ⊎ TellsHere (moved w n new given) m b k
     by_teller (inl before) = inl before
     by_teller (inr (one, l)) =
         inr (record { node = n; replica = new; number = one; stands = get_set w.nodes n old new q.stands; held = l.held; short = l.short })

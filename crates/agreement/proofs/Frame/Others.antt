@@ -4,8 +4,8 @@ use Rattle.agreement.specs.whole_logs.Messages.{Effect}
 use Rattle.agreement.specs.whole_logs.Replica.{ReplicaState}
 use Rattle.agreement.specs.World.{GroupWorld, moved}
 use Rattle.lists.specs.Lists.{IsPrefixOf}
-use Rattle.agreement.specs.Inside.Ballots.{Given, Line, History, Told}
-use Rattle.agreement.specs.Inside.Extending.{Extends, AcknowledgedIsWithin}
+use Rattle.agreement.specs.Inside.Ballots.{Given, Line, History, Acknowledged}
+use Rattle.agreement.specs.Inside.Extension.{Extends, AcknowledgedIsWithin}
 use Rattle.agreement.specs.Inside.MovesAt.{MovesAt, with_lines, TellsNow}
 use Rattle.agreement.specs.Inside.SoundNodes.{IsSoundNode}
 use Rattle.lists.proofs.Prefixes.{prefix_then}
@@ -33,7 +33,7 @@ other_node {S = S} {C = C} {O = O} w h line n old new given q within m r other s
         order = s.placed.order;
         between = λ up. between_kept w v h i r.held_in r.log x (s.placed.between up);
         told = λ b k t. s.placed.told b k (back b k t);
-        told_here = λ k t. s.placed.told_here k (back r.held_in k t);
+        acknowledged_here = λ k t. s.placed.acknowledged_here k (back r.held_in k t);
       };
       empty = s.empty;
       member = s.member;
@@ -77,18 +77,18 @@ other_node {S = S} {C = C} {O = O} w h line n old new given q within m r other s
     x : Extends w h (moved w n new given) (with_lines h line)
     x = move_extends w h line n old new given q
 
-    back : (b k : ℕ) → Told (moved w n new given) (with_lines h line) (m + 1) b k → Told w h (m + 1) b k
+    back : (b k : ℕ) → Acknowledged (moved w n new given) (with_lines h line) (m + 1) b k → Acknowledged w h (m + 1) b k
     back b k t = by_teller (q.tells (m + 1) b k t)
       where
-        by_teller : Told w h (m + 1) b k ⊎ ((m + 1 ≡ n + 1) × TellsNow line old new b k) → Told w h (m + 1) b k
+        by_teller : Acknowledged w h (m + 1) b k ⊎ ((m + 1 ≡ n + 1) × TellsNow line old new b k) → Acknowledged w h (m + 1) b k
         by_teller (inl before) = before
         by_teller (inr (one, l)) = absurd (other (omega (arith, one)))
 
     same : (b : ℕ) (g : Given) → h.given b ≡ Some g → g.primary ≡ m + 1 → line b ≡ h.line b
     same b g e is = q.own b g e (λ f. other (omega (arith, is, f)))
 
-    noted : {X : Type 0} (k : ℕ) (l : Line C) → X ⊎ Told w h k r.joined (length l.base) →
-        X ⊎ Told (moved w n new given) (with_lines h line) k r.joined (length l.base)
+    noted : {X : Type 0} (k : ℕ) (l : Line C) → X ⊎ Acknowledged w h k r.joined (length l.base) →
+        X ⊎ Acknowledged (moved w n new given) (with_lines h line) k r.joined (length l.base)
     noted k l (inl y) = inl y
     noted k l (inr t) =
         inr (told_kept w (moved w n new given) h (with_lines h line) k r.joined (length l.base)

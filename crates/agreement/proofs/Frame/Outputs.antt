@@ -3,8 +3,8 @@ use Rattle.std.proofs.Common.{◌≡◌, ℕ, ◌+◌, ◌≤◌, min, List, [],
 use Rattle.machine.specs.Machine.{Rules}
 use Rattle.agreement.specs.whole_logs.Messages.Effect.{Out}
 use Rattle.ballot_base.specs.declared.status.Progress.{Progress}
-use Rattle.agreement.specs.whole_logs.Applying.{outputs_from}
-use Rattle.ballot_base.specs.Serving.{least}
+use Rattle.agreement.specs.whole_logs.Application.{outputs_from}
+use Rattle.ballot_base.specs.Service.{least}
 use Rattle.ballot_base.proofs.StepRows.{least-le}
 use Rattle.agreement.specs.World.{messages}
 use Rattle.lists.specs.Lists.{In}

@@ -6,7 +6,7 @@ use Rattle.machine.specs.Machine.{Rules}
 use Rattle.agreement.specs.whole_logs.Messages.{Message, Effect}
 use Rattle.agreement.specs.whole_logs.Losses.{halted}
 use Rattle.agreement.specs.whole_logs.Replica.{ReplicaState}
-use Rattle.agreement.specs.whole_logs.Sending.{Outcome, nothing_done}
+use Rattle.agreement.specs.whole_logs.StepOutcome.{Outcome, nothing_done}
 use Rattle.agreement.specs.World.{GroupWorld, messages, outputs, moved}
 use Rattle.lists.specs.Lists.{In}
 use Rattle.agreement.specs.Inside.Ballots.{History}
@@ -16,7 +16,7 @@ use Rattle.agreement.specs.Inside.Keeps.LineAdds.{as_it_was}
 use Rattle.agreement.specs.Inside.Keeps.{KeepsSoundness}
 use Rattle.agreement.specs.Inside.Sound.{IsSoundWorld}
 use Rattle.agreement.specs.Inside.SoundNodes.{IsSoundNode}
-use Rattle.agreement.specs.Inside.Saying.{SpeaksTruth}
+use Rattle.agreement.specs.Inside.MessageMeaning.{SpeaksTruth}
 use Rattle.agreement.proofs.Effects.{thinned_outputs, thinned_messages}
 use Rattle.agreement.proofs.Frame.Framing.{within_of}
 use Rattle.agreement.proofs.Frame.Joining.{told_back, AreSilent, MovesQuietly, quiet_extends, quiet_node}
@@ -75,7 +75,7 @@ keeps_halted {S = S} {C = C} {O = O} rules w h n old s stands =
     node : (given : List (Effect C O)) → MovesQuietly w n old (halted rules old) given → IsSoundNode (moved w n (halted rules old) given) h n (halted rules old)
     node given q = let t = before_quiet rules w h n old (halted rules old) given s q in record {
       id = t.id;
-      placed = record { order = t.placed.order; between = t.placed.between; told = t.placed.told; told_here = t.placed.told_here };
+      placed = record { order = t.placed.order; between = t.placed.between; told = t.placed.told; acknowledged_here = t.placed.acknowledged_here };
       empty = t.empty;
       member = t.member;
       primary_log = t.primary_log;

@@ -10,11 +10,11 @@ use Rattle.agreement.specs.World.{GroupWorld, messages, moved}
 use Rattle.lists.specs.Lists.{In}
 use Rattle.agreement.specs.Inside.Ballots.{Given, History}
 use Rattle.agreement.specs.Inside.BallotsStand.{BallotListsStand}
-use Rattle.agreement.specs.Inside.Extending.{Extends, AcknowledgedIsWithin}
+use Rattle.agreement.specs.Inside.Extension.{Extends, AcknowledgedIsWithin}
 use Rattle.agreement.specs.Inside.Sound.{IsSoundWorld}
 use Rattle.agreement.specs.Inside.SoundNodes.{IsSoundNode}
-use Rattle.agreement.specs.Inside.Saying.{SpeaksTruth}
-use Rattle.agreement.specs.Leaving.{Segment}
+use Rattle.agreement.specs.Inside.MessageMeaning.{SpeaksTruth}
+use Rattle.agreement.specs.LeftOutputs.{Segment}
 use Rattle.lists.proofs.Places.{get_set, get_set_other}
 use Rattle.lists.proofs.Members.{in_append}
 use Rattle.agreement.proofs.Frame.Later.{chosen_kept, sealed_kept}

@@ -4,10 +4,10 @@ use Rattle.agreement.specs.whole_logs.Messages.{Body}
 use Rattle.agreement.specs.whole_logs.Messages.Body.{NewBallot, Join, State, Install, Installed, Activate, Activated, Superseded, Append, Held, Commit}
 use Rattle.agreement.specs.World.{GroupWorld}
 use Rattle.lists.specs.Lists.{In, IsPrefixOf}
-use Rattle.agreement.specs.Inside.Ballots.{Given, History, Told, IsChosenIn}
-use Rattle.agreement.specs.Inside.Extending.{Extends, AcknowledgedIsWithin}
-use Rattle.agreement.specs.Inside.Saying.{HasJoined, IsOf, IsOffered, SpeaksTruth}
-use Rattle.agreement.specs.Inside.Ballots.Told.{told_at_opening, told_by_held, told_by_installed, told_as_primary}
+use Rattle.agreement.specs.Inside.Ballots.{Given, History, Acknowledged, IsChosenIn}
+use Rattle.agreement.specs.Inside.Extension.{Extends, AcknowledgedIsWithin}
+use Rattle.agreement.specs.Inside.MessageMeaning.{HasJoined, IsOf, IsOffered, SpeaksTruth}
+use Rattle.agreement.specs.Inside.Ballots.Acknowledged.{told_at_opening, told_by_held, told_by_installed, told_as_primary}
 use Rattle.lists.proofs.Prefixes.{prefix_then, prefix_length, prefix_get}
 use Rattle.agreement.proofs.Frame.Later.{sealed_kept, chosen_kept}
 
@@ -81,7 +81,7 @@ says_kept w v h i to from (Commit b held) x active within (g, given, s, p, j, ch
     (g, x.given b g given, s, p, active b j, chosen_kept w v h i b held x chosen)
 
 -- a node that has acknowledged more has acknowledged less
-pub told_less : {S C O : Type 0} (w : GroupWorld S C O) (h : History C) (m b k j : ℕ) → j ≤ k → Told w h m b k → Told w h m b j
+pub told_less : {S C O : Type 0} (w : GroupWorld S C O) (h : History C) (m b k j : ℕ) → j ≤ k → Acknowledged w h m b k → Acknowledged w h m b j
 told_less w h m b k j less (told_at_opening g one none given member) = told_at_opening g one (omega (arith, none, less)) given member
 told_less w h m b k j less (told_by_held receiver held i below) = told_by_held receiver held i (omega (arith, less, below))
 told_less w h m b k j less (told_by_installed receiver held i below) = told_by_installed receiver held i (omega (arith, less, below))

@@ -5,8 +5,8 @@ use Rattle.std.proofs.lemmas.Bool.{cases_lt}
 use Rattle.agreement.specs.whole_logs.Replica.{ReplicaState}
 use Rattle.agreement.specs.World.{GroupWorld}
 use Rattle.lists.specs.Lists.{In, IsPrefixOf}
-use Rattle.agreement.specs.Inside.Saying.{IsOffered}
-use Rattle.agreement.specs.Inside.Ballots.{Given, Line, History, Told, IsChosenIn, Sealed}
+use Rattle.agreement.specs.Inside.MessageMeaning.{IsOffered}
+use Rattle.agreement.specs.Inside.Ballots.{Given, Line, History, Acknowledged, IsChosenIn, Sealed}
 use Rattle.agreement.specs.Inside.BallotsStand.{AreBallots, BallotListsStand, IsPlaced}
 use Rattle.lists.proofs.Prefixes.{prefix_then, prefix_take, take_prefix}
 use Rattle.agreement.proofs.Frame.Bases.{chosen_told, sealed_wider}
@@ -45,7 +45,7 @@ joined_seals {S = S} {C = C} {O = O} w h ballots lines n r stands placed b g a g
           stands = stands;
           gone = (let x = (ballots.previous b g given later).1 in omega (arith, x, joined));
           covers = λ k t.
-              let long : k ≤ length r.log = placed.told_here k (subst (λ x. Told w h (n + 1) x k) e t) in
+              let long : k ≤ length r.log = placed.acknowledged_here k (subst (λ x. Acknowledged w h (n + 1) x k) e t) in
               subst (λ (us : List C). IsPrefixOf us r.log) (sym (take_prefix k list long)) (prefix_take k r.log);
         }
 

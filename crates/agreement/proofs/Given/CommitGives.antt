@@ -3,12 +3,12 @@ use Rattle.std.proofs.Common.{◌≡◌, ℕ, ◌<◌, ◌≤◌, ◌⊎◌, inl
 use Rattle.std.proofs.lemmas.Bool.{cases_lt}
 use Rattle.std.proofs.lemmas.List.{append-nil}
 use Rattle.machine.specs.Machine.{Rules, replay}
-use Rattle.agreement.specs.whole_logs.Applying.{outputs_from, outputs_to, outputs_between}
+use Rattle.agreement.specs.whole_logs.Application.{outputs_from, outputs_to, outputs_between}
 use Rattle.agreement.specs.whole_logs.Messages.Body.{Commit}
 use Rattle.agreement.specs.whole_logs.Messages.{Effect}
 use Rattle.agreement.specs.whole_logs.Replica.{ReplicaState}
-use Rattle.agreement.specs.whole_logs.Sending.{Outcome, message_to_followed, sent_first}
-use Rattle.agreement.specs.whole_logs.Serving.{commit_at}
+use Rattle.agreement.specs.whole_logs.StepOutcome.{Outcome, message_to_followed, sent_first}
+use Rattle.agreement.specs.whole_logs.Service.{commit_at}
 use Rattle.agreement.proofs.of_whole_logs.StepRows.{commit_at-goes, commit_at-stays}
 use Rattle.agreement.specs.World.{outputs}
 use Rattle.agreement.proofs.Effects.{outputs-append, outputs_of_messages}

@@ -6,14 +6,14 @@ use Rattle.std.proofs.lemmas.List.{length-take-le}
 use Rattle.machine.specs.Machine.{Rules, replay}
 use Rattle.lists.proofs.Prefixes.{prefix_length}
 use Rattle.lists.proofs.Places.{get_set, get_set_other}
-use Rattle.agreement.specs.whole_logs.Applying.{outputs_between}
+use Rattle.agreement.specs.whole_logs.Application.{outputs_between}
 use Rattle.agreement.specs.whole_logs.Messages.{Effect}
 use Rattle.agreement.specs.whole_logs.Losses.{Loses, halted}
 use Rattle.agreement.specs.whole_logs.Protocol.{Input, replica_step}
 use Rattle.agreement.specs.whole_logs.Replica.{ReplicaState}
 use Rattle.ballot_base.specs.Replica.{is_active}
-use Rattle.agreement.specs.Giving.{GivesNext, given_in, gives_from}
-use Rattle.agreement.specs.Laws.{AnswersAtTheNextPlaces}
+use Rattle.agreement.specs.NodeOutputs.{GivesNext, given_in, gives_from}
+use Rattle.agreement.specs.Theorems.{AnswersAtTheNextPlaces}
 use Rattle.agreement.specs.MasterState.{AssignRefusal, MasterState, refusal}
 use Rattle.agreement.specs.Moments.Moments.{went_on}
 use Rattle.agreement.specs.Steps.{MayHappen, world_after}

@@ -4,7 +4,7 @@ use Rattle.std.proofs.lemmas.List.{length-drop, length-take-le, take-take}
 use Rattle.machine.specs.Machine.{Rules, replay, replay_from}
 use Rattle.lists.specs.Lists.{IsPrefixOf}
 use Rattle.lists.proofs.Prefixes.{take_prefix}
-use Rattle.agreement.specs.whole_logs.Applying.{outputs_from, outputs_between}
+use Rattle.agreement.specs.whole_logs.Application.{outputs_from, outputs_between}
 use Rattle.agreement.proofs.of_whole_logs.AppliesInOrder.{outputs_from-append}
 use Rattle.ballot_base.proofs.AppliesInOrder.{part_none, replay_goes_on}
 use Rattle.agreement.specs.World.{outputs}

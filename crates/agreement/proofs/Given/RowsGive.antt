@@ -4,15 +4,15 @@ use Rattle.std.specs.Prelude.{nat_lt, nat_le, ◌&&◌, ◌||◌, ◌==◌}
 use Rattle.std.specs.List.{list_any}
 use Rattle.std.proofs.lemmas.Bool.{cases_Bool}
 use Rattle.agreement.specs.whole_logs.Messages.Body.{Join, Commit}
-use Rattle.agreement.specs.whole_logs.Changing.{on_new_ballot, on_join, on_install, on_state}
-use Rattle.agreement.specs.whole_logs.Activating.{on_superseded, on_installed, activates}
+use Rattle.agreement.specs.whole_logs.Transfer.{on_new_ballot, on_join, on_install, on_state}
+use Rattle.agreement.specs.whole_logs.Activation.{on_superseded, on_installed, activates}
 use Rattle.agreement.specs.whole_logs.Replica.{ReplicaState}
 use Rattle.ballot_base.specs.Replica.{is_fetching, is_installing, others}
 use Rattle.ballot_base.specs.declared.status.Role.{Role}
 use Rattle.ballot_base.specs.declared.status.Role.TheVariants.{Backup, Fetching, Installing, Active}
 use Rattle.agreement.specs.whole_logs.Protocol.{ticked}
-use Rattle.agreement.specs.whole_logs.Sending.{Outcome, message_to_followed}
-use Rattle.agreement.specs.whole_logs.Serving.{appends_after, follows, on_append, on_tick_active}
+use Rattle.agreement.specs.whole_logs.StepOutcome.{Outcome, message_to_followed}
+use Rattle.agreement.specs.whole_logs.Service.{appends_after, follows, on_append, on_tick_active}
 use Rattle.agreement.specs.World.{outputs}
 use Rattle.agreement.proofs.Changing.NewBallots.{outputs_to_each}
 use Rattle.agreement.proofs.Effects.{outputs-append, outputs_of_messages}

@@ -4,22 +4,22 @@ use Rattle.std.specs.Prelude.{nat_lt, nat_le, ◌&&◌, ◌==◌}
 use Rattle.std.proofs.lemmas.Bool.{and_parts, cases_Bool, cases_lt}
 use Rattle.std.proofs.lemmas.List.{take-append-le}
 use Rattle.machine.specs.Machine.{Rules, replay}
-use Rattle.agreement.specs.whole_logs.Applying.{applied_to, outputs_between}
+use Rattle.agreement.specs.whole_logs.Application.{applied_to, outputs_between}
 use Rattle.agreement.specs.whole_logs.Messages.{Body}
 use Rattle.agreement.specs.whole_logs.Messages.Body.{NewBallot, Join, State, Install, Installed, Activate, Activated, Superseded, Append, Held, Commit}
-use Rattle.agreement.specs.whole_logs.Activating.{on_activated}
+use Rattle.agreement.specs.whole_logs.Activation.{on_activated}
 use Rattle.agreement.specs.whole_logs.Protocol.{Input, received, replica_step}
 use Rattle.agreement.specs.whole_logs.Protocol.Input.{Receives, Proposes, Ticks}
 use Rattle.agreement.specs.whole_logs.Replica.{ReplicaState}
 use Rattle.ballot_base.specs.Replica.{is_active, is_backup, is_installing, others, progress_at}
 use Rattle.ballot_base.specs.declared.status.Role.TheVariants.{Active}
-use Rattle.agreement.specs.whole_logs.Sending.{Outcome, message_to_followed, nothing_done}
-use Rattle.agreement.specs.whole_logs.Serving.{added, commit, follows, leads, on_commit, on_held, proposed}
-use Rattle.ballot_base.specs.Serving.{least, max_places, raised}
+use Rattle.agreement.specs.whole_logs.StepOutcome.{Outcome, message_to_followed, nothing_done}
+use Rattle.agreement.specs.whole_logs.Service.{added, commit, follows, leads, on_commit, on_held, proposed}
+use Rattle.ballot_base.specs.Service.{least, max_places, raised}
 use Rattle.ballot_base.proofs.AppliesInOrder.{replay_goes_on}
 use Rattle.agreement.proofs.of_whole_logs.ChangeRows.{on_activated-adds, on_activated-stays}
 use Rattle.agreement.proofs.of_whole_logs.StepRows.{added-is, proposed-adds, proposed-full, proposed-not_active}
-use Rattle.agreement.specs.Giving.{gives_from}
+use Rattle.agreement.specs.NodeOutputs.{gives_from}
 use Rattle.agreement.specs.World.{outputs}
 use Rattle.agreement.proofs.Effects.{outputs_of_messages}
 use Rattle.agreement.proofs.Frame.Roles.{role_active, role_backup, role_installing}

@@ -6,13 +6,13 @@ use Rattle.std.proofs.lemmas.List.{append-nil, length-take-le}
 use Rattle.machine.specs.Machine.{Rules}
 use Rattle.lists.proofs.Prefixes.{prefix_length, take_prefix}
 use Rattle.lists.proofs.Places.{get_set_other}
-use Rattle.agreement.specs.whole_logs.Applying.{applied_to, outputs_between}
+use Rattle.agreement.specs.whole_logs.Application.{applied_to, outputs_between}
 use Rattle.ballot_base.specs.declared.config.Config.{Config}
 use Rattle.agreement.specs.whole_logs.Replica.{ReplicaState}
 use Rattle.ballot_base.specs.Replica.{is_active}
-use Rattle.agreement.specs.Giving.{LeadsOn, given_in, given_of}
-use Rattle.agreement.specs.Giving.LeadsOn.{leads_there, leads_still, leads_beside}
-use Rattle.agreement.specs.Laws.{AnswersWhileItLeads}
+use Rattle.agreement.specs.NodeOutputs.{LeadsOn, given_in, given_of}
+use Rattle.agreement.specs.NodeOutputs.LeadsOn.{leads_there, leads_still, leads_beside}
+use Rattle.agreement.specs.Theorems.{AnswersWhileItLeads}
 use Rattle.agreement.specs.Moments.{Learns, Moment, Moments, IsAgreed}
 use Rattle.agreement.specs.Primaries.{IsPrimary}
 use Rattle.agreement.specs.World.{outputs}

@@ -3,11 +3,11 @@ use Rattle.std.proofs.Common.{◌≡◌, ℕ, ◌+◌, ◌<◌, ◌≤◌, ◌�
 use Rattle.std.proofs.lemmas.Bool.{cases_lt}
 use Rattle.std.proofs.lemmas.List.{take-take, take-append-drop, take-append-le, drop-append-le, length-take-le}
 use Rattle.machine.specs.Machine.{Rules, replay_from}
-use Rattle.agreement.specs.whole_logs.Applying.{applied_to}
+use Rattle.agreement.specs.whole_logs.Application.{applied_to}
 use Rattle.agreement.specs.whole_logs.Replica.{ReplicaState}
-use Rattle.agreement.specs.whole_logs.Sending.{Outcome}
-use Rattle.agreement.specs.whole_logs.Serving.{added, commit_at}
-use Rattle.ballot_base.specs.Serving.{least}
+use Rattle.agreement.specs.whole_logs.StepOutcome.{Outcome}
+use Rattle.agreement.specs.whole_logs.Service.{added, commit_at}
+use Rattle.ballot_base.specs.Service.{least}
 use Rattle.ballot_base.proofs.AppliesInOrder.{part_none, replay_from-append}
 use Rattle.agreement.proofs.of_whole_logs.StepRows.{commit_at-stays, commit_at-goes, added-is}
 

@@ -4,8 +4,8 @@ use Rattle.std.specs.Prelude.{nat_lt, nat_le, ◌&&◌, ◌||◌, ◌==◌}
 use Rattle.std.specs.List.{list_any}
 use Rattle.std.proofs.lemmas.Bool.{cases_Bool}
 use Rattle.machine.specs.Machine.{Rules}
-use Rattle.agreement.specs.whole_logs.Changing.{on_new_ballot, on_join, on_install, on_state}
-use Rattle.agreement.specs.whole_logs.Activating.{on_superseded, on_installed}
+use Rattle.agreement.specs.whole_logs.Transfer.{on_new_ballot, on_join, on_install, on_state}
+use Rattle.agreement.specs.whole_logs.Activation.{on_superseded, on_installed}
 use Rattle.agreement.specs.whole_logs.Replica.{ReplicaState}
 use Rattle.ballot_base.specs.Replica.{is_fetching, is_installing}
 use Rattle.agreement.proofs.Machines.Applies.{Applies, applies_nothing}

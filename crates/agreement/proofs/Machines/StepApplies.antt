@@ -3,8 +3,8 @@ use Rattle.std.proofs.Common.{◌≡◌, ℕ, ◌<◌, ◌≤◌, ◌⊎◌, inl
 use Rattle.std.specs.Prelude.{nat_lt, nat_le, ◌&&◌, ◌==◌}
 use Rattle.std.proofs.lemmas.Bool.{cases_Bool, cases_lt}
 use Rattle.machine.specs.Machine.{Rules}
-use Rattle.agreement.specs.whole_logs.Applying.{applied_to}
-use Rattle.agreement.specs.whole_logs.Activating.{on_activated}
+use Rattle.agreement.specs.whole_logs.Application.{applied_to}
+use Rattle.agreement.specs.whole_logs.Activation.{on_activated}
 use Rattle.agreement.specs.whole_logs.Messages.{Body}
 use Rattle.agreement.specs.whole_logs.Messages.Body.{NewBallot, Join, State, Install, Installed, Activate, Activated, Superseded, Append, Held, Commit}
 use Rattle.ballot_base.specs.declared.status.Role.{Role}
@@ -13,9 +13,9 @@ use Rattle.agreement.specs.whole_logs.Protocol.{Input, received, ticked, replica
 use Rattle.agreement.specs.whole_logs.Protocol.Input.{Receives, Proposes, Ticks}
 use Rattle.agreement.specs.whole_logs.Replica.{ReplicaState}
 use Rattle.ballot_base.specs.Replica.{is_installing, is_active, others, progress_at}
-use Rattle.agreement.specs.whole_logs.Sending.{Outcome}
-use Rattle.ballot_base.specs.Serving.{max_places, least, raised}
-use Rattle.agreement.specs.whole_logs.Serving.{proposed, follows, leads, commit, on_append, on_held, on_commit, on_tick_active}
+use Rattle.agreement.specs.whole_logs.StepOutcome.{Outcome}
+use Rattle.ballot_base.specs.Service.{max_places, least, raised}
+use Rattle.agreement.specs.whole_logs.Service.{proposed, follows, leads, commit, on_append, on_held, on_commit, on_tick_active}
 use Rattle.agreement.proofs.of_whole_logs.StepRows.{proposed-adds, proposed-full, proposed-not_active}
 use Rattle.agreement.proofs.Machines.Applies.{Applies, applies_nothing, applies_to, commit_applies, added_applies, added_after}
 use Rattle.agreement.proofs.of_whole_logs.ChangeRows.{on_activated-stays, on_activated-adds}

@@ -7,7 +7,7 @@ use Rattle.lists.specs.Lists.{In}
 use Rattle.lists.specs.Lists.In.{here}
 use Rattle.agreement.specs.Inside.Ballots.{Given, History}
 use Rattle.agreement.specs.Inside.BallotsStand.{IsChain, AreBallots}
-use Rattle.agreement.specs.Inside.Extending.{Extends}
+use Rattle.agreement.specs.Inside.Extension.{Extends}
 use Rattle.agreement.specs.MasterState.{MasterState, assigned}
 use Rattle.agreement.specs.Inside.Masters.{IsMaster}
 use Rattle.agreement.specs.Steps.{sends_from_master}

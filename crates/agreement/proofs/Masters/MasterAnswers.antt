@@ -8,12 +8,12 @@ use Rattle.agreement.specs.World.{GroupWorld}
 use Rattle.lists.specs.Lists.{In}
 use Rattle.lists.specs.Lists.In.{here}
 use Rattle.agreement.specs.Inside.Ballots.{History}
-use Rattle.agreement.specs.Inside.Extending.{Extends}
+use Rattle.agreement.specs.Inside.Extension.{Extends}
 use Rattle.agreement.specs.MasterState.{MasterState, activated}
 use Rattle.agreement.specs.Inside.Masters.{IsMaster}
 use Rattle.agreement.specs.Steps.{sends_from_master}
 use Rattle.agreement.specs.Inside.Sound.{IsSoundWorld}
-use Rattle.agreement.specs.Inside.Saying.{SpeaksTruth}
+use Rattle.agreement.specs.Inside.MessageMeaning.{SpeaksTruth}
 use Rattle.agreement.proofs.Masters.Assigned.{Assigned}
 use Rattle.agreement.proofs.Frame.Joining.{IsSilent}
 use Rattle.agreement.proofs.Masters.MasterSends.{ToldBack}

@@ -8,11 +8,11 @@ use Rattle.lists.specs.Lists.{In}
 use Rattle.lists.specs.Lists.In.{here, there}
 use Rattle.agreement.specs.Inside.Ballots.{Given, Line, History, IsChosenIn}
 use Rattle.agreement.specs.Inside.BallotsStand.{AreBallots}
-use Rattle.agreement.specs.Inside.Extending.{Extends}
+use Rattle.agreement.specs.Inside.Extension.{Extends}
 use Rattle.agreement.specs.MasterState.{MasterOutcome}
 use Rattle.agreement.specs.Steps.{sends_from_master}
 use Rattle.agreement.specs.Inside.Sound.{IsSoundWorld}
-use Rattle.agreement.specs.Inside.Saying.{SpeaksTruth}
+use Rattle.agreement.specs.Inside.MessageMeaning.{SpeaksTruth}
 use Rattle.agreement.proofs.Frame.Joining.{IsSilent, AreSilent}
 use Rattle.agreement.proofs.Masters.MasterSends.{with_ballots, ToldBack, master_sends}
 

@@ -4,9 +4,9 @@ use Rattle.std.proofs.lemmas.Bool.{cases_lt}
 use Rattle.agreement.specs.whole_logs.Replica.{ReplicaState}
 use Rattle.agreement.specs.World.{GroupWorld}
 use Rattle.lists.specs.Lists.{In}
-use Rattle.agreement.specs.Inside.Ballots.{Given, Line, History, Told}
+use Rattle.agreement.specs.Inside.Ballots.{Given, Line, History, Acknowledged}
 use Rattle.agreement.specs.Inside.BallotsStand.{BallotListsStand}
-use Rattle.agreement.specs.Inside.Extending.{Extends, AcknowledgedIsWithin}
+use Rattle.agreement.specs.Inside.Extension.{Extends, AcknowledgedIsWithin}
 use Rattle.agreement.specs.Inside.SoundNodes.{IsSoundNode}
 use Rattle.agreement.proofs.Frame.Later.{told_kept, applied_kept}
 use Rattle.agreement.proofs.Frame.SaysLater.{of_kept}
@@ -18,7 +18,7 @@ pub node_with_ballots : {S C O : Type 0} (w v : GroupWorld S C O) (h : History C
     ((c : ℕ) → In c h.activated → In c activated) → AcknowledgedIsWithin w h →
     ((c : ℕ) (g : Given) → given c ≡ Some g → (x : Given) × (h.given c ≡ Some x) → h.given c ≡ Some g) →
     ((c : ℕ) (g : Given) → given c ≡ Some g → 0 < c) →
-    ((c k : ℕ) → Told v (record h { given = given; activated = activated }) (n + 1) c k → Told w h (n + 1) c k) →
+    ((c k : ℕ) → Acknowledged v (record h { given = given; activated = activated }) (n + 1) c k → Acknowledged w h (n + 1) c k) →
     BallotListsStand w h → IsSoundNode w h n r → IsSoundNode v (record h { given = given; activated = activated }) n r
 node_with_ballots {S = S} {C = C} {O = O} w v h given activated n r x active within back positive told_back lines s =
     record {
@@ -27,7 +27,7 @@ node_with_ballots {S = S} {C = C} {O = O} w v h given activated n r x active wit
         order = s.placed.order;
         between = λ up. between_kept w v h i r.held_in r.log x (s.placed.between up);
         told = λ c k t. s.placed.told c k (told_back c k t);
-        told_here = λ k t. s.placed.told_here k (told_back r.held_in k t);
+        acknowledged_here = λ k t. s.placed.acknowledged_here k (told_back r.held_in k t);
       };
       empty = s.empty;
       member = λ g e. s.member g (by_held g e (cases_lt 0 r.held_in));
@@ -81,7 +81,7 @@ node_with_ballots {S = S} {C = C} {O = O} w v h given activated n r x active wit
     by_joined (inr (g, e, (inl j))) = inr (g, x.given r.joined g e, inl j)
     by_joined (inr (g, e, (inr (old, f, j)))) = inr (g, x.given r.joined g e, inr (old, x.given g.previous old f, j))
 
-    noted : {X : Type 0} (k : ℕ) (l : Line C) → X ⊎ Told w h k r.joined (length l.base) →
-        X ⊎ Told v (record h { given = given; activated = activated }) k r.joined (length l.base)
+    noted : {X : Type 0} (k : ℕ) (l : Line C) → X ⊎ Acknowledged w h k r.joined (length l.base) →
+        X ⊎ Acknowledged v (record h { given = given; activated = activated }) k r.joined (length l.base)
     noted k l (inl y) = inl y
     noted k l (inr t) = inr (told_kept w v h (record h { given = given; activated = activated }) k r.joined (length l.base) x t)

@@ -6,12 +6,12 @@ use Rattle.agreement.specs.whole_logs.Messages.Body.{Held, Installed}
 use Rattle.agreement.specs.World.{GroupWorld}
 use Rattle.lists.specs.Lists.{In}
 use Rattle.lists.specs.Lists.In.{here, there}
-use Rattle.agreement.specs.Inside.Ballots.{Given, Line, History, Told, IsChosenIn}
+use Rattle.agreement.specs.Inside.Ballots.{Given, Line, History, Acknowledged, IsChosenIn}
 use Rattle.agreement.specs.Inside.BallotsStand.{IsChain, AreBallots}
-use Rattle.agreement.specs.Inside.Extending.{Extends, AcknowledgedIsWithin}
-use Rattle.agreement.specs.Inside.Ballots.Told.{told_at_opening, told_by_held, told_by_installed, told_as_primary}
+use Rattle.agreement.specs.Inside.Extension.{Extends, AcknowledgedIsWithin}
+use Rattle.agreement.specs.Inside.Ballots.Acknowledged.{told_at_opening, told_by_held, told_by_installed, told_as_primary}
 use Rattle.agreement.specs.Inside.Sound.{IsSoundWorld}
-use Rattle.agreement.specs.Inside.Saying.{SpeaksTruth}
+use Rattle.agreement.specs.Inside.MessageMeaning.{SpeaksTruth}
 use Rattle.lists.proofs.Prefixes.{prefix_same}
 use Rattle.lists.proofs.Members.{in_left, in_append}
 use Rattle.agreement.proofs.Frame.Framing.{within_of}
@@ -41,7 +41,7 @@ chain_has_one h (b ∷ (p ∷ older)) c = there (chain_has_one h (p ∷ older) c
 
 -- nothing more is acknowledged
 abbrev pub ToldBack : {S C O : Type 0} → GroupWorld S C O → History C → GroupWorld S C O → History C → Type 0
-ToldBack w h v i = (m b k : ℕ) → Told v i m b k → Told w h m b k
+ToldBack w h v i = (m b k : ℕ) → Acknowledged v i m b k → Acknowledged w h m b k
 
 -- messages of the master, perhaps none
 pub master_sends : {S C O : Type 0} (rules : Rules S C O) (w : GroupWorld S C O) (h : History C) (extra : List (ℕ × Message C))
@@ -105,18 +105,18 @@ master_sends {S = S} {C = C} {O = O} rules w h extra given activated s silent mo
     one_given : (x : Given) × (h.given 1 ≡ Some x)
     one_given = let z = s.ballots.were_given 1 (chain_has_one h h.activated s.ballots.chain) in (z.0, z.1)
 
-    told_back : (m c k : ℕ) → Told (record w { sent = w.sent ++ extra }) (with_ballots h given activated) m c k → Told w h m c k
+    told_back : (m c k : ℕ) → Acknowledged (record w { sent = w.sent ++ extra }) (with_ballots h given activated) m c k → Acknowledged w h m c k
     told_back m c k (told_at_opening g one none is member) = told_at_opening g one none (back 1 g is one_given) member
     told_back m c k (told_as_primary g l is primary lined below) =
         told_as_primary g l (back c g is (s.lines.lined c l lined)) primary lined below
     told_back m c k (told_by_held receiver held j below) = by_sent (old_or_silent (receiver, record { from = m; body = Held c held }) j)
       where
-        by_sent : In {X = ℕ × Message C} (receiver, record { from = m; body = Held c held }) w.sent ⊎ ⊥ → Told w h m c k
+        by_sent : In {X = ℕ × Message C} (receiver, record { from = m; body = Held c held }) w.sent ⊎ ⊥ → Acknowledged w h m c k
         by_sent (inl y) = told_by_held receiver held y below
         by_sent (inr y) = absurd y
     told_back m c k (told_by_installed receiver held j below) = by_sent (old_or_silent (receiver, record { from = m; body = Installed c held }) j)
       where
-        by_sent : In {X = ℕ × Message C} (receiver, record { from = m; body = Installed c held }) w.sent ⊎ ⊥ → Told w h m c k
+        by_sent : In {X = ℕ × Message C} (receiver, record { from = m; body = Installed c held }) w.sent ⊎ ⊥ → Acknowledged w h m c k
         by_sent (inl y) = told_by_installed receiver held y below
         by_sent (inr y) = absurd y
 

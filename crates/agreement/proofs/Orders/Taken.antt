@@ -11,9 +11,9 @@ use Rattle.agreement.specs.whole_logs.Losses.Thinned.{none}
 use Rattle.agreement.specs.whole_logs.Protocol.Input.{Proposes}
 use Rattle.agreement.specs.whole_logs.Replica.{ReplicaState}
 use Rattle.ballot_base.specs.Replica.{is_active}
-use Rattle.agreement.specs.whole_logs.Sending.{Outcome, nothing_done}
-use Rattle.agreement.specs.whole_logs.Serving.{added, proposed}
-use Rattle.ballot_base.specs.Serving.{max_places}
+use Rattle.agreement.specs.whole_logs.StepOutcome.{Outcome, nothing_done}
+use Rattle.agreement.specs.whole_logs.Service.{added, proposed}
+use Rattle.ballot_base.specs.Service.{max_places}
 use Rattle.agreement.proofs.of_whole_logs.StepRows.{proposed-adds, proposed-full, proposed-not_active}
 use Rattle.agreement.specs.Proposals.{taken_by}
 

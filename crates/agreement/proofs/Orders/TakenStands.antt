@@ -12,7 +12,7 @@ use Rattle.agreement.specs.whole_logs.Protocol.{Input, replica_step}
 use Rattle.agreement.specs.whole_logs.Protocol.Input.{Receives, Proposes, Ticks}
 use Rattle.agreement.specs.whole_logs.Replica.{ReplicaState}
 use Rattle.agreement.proofs.of_whole_logs.StepRows.{added-log}
-use Rattle.agreement.specs.Laws.{TakenStandAtOnce}
+use Rattle.agreement.specs.Theorems.{TakenStandAtOnce}
 use Rattle.agreement.specs.MasterState.{MasterState}
 use Rattle.agreement.specs.Proposals.{IsTaken, proposal_of, taken_by, taken_in, takes_at}
 use Rattle.agreement.specs.Steps.{MayHappen}

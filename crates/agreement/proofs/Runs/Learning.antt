@@ -4,7 +4,7 @@ use Rattle.std.proofs.Common.{inl, ◌≡◌, ℕ, ◌≤◌, false, List, [], l
 use Rattle.std.specs.Prelude.{slice_get}
 use Rattle.std.proofs.lemmas.List.{length-set, take-take}
 use Rattle.machine.specs.Machine.{Rules}
-use Rattle.agreement.specs.whole_logs.Applying.{applied_to}
+use Rattle.agreement.specs.whole_logs.Application.{applied_to}
 use Rattle.agreement.specs.whole_logs.Messages.{Effect}
 use Rattle.agreement.specs.whole_logs.Losses.Thinned.{none}
 use Rattle.agreement.specs.whole_logs.Protocol.Input.{Ticks}
@@ -70,7 +70,7 @@ keeps_learned {S = S} {C = C} {O = O} rules w h n r t k s stands passive up with
     node : (given : List (Effect C O)) → MovesQuietly w n r new given → IsSoundNode (moved w n new given) h n new
     node given q = let u = before_quiet rules w h n r new given s q in record {
       id = u.id;
-      placed = record { order = u.placed.order; between = u.placed.between; told = u.placed.told; told_here = u.placed.told_here };
+      placed = record { order = u.placed.order; between = u.placed.between; told = u.placed.told; acknowledged_here = u.placed.acknowledged_here };
       empty = u.empty;
       member = u.member;
       primary_log = u.primary_log;

@@ -14,7 +14,7 @@ use Rattle.agreement.specs.World.{opening_world}
 use Rattle.lists.specs.Lists.{In, IsPrefixOf}
 use Rattle.lists.specs.Lists.In.{here}
 use Rattle.agreement.specs.Inside.Ballots.{Given, Line}
-use Rattle.agreement.specs.Inside.Ballots.Told.{told_at_opening}
+use Rattle.agreement.specs.Inside.Ballots.Acknowledged.{told_at_opening}
 use Rattle.agreement.specs.Inside.BallotsStand.Applied.{nothing}
 use Rattle.agreement.specs.Inside.OpeningHistory.{first_ballot, first_line, opening_history}
 use Rattle.agreement.specs.Inside.SoundNodes.{IsSoundNode}
@@ -53,7 +53,7 @@ backup_opens {C = C} rules nodes config n j led way =
         order = omega arith;
         between = λ up. between up way;
         told = λ b k t. told b k way (told_opens rules nodes config led (n + 1) b k t);
-        told_here = λ k t. let z = (told_opens rules nodes config led (n + 1) j k t).1 in omega (arith, z);
+        acknowledged_here = λ k t. let z = (told_opens rules nodes config led (n + 1) j k t).1 in omega (arith, z);
       };
       empty = λ e. refl;
       member = λ g e. member g (first_given C config j g e) way;
@@ -100,7 +100,7 @@ leader_opens {C = C} rules nodes config n led primary =
     let t = backup_opens rules nodes config n 1 led (inl (refl, subst (λ x. In x config.members) primary led)) in
     record {
       id = refl;
-      placed = record { order = t.placed.order; between = t.placed.between; told = t.placed.told; told_here = t.placed.told_here };
+      placed = record { order = t.placed.order; between = t.placed.between; told = t.placed.told; acknowledged_here = t.placed.acknowledged_here };
       empty = t.empty;
       member = t.member;
       primary_log = t.primary_log;

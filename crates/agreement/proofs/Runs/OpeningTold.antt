@@ -8,8 +8,8 @@ use Rattle.ballot_base.specs.declared.config.Config.{Config}
 use Rattle.agreement.specs.World.{opening_world}
 use Rattle.lists.specs.Lists.{In}
 use Rattle.lists.specs.Lists.In.{here, there}
-use Rattle.agreement.specs.Inside.Ballots.{Given, Line, Told}
-use Rattle.agreement.specs.Inside.Ballots.Told.{told_at_opening, told_by_held, told_by_installed, told_as_primary}
+use Rattle.agreement.specs.Inside.Ballots.{Given, Line, Acknowledged}
+use Rattle.agreement.specs.Inside.Ballots.Acknowledged.{told_at_opening, told_by_held, told_by_installed, told_as_primary}
 use Rattle.agreement.specs.Inside.OpeningHistory.{first_ballot, first_line, opening_history}
 
 -- a member is found
@@ -41,7 +41,7 @@ first_lined C config b l e = by_ballot (b == 1) refl e
 
 -- the members have acknowledged nothing of ballot 1, and no more is acknowledged
 pub told_opens : {S C O : Type 0} (rules : Rules S C O) (nodes : ℕ) (config : Config) → In config.primary config.members → (m b k : ℕ) →
-    Told (opening_world rules nodes config) (opening_history C config) m b k → (b ≡ 1) × (k ≡ 0) × In m config.members
+    Acknowledged (opening_world rules nodes config) (opening_history C config) m b k → (b ≡ 1) × (k ≡ 0) × In m config.members
 told_opens {C = C} rules nodes config led m b k (told_at_opening g one none is member) =
     (one, none, subst (λ (x : Given). In m x.members) (sym (first_given C config 1 g is).1) member)
 told_opens {C = C} rules nodes config led m b k (told_by_held receiver held j below) = elim j [ ]

@@ -9,7 +9,7 @@ use Rattle.agreement.specs.World.{opening_nodes, opening_world}
 use Rattle.lists.specs.Lists.{In, IsPrefixOf}
 use Rattle.lists.specs.Lists.In.{here, there}
 use Rattle.agreement.specs.Inside.Ballots.{Given, Line, IsChosenIn}
-use Rattle.agreement.specs.Inside.Ballots.Told.{told_at_opening}
+use Rattle.agreement.specs.Inside.Ballots.Acknowledged.{told_at_opening}
 use Rattle.agreement.specs.Inside.Masters.{IsMaster}
 use Rattle.agreement.specs.Inside.OpeningHistory.{first_ballot, first_line, opening_history}
 use Rattle.agreement.specs.MasterState.{opening_master}

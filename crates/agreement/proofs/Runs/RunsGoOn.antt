@@ -9,7 +9,7 @@ use Rattle.agreement.specs.whole_logs.Protocol.{replica_step}
 use Rattle.lists.specs.Lists.{In}
 use Rattle.agreement.specs.Proposals.{proposal_by}
 use Rattle.agreement.specs.World.{GroupWorld}
-use Rattle.agreement.specs.Inside.Ballots.{Line, History, Told, TellsHere}
+use Rattle.agreement.specs.Inside.Ballots.{Line, History, Acknowledged, TellsHere}
 use Rattle.agreement.specs.Inside.Begun.{AreBegun, BeginsOrFollows, AreLong}
 use Rattle.agreement.specs.Inside.MomentSteps.{adds_of, AddsBy, MomentStep}
 use Rattle.agreement.specs.Inside.MomentSteps.MomentStep.{takes, stops, assigns, hears, assigns_unheard, hears_unanswered}
@@ -45,7 +45,7 @@ pub record RunGoesOn {S C O : Type 0} (rules : Rules S C O) (w : GroupWorld S C 
 pub record StepGoesOn {S C O : Type 0} (rules : Rules S C O) (w : GroupWorld S C O) (h : History C) (m : MasterState) (v : GroupWorld S C O)
     (adds : List (ℕ × C)) : Type 0 where
   pub run : RunGoesOn rules w h m v adds
-  pub tells : (x b k : ℕ) → Told v run.group.goes_on.history x b k → Told w h x b k ⊎ TellsHere v x b k
+  pub tells : (x b k : ℕ) → Acknowledged v run.group.goes_on.history x b k → Acknowledged w h x b k ⊎ TellsHere v x b k
   pub gives : GivenNow h m run.group.goes_on.history
   pub activates : ActivatedNow h m run.group.goes_on.history
 

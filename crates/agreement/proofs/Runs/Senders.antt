@@ -4,11 +4,11 @@ use Rattle.std.specs.Prelude.{nat_lt, nat_le, ◌&&◌, ◌||◌, ◌==◌, slic
 use Rattle.std.specs.List.{list_any}
 use Rattle.std.proofs.lemmas.Bool.{cases_Bool, cases_lt}
 use Rattle.machine.specs.Machine.{Rules}
-use Rattle.agreement.specs.whole_logs.Applying.{outputs_from}
+use Rattle.agreement.specs.whole_logs.Application.{outputs_from}
 use Rattle.agreement.specs.whole_logs.Messages.{Body, Effect, Message}
 use Rattle.agreement.specs.whole_logs.Messages.Body.{NewBallot, Join, State, Install, Installed, Activate, Activated, Superseded, Append, Held, Commit}
-use Rattle.agreement.specs.whole_logs.Changing.{on_new_ballot, on_join, install_effects, on_state, on_install}
-use Rattle.agreement.specs.whole_logs.Activating.{activates, on_installed, on_activated, on_superseded}
+use Rattle.agreement.specs.whole_logs.Transfer.{on_new_ballot, on_join, install_effects, on_state, on_install}
+use Rattle.agreement.specs.whole_logs.Activation.{activates, on_installed, on_activated, on_superseded}
 use Rattle.agreement.specs.whole_logs.Messages.Effect.{To, Out}
 use Rattle.ballot_base.specs.declared.status.Progress.{Progress}
 use Rattle.agreement.specs.whole_logs.Protocol.{Input, received, ticked, replica_step}
@@ -17,9 +17,9 @@ use Rattle.agreement.specs.whole_logs.Replica.{ReplicaState}
 use Rattle.ballot_base.specs.Replica.{is_active, is_fetching, is_installing, others}
 use Rattle.ballot_base.specs.declared.status.Role.{Role}
 use Rattle.ballot_base.specs.declared.status.Role.TheVariants.{Backup, Fetching, Installing, Active}
-use Rattle.agreement.specs.whole_logs.Sending.{Outcome, message_to_each, message_to_followed}
-use Rattle.agreement.specs.whole_logs.Serving.{append_at, appends_after, follows, leads, commit_at, commit, added, proposed, on_append, on_held, on_commit, on_tick_active}
-use Rattle.ballot_base.specs.Serving.{max_places}
+use Rattle.agreement.specs.whole_logs.StepOutcome.{Outcome, message_to_each, message_to_followed}
+use Rattle.agreement.specs.whole_logs.Service.{append_at, appends_after, follows, leads, commit_at, commit, added, proposed, on_append, on_held, on_commit, on_tick_active}
+use Rattle.ballot_base.specs.Service.{max_places}
 use Rattle.agreement.proofs.of_whole_logs.StepRows.{commit_at-stays, commit_at-goes}
 use Rattle.agreement.specs.World.{messages}
 use Rattle.lists.specs.Lists.{In}

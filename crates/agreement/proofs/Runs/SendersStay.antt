@@ -17,7 +17,7 @@ use Rattle.agreement.specs.MasterState.{MasterState, MasterOutcome, AssignRefusa
 use Rattle.agreement.specs.Steps.{MayHappen, sends_from_master, world_after}
 use Rattle.agreement.specs.Steps.MayHappen.{node_takes, node_stops, master_assigns, master_hears, assignment_lost, answer_lost}
 use Rattle.agreement.specs.Inside.Ballots.{Given, History}
-use Rattle.agreement.specs.Inside.Extending.{Extends}
+use Rattle.agreement.specs.Inside.Extension.{Extends}
 use Rattle.agreement.specs.Inside.Serves.{IsNode, AreSenders, IsLedByNode, Serves}
 use Rattle.agreement.specs.Inside.Sound.{IsSoundWorld}
 use Rattle.agreement.proofs.Effects.{thinned_messages}

@@ -6,18 +6,18 @@ use Rattle.agreement.specs.whole_logs.Messages.{Message, Body}
 use Rattle.agreement.specs.whole_logs.Messages.Body.{Append, Commit}
 use Rattle.ballot_base.specs.declared.status.Progress.{Progress}
 use Rattle.agreement.specs.whole_logs.Replica.{ReplicaState}
-use Rattle.agreement.specs.whole_logs.Sending.{Outcome, message_to_followed}
-use Rattle.agreement.specs.whole_logs.Serving.{append_at, appends_after, on_tick_active}
+use Rattle.agreement.specs.whole_logs.StepOutcome.{Outcome, message_to_followed}
+use Rattle.agreement.specs.whole_logs.Service.{append_at, appends_after, on_tick_active}
 use Rattle.agreement.proofs.of_whole_logs.MessageRows.{on_tick_active-is}
 use Rattle.agreement.specs.World.{GroupWorld, messages, outputs}
 use Rattle.lists.specs.Lists.{In}
 use Rattle.lists.specs.Lists.In.{here, there}
-use Rattle.agreement.specs.Inside.Ballots.{History, Told, IsChosenIn}
-use Rattle.agreement.specs.Inside.Ballots.Told.{told_as_primary}
+use Rattle.agreement.specs.Inside.Ballots.{History, Acknowledged, IsChosenIn}
+use Rattle.agreement.specs.Inside.Ballots.Acknowledged.{told_as_primary}
 use Rattle.agreement.specs.Inside.Keeps.{KeepsSoundness}
 use Rattle.agreement.specs.Inside.Sound.{IsSoundWorld}
 use Rattle.agreement.specs.Inside.SoundNodes.{IsActive, IsSoundNode}
-use Rattle.agreement.specs.Inside.Saying.{SpeaksTruth}
+use Rattle.agreement.specs.Inside.MessageMeaning.{SpeaksTruth}
 use Rattle.lists.proofs.Members.{in_append}
 use Rattle.agreement.proofs.Effects.{messages-append, outputs-append, outputs_of_messages}
 use Rattle.agreement.proofs.Frame.Joining.{IsSilent}
@@ -74,10 +74,10 @@ pub active_chosen : {S C O : Type 0} (w : GroupWorld S C O) (h : History C) (n :
 active_chosen {S = S} {C = C} {O = O} w h n r a k within followed =
     (a.leads.0, a.leads.1, λ m i. by_reached m (a.covered m (subst (λ ms. In m ms) (sym a.leads.3) i)))
   where
-    by_reached : (m : ℕ) → (m ≡ n + 1) ⊎ ((reached : Progress) × In reached r.progress × (reached.member ≡ m)) → Told w h m r.joined k
+    by_reached : (m : ℕ) → (m ≡ n + 1) ⊎ ((reached : Progress) × In reached r.progress × (reached.member ≡ m)) → Acknowledged w h m r.joined k
     by_reached m (inl e) = told_as_primary a.leads.0 a.line a.leads.1 (a.leads.2 ∙ sym e) a.lined within
     by_reached m (inr (reached, j, e)) =
-        subst (λ x. Told w h x r.joined k) e
+        subst (λ x. Acknowledged w h x r.joined k) e
         (told_less w h reached.member r.joined reached.held k (followed reached j) (a.followed reached j).3)
 
 -- the list of an active primary's ballot is its log

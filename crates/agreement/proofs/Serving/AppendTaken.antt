@@ -5,21 +5,21 @@ use Rattle.machine.specs.Machine.{Rules}
 use Rattle.agreement.specs.whole_logs.Messages.{Message}
 use Rattle.agreement.specs.whole_logs.Messages.Body.{Append, Held}
 use Rattle.agreement.specs.whole_logs.Replica.{ReplicaState}
-use Rattle.agreement.specs.whole_logs.Sending.{message_to}
-use Rattle.agreement.specs.whole_logs.Serving.{extended}
+use Rattle.agreement.specs.whole_logs.StepOutcome.{message_to}
+use Rattle.agreement.specs.whole_logs.Service.{extended}
 use Rattle.agreement.specs.World.{GroupWorld, messages, moved}
 use Rattle.lists.specs.Lists.{In, IsPrefixOf}
 use Rattle.lists.specs.Lists.In.{here, there}
 use Rattle.agreement.specs.Inside.Ballots.{Given, Line, History}
 use Rattle.agreement.specs.Inside.BallotsStand.{Applied}
-use Rattle.agreement.specs.Inside.Extending.{Extends}
+use Rattle.agreement.specs.Inside.Extension.{Extends}
 use Rattle.agreement.specs.Inside.BallotsStand.Applied.{nothing, in_ballot}
 use Rattle.agreement.specs.Inside.Keeps.LineAdds.{as_it_was}
 use Rattle.agreement.specs.Inside.Keeps.{KeepsSoundness}
 use Rattle.agreement.specs.Inside.MovesAt.{MovesAt, with_lines}
 use Rattle.agreement.specs.Inside.Sound.{IsSoundWorld}
 use Rattle.agreement.specs.Inside.SoundNodes.{IsSoundNode}
-use Rattle.agreement.specs.Inside.Saying.{SpeaksTruth}
+use Rattle.agreement.specs.Inside.MessageMeaning.{SpeaksTruth}
 use Rattle.lists.proofs.Prefixes.{prefix_then, prefix_length, take_prefix}
 use Rattle.agreement.proofs.Effects.{thinned_messages, thinned_outputs}
 use Rattle.agreement.proofs.Serving.Committing.{Follows}
@@ -109,7 +109,7 @@ append_taken {S = S} {C = C} {O = O} rules w h n r from b place c s stands (q, i
             order = t.placed.order;
             between = λ up. (g, ap h.given f.held ∙ given_g, (l, ap h.line f.held ∙ lined, prefix_then base grown, longer));
             told = told_placed w h h.line n r new given moves t.placed (omega arith);
-            told_here = told_in_log w h h.line n r new given moves t.placed (inr (refl, prefix_length grown));
+            acknowledged_here = told_in_log w h h.line n r new given moves t.placed (inr (refl, prefix_length grown));
           };
           empty = λ e. absurd (let z = (s.ballots.were_given b active).2 in let y = f.held in omega (arith, z, y, e));
           member = t.member;

@@ -5,15 +5,15 @@ use Rattle.std.proofs.lemmas.Bool.{cases_Bool, cases_lt}
 use Rattle.machine.specs.Machine.{Rules}
 use Rattle.agreement.specs.whole_logs.Messages.Body.{Append, Held}
 use Rattle.agreement.specs.whole_logs.Replica.{ReplicaState}
-use Rattle.agreement.specs.whole_logs.Sending.{Outcome, message_to}
-use Rattle.agreement.specs.whole_logs.Serving.{follows, extended, on_append}
+use Rattle.agreement.specs.whole_logs.StepOutcome.{Outcome, message_to}
+use Rattle.agreement.specs.whole_logs.Service.{follows, extended, on_append}
 use Rattle.agreement.proofs.of_whole_logs.MessageRows.{on_append-elsewhere, on_append-gap, on_append-takes}
 use Rattle.agreement.specs.World.{GroupWorld}
 use Rattle.lists.specs.Lists.{In, IsPrefixOf}
 use Rattle.agreement.specs.Inside.Ballots.{Given, Line, History}
 use Rattle.agreement.specs.Inside.Keeps.{KeepsSoundness}
 use Rattle.agreement.specs.Inside.Sound.{IsSoundWorld}
-use Rattle.agreement.specs.Inside.Saying.{SpeaksTruth}
+use Rattle.agreement.specs.Inside.MessageMeaning.{SpeaksTruth}
 use Rattle.agreement.proofs.Serving.Committing.{Follows, follows_is}
 use Rattle.agreement.proofs.Frame.Quiet.{keeps_nothing}
 use Rattle.agreement.proofs.Serving.AppendTaken.{append_taken}

@@ -4,8 +4,8 @@ use Rattle.std.specs.Prelude.{slice_get}
 use Rattle.machine.specs.Machine.{Rules, replay}
 use Rattle.agreement.specs.whole_logs.Messages.Body.{Append}
 use Rattle.agreement.specs.whole_logs.Replica.{ReplicaState}
-use Rattle.agreement.specs.whole_logs.Sending.{Outcome, message_to_followed}
-use Rattle.agreement.specs.whole_logs.Serving.{added}
+use Rattle.agreement.specs.whole_logs.StepOutcome.{Outcome, message_to_followed}
+use Rattle.agreement.specs.whole_logs.Service.{added}
 use Rattle.agreement.proofs.of_whole_logs.StepRows.{added-is}
 use Rattle.agreement.specs.World.{GroupWorld, moved}
 use Rattle.lists.specs.Lists.{In}
@@ -13,7 +13,7 @@ use Rattle.agreement.specs.Inside.Ballots.{History}
 use Rattle.agreement.specs.Inside.Keeps.{KeepsAdding}
 use Rattle.agreement.specs.Inside.MovesAt.{with_lines, lined_at}
 use Rattle.agreement.specs.Inside.Sound.{IsSoundWorld}
-use Rattle.agreement.specs.Inside.Saying.{SpeaksTruth}
+use Rattle.agreement.specs.Inside.MessageMeaning.{SpeaksTruth}
 use Rattle.lists.proofs.Prefixes.{prefix_push, take_prefix}
 use Rattle.lists.proofs.Places.{get_pushed}
 use Rattle.agreement.proofs.Effects.{outputs_of_messages}

@@ -7,10 +7,10 @@ use Rattle.agreement.specs.whole_logs.Messages.{Message, Effect}
 use Rattle.agreement.specs.whole_logs.Messages.Body.{Commit}
 use Rattle.ballot_base.specs.declared.status.Progress.{Progress}
 use Rattle.agreement.specs.whole_logs.Replica.{ReplicaState}
-use Rattle.agreement.specs.whole_logs.Sending.{Outcome, message_to_followed, sent_first}
-use Rattle.agreement.specs.whole_logs.Applying.{applied_to, outputs_from, outputs_to, outputs_between}
-use Rattle.ballot_base.specs.Serving.{least}
-use Rattle.agreement.specs.whole_logs.Serving.{commit_at}
+use Rattle.agreement.specs.whole_logs.StepOutcome.{Outcome, message_to_followed, sent_first}
+use Rattle.agreement.specs.whole_logs.Application.{applied_to, outputs_from, outputs_to, outputs_between}
+use Rattle.ballot_base.specs.Service.{least}
+use Rattle.agreement.specs.whole_logs.Service.{commit_at}
 use Rattle.agreement.proofs.of_whole_logs.StepRows.{commit_at-goes, commit_at-stays}
 use Rattle.ballot_base.proofs.StepRows.{least-le}
 use Rattle.agreement.specs.World.{GroupWorld, messages, outputs, moved}
@@ -20,7 +20,7 @@ use Rattle.agreement.specs.Inside.Keeps.{KeepsAdding}
 use Rattle.agreement.specs.Inside.MovesAt.{MovesAt, with_lines}
 use Rattle.agreement.specs.Inside.Sound.{IsSoundWorld}
 use Rattle.agreement.specs.Inside.SoundNodes.{IsActive, IsSoundNode}
-use Rattle.agreement.specs.Inside.Saying.{SpeaksTruth}
+use Rattle.agreement.specs.Inside.MessageMeaning.{SpeaksTruth}
 use Rattle.lists.proofs.Members.{in_append}
 use Rattle.agreement.proofs.Effects.{messages-append, outputs-append, outputs_of_messages, thinned_messages, thinned_outputs}
 use Rattle.agreement.proofs.Serving.ActiveTicks.{said_to_progress, active_chosen, active_log, followed_other}

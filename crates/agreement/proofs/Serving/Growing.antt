@@ -85,7 +85,7 @@ grown_ready {S = S} {C = C} {O = O} rules w h n old r c s stands q same_id same_
               ),
             );
             told = told_placed w h line n old new given moves t.placed (omega (arith, same_held));
-            told_here = told_in_log w h line n old new given moves t.placed
+            acknowledged_here = told_in_log w h line n old new given moves t.placed
                 (inr (sym same_held, (let e = ap length same_log in omega (arith, e, room))));
           };
           empty = λ e. absurd (let z = (s.ballots.were_given r.joined q.activated).2 in let y = q.own in omega (arith, z, y, e));

@@ -9,16 +9,16 @@ use Rattle.ballot_base.specs.declared.status.Progress.{Progress}
 use Rattle.ballot_base.specs.declared.status.Role.TheVariants.{Active}
 use Rattle.agreement.specs.whole_logs.Replica.{ReplicaState}
 use Rattle.ballot_base.specs.Replica.{is_active}
-use Rattle.agreement.specs.whole_logs.Sending.{Outcome}
-use Rattle.ballot_base.specs.Serving.{raised, raised_progress}
-use Rattle.agreement.specs.whole_logs.Serving.{leads, on_held}
+use Rattle.agreement.specs.whole_logs.StepOutcome.{Outcome}
+use Rattle.ballot_base.specs.Service.{raised, raised_progress}
+use Rattle.agreement.specs.whole_logs.Service.{leads, on_held}
 use Rattle.ballot_base.proofs.MessageRows.{raised_progress-member}
 use Rattle.agreement.proofs.of_whole_logs.MessageRows.{on_held-elsewhere, on_held-raises}
 use Rattle.agreement.specs.World.{GroupWorld, moved}
 use Rattle.lists.specs.Lists.{In}
-use Rattle.agreement.specs.Inside.Ballots.{History, Told}
+use Rattle.agreement.specs.Inside.Ballots.{History, Acknowledged}
 use Rattle.agreement.specs.Inside.BallotsStand.{Applied}
-use Rattle.agreement.specs.Inside.Ballots.Told.{told_by_held}
+use Rattle.agreement.specs.Inside.Ballots.Acknowledged.{told_by_held}
 use Rattle.agreement.specs.Inside.BallotsStand.Applied.{nothing, in_ballot}
 use Rattle.agreement.specs.Inside.Keeps.LineAdds.{as_it_was}
 use Rattle.agreement.specs.Inside.Keeps.{KeepsSoundness}
@@ -37,7 +37,7 @@ use Rattle.agreement.proofs.Serving.Raising.{in_raised, raised_in, raised_told}
 
 -- the primary is ready to commit
 raised_ready : {S C O : Type 0} (rules : Rules S C O) (w : GroupWorld S C O) (h : History C) (n : ℕ) (r : ReplicaState S C) (from held : ℕ) →
-    IsSoundWorld rules w h → slice_get w.nodes n ≡ Some r → r.role ≡ Active → Told w h from r.joined held →
+    IsSoundWorld rules w h → slice_get w.nodes n ≡ Some r → r.role ≡ Active → Acknowledged w h from r.joined held →
     Ready rules w h h.line n r (record r { progress = raised from held r.progress }) (λ b c. ⊥)
 raised_ready {S = S} {C = C} {O = O} rules w h n r from held s stands role heard =
     record {
@@ -67,7 +67,7 @@ raised_ready {S = S} {C = C} {O = O} rules w h n r from held s stands role heard
             order = t.placed.order;
             between = t.placed.between;
             told = told_placed w h h.line n r new given moves t.placed (omega arith);
-            told_here = told_in_log w h h.line n r new given moves t.placed (inr (refl, omega arith));
+            acknowledged_here = told_in_log w h h.line n r new given moves t.placed (inr (refl, omega arith));
           };
           empty = t.empty;
           member = t.member;
@@ -108,7 +108,7 @@ raised_ready {S = S} {C = C} {O = O} rules w h n r from held s stands role heard
 
         by_reached : (reached : Progress) → (before : Progress) × In before r.progress × (reached ≡ raised_progress from held before) →
             (In reached.member r.members) × (length a.line.base ≤ reached.held) × (r.committed ≤ reached.held)
-            × Told (moved w n new given) (with_lines h h.line) reached.member r.joined reached.held
+            × Acknowledged (moved w n new given) (with_lines h h.line) reached.member r.joined reached.held
         by_reached reached (before, j, e) =
             let z = a.followed before j in
             let u = raised_told w h from r.joined held before heard z.3 in
@@ -120,7 +120,7 @@ raised_ready {S = S} {C = C} {O = O} rules w h n r from held s stands role heard
               omega (arith, some, up, long),
               told_kept w (moved w n new given) h (with_lines h h.line) reached.member r.joined reached.held
                   (move_extends w h h.line n r new given moves)
-                  (subst (λ m. Told w h m r.joined reached.held) (sym same) (subst (λ x. Told w h before.member r.joined x) (sym long) u.1)),
+                  (subst (λ m. Acknowledged w h m r.joined reached.held) (sym same) (subst (λ x. Acknowledged w h before.member r.joined x) (sym long) u.1)),
             )
 
         by_other : (reached : Progress) → (before : Progress) × In before r.progress × (reached ≡ raised_progress from held before) → reached.member ≡ n + 1 → ⊥
@@ -136,7 +136,7 @@ keeps_held {S = S} {C = C} {O = O} rules w h n r from b held s stands ran sent =
     by_role : (leads r b ≡ true) ⊎ (leads r b ≡ false) → KeepsSoundness rules w h n (on_held rules r from b held)
     by_role (inl e) =
         let p = and_parts (r.joined == b) (is_active r.role) e in
-        let heard : Told w h from r.joined held =
+        let heard : Acknowledged w h from r.joined held =
         told_by_held (n + 1) held (subst (λ c. In (n + 1, record { from = from; body = Held c held }) w.sent)
         (sym (eqb-true r.joined b p.0)) sent) (omega arith) in
         subst (λ (o : Outcome S C O). KeepsSoundness rules w h n o) (sym (on_held-raises rules r from b held e))

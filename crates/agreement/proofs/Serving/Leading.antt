@@ -5,7 +5,7 @@ use Rattle.ballot_base.specs.declared.status.Role.TheVariants.{Active}
 use Rattle.agreement.specs.whole_logs.Replica.{ReplicaState}
 use Rattle.agreement.specs.World.{GroupWorld}
 use Rattle.lists.specs.Lists.{In}
-use Rattle.agreement.specs.Inside.Ballots.{Given, Line, History, Told}
+use Rattle.agreement.specs.Inside.Ballots.{Given, Line, History, Acknowledged}
 use Rattle.agreement.specs.Inside.BallotsStand.{Applied}
 use Rattle.agreement.specs.Inside.SoundNodes.{IsActive, IsSoundNode}
 use Rattle.agreement.proofs.Serving.ActiveTicks.{active_log}
@@ -27,7 +27,7 @@ pub record Leading {S C O : Type 0} (w : GroupWorld S C O) (h : History C) (n : 
   pub applied : Applied w h r
   pub covered : (m : ℕ) → In m r.members → (m ≡ n + 1) ⊎ ((reached : Progress) × In reached r.progress × (reached.member ≡ m))
   pub followed : (reached : Progress) → In reached r.progress → (In reached.member r.members)
-      × (length line.base ≤ reached.held) × (r.committed ≤ reached.held) × Told w h reached.member r.joined reached.held
+      × (length line.base ≤ reached.held) × (r.committed ≤ reached.held) × Acknowledged w h reached.member r.joined reached.held
   pub others : (reached : Progress) → In reached r.progress → reached.member ≡ n + 1 → ⊥
 
 -- an active primary is one

@@ -5,9 +5,9 @@ use Rattle.std.proofs.lemmas.Bool.{cases_Bool, cases_lt}
 use Rattle.machine.specs.Machine.{Rules, replay}
 use Rattle.agreement.specs.whole_logs.Replica.{ReplicaState}
 use Rattle.ballot_base.specs.Replica.{is_active}
-use Rattle.agreement.specs.whole_logs.Sending.{Outcome}
-use Rattle.agreement.specs.whole_logs.Serving.{proposed}
-use Rattle.ballot_base.specs.Serving.{max_places}
+use Rattle.agreement.specs.whole_logs.StepOutcome.{Outcome}
+use Rattle.agreement.specs.whole_logs.Service.{proposed}
+use Rattle.ballot_base.specs.Service.{max_places}
 use Rattle.agreement.proofs.of_whole_logs.StepRows.{proposed-adds, proposed-not_active, proposed-full}
 use Rattle.agreement.specs.World.{GroupWorld}
 use Rattle.agreement.specs.Inside.Ballots.{History}

@@ -2,11 +2,11 @@
 use Rattle.std.proofs.Common.{◌≡◌, ℕ, ◌<◌, ◌≤◌, ◌⊎◌, inl, inr, cond, max, List, [], ◌∷◌, refl, ap, sym, subst, arith}
 use Rattle.std.proofs.lemmas.Bool.{cases_eq, cases_lt, eq-eqb, ne_eqb}
 use Rattle.ballot_base.specs.declared.status.Progress.{Progress}
-use Rattle.ballot_base.specs.Serving.{raised, raised_progress}
+use Rattle.ballot_base.specs.Service.{raised, raised_progress}
 use Rattle.agreement.specs.World.{GroupWorld}
 use Rattle.lists.specs.Lists.{In}
 use Rattle.lists.specs.Lists.In.{here, there}
-use Rattle.agreement.specs.Inside.Ballots.{History, Told}
+use Rattle.agreement.specs.Inside.Ballots.{History, Acknowledged}
 
 -- progress that are raised
 pub in_raised : (member held : ℕ) (progress : List Progress) (reached : Progress) → In reached (raised member held progress) →
@@ -23,25 +23,25 @@ raised_in member held (m ∷ progress) reached here = here
 raised_in member held (m ∷ progress) reached (there i) = there (raised_in member held progress reached i)
 
 -- a raised progress is no lower, and acknowledged
-pub raised_told : {S C O : Type 0} (w : GroupWorld S C O) (h : History C) (from b held : ℕ) (before : Progress) → Told w h from b held →
-    Told w h before.member b before.held →
-    (before.held ≤ (raised_progress from held before).held) × Told w h before.member b (raised_progress from held before).held
+pub raised_told : {S C O : Type 0} (w : GroupWorld S C O) (h : History C) (from b held : ℕ) (before : Progress) → Acknowledged w h from b held →
+    Acknowledged w h before.member b before.held →
+    (before.held ≤ (raised_progress from held before).held) × Acknowledged w h before.member b (raised_progress from held before).held
 raised_told {S = S} {C = C} {O = O} w h from b held before heard told = by_member (cases_eq before.member from)
   where
-    greater : before.member ≡ from → (before.held < held) ⊎ (held ≤ before.held) → Told w h before.member b (max before.held held)
+    greater : before.member ≡ from → (before.held < held) ⊎ (held ≤ before.held) → Acknowledged w h before.member b (max before.held held)
     greater same (inl less) =
-        subst (λ k. Told w h before.member b k) (let e : held ≡ max before.held held = omega arith in e)
-        (subst (λ m. Told w h m b held) (sym same) heard)
+        subst (λ k. Acknowledged w h before.member b k) (let e : held ≡ max before.held held = omega arith in e)
+        (subst (λ m. Acknowledged w h m b held) (sym same) heard)
     greater same (inr more) =
-        subst (λ k. Told w h before.member b k) (let e : before.held ≡ max before.held held = omega arith in e) told
+        subst (λ k. Acknowledged w h before.member b k) (let e : before.held ≡ max before.held held = omega arith in e) told
 
     by_member : (before.member ≡ from) ⊎ (before.member ≡ from → ⊥) →
-        (before.held ≤ (raised_progress from held before).held) × Told w h before.member b (raised_progress from held before).held
+        (before.held ≤ (raised_progress from held before).held) × Acknowledged w h before.member b (raised_progress from held before).held
     by_member (inl same) =
         let e : (raised_progress from held before).held ≡ max before.held held =
         ap (λ b. (cond b (record before { held = max before.held held }) before).held) (eq-eqb before.member from same) in
-        (omega (arith, e), subst (λ k. Told w h before.member b k) (sym e) (greater same (cases_lt before.held held)))
+        (omega (arith, e), subst (λ k. Acknowledged w h before.member b k) (sym e) (greater same (cases_lt before.held held)))
     by_member (inr other) =
         let e : (raised_progress from held before).held ≡ before.held =
         ap (λ b. (cond b (record before { held = max before.held held }) before).held) (ne_eqb before.member from other) in
-        (omega (arith, e), subst (λ k. Told w h before.member b k) (sym e) told)
+        (omega (arith, e), subst (λ k. Acknowledged w h before.member b k) (sym e) told)

@@ -5,7 +5,7 @@ use Rattle.agreement.specs.whole_logs.Messages.{Message, Effect}
 use Rattle.ballot_base.specs.declared.status.Progress.{Progress}
 use Rattle.ballot_base.specs.declared.status.Role.TheVariants.{Active}
 use Rattle.agreement.specs.whole_logs.Replica.{ReplicaState}
-use Rattle.agreement.specs.whole_logs.Applying.{applied_to}
+use Rattle.agreement.specs.whole_logs.Application.{applied_to}
 use Rattle.agreement.specs.World.{GroupWorld, messages, moved}
 use Rattle.lists.specs.Lists.{In}
 use Rattle.agreement.specs.Inside.Ballots.{Line, History}
@@ -39,7 +39,7 @@ committed_node {S = S} {C = C} rules v i n r t role k up within followed =
     let same = active_log v i n r t a in
     record {
       id = t.id;
-      placed = record { order = t.placed.order; between = t.placed.between; told = t.placed.told; told_here = t.placed.told_here };
+      placed = record { order = t.placed.order; between = t.placed.between; told = t.placed.told; acknowledged_here = t.placed.acknowledged_here };
       empty = t.empty;
       member = t.member;
       primary_log = t.primary_log;

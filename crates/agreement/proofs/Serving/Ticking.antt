@@ -7,9 +7,9 @@ use Rattle.agreement.specs.whole_logs.Messages.Body.{Join, Install}
 use Rattle.ballot_base.specs.declared.status.Role.{Role}
 use Rattle.ballot_base.specs.declared.status.Role.TheVariants.{Backup, Fetching, Installing, Active}
 use Rattle.agreement.specs.whole_logs.Replica.{ReplicaState}
-use Rattle.agreement.specs.whole_logs.Sending.{message_to_each}
-use Rattle.agreement.specs.whole_logs.Changing.{on_tick_fetching, install_effects}
-use Rattle.agreement.specs.whole_logs.Serving.{on_tick_active}
+use Rattle.agreement.specs.whole_logs.StepOutcome.{message_to_each}
+use Rattle.agreement.specs.whole_logs.Transfer.{on_tick_fetching, install_effects}
+use Rattle.agreement.specs.whole_logs.Service.{on_tick_active}
 use Rattle.agreement.specs.whole_logs.Protocol.{ticked}
 use Rattle.agreement.specs.World.{GroupWorld, messages, outputs, moved}
 use Rattle.lists.specs.Lists.{In}
@@ -18,7 +18,7 @@ use Rattle.agreement.specs.Inside.Ballots.{Given, History}
 use Rattle.agreement.specs.Inside.Keeps.{KeepsSoundness}
 use Rattle.agreement.specs.Inside.Sound.{IsSoundWorld}
 use Rattle.agreement.specs.Inside.SoundNodes.{IsFetching, IsInstalling, IsActive}
-use Rattle.agreement.specs.Inside.Saying.{SpeaksTruth}
+use Rattle.agreement.specs.Inside.MessageMeaning.{SpeaksTruth}
 use Rattle.agreement.proofs.Frame.Framing.{within_of}
 use Rattle.agreement.proofs.Frame.SaysLater.{says_kept}
 use Rattle.agreement.proofs.Frame.Joining.{IsSilent, AreSilent, quiet_extends}

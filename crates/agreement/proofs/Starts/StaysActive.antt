@@ -8,11 +8,11 @@ use Rattle.machine.specs.Machine.{Rules}
 use Rattle.ballot_base.specs.declared.status.Role.TheVariants.{Active}
 use Rattle.agreement.specs.whole_logs.Replica.{ReplicaState}
 use Rattle.ballot_base.specs.Replica.{is_fetching, is_installing}
-use Rattle.agreement.specs.whole_logs.Sending.{Outcome}
-use Rattle.agreement.specs.whole_logs.Changing.{on_new_ballot, on_join, on_install, on_state}
-use Rattle.agreement.specs.whole_logs.Activating.{on_superseded, on_installed}
-use Rattle.agreement.specs.whole_logs.Serving.{on_append, on_held, on_commit, commit, commit_at, added, follows, leads}
-use Rattle.ballot_base.specs.Serving.{least, raised}
+use Rattle.agreement.specs.whole_logs.StepOutcome.{Outcome}
+use Rattle.agreement.specs.whole_logs.Transfer.{on_new_ballot, on_join, on_install, on_state}
+use Rattle.agreement.specs.whole_logs.Activation.{on_superseded, on_installed}
+use Rattle.agreement.specs.whole_logs.Service.{on_append, on_held, on_commit, commit, commit_at, added, follows, leads}
+use Rattle.ballot_base.specs.Service.{least, raised}
 use Rattle.agreement.proofs.of_whole_logs.StepRows.{added-is}
 
 -- a node that is active after a step was active before, in the same ballot

@@ -4,7 +4,7 @@ use Rattle.std.proofs.Common.{◌≡◌, ℕ, ◌<◌, ◌≤◌, ◌⊎◌, inl
 use Rattle.std.specs.Prelude.{nat_lt, nat_le, ◌&&◌, ◌==◌}
 use Rattle.std.proofs.lemmas.Bool.{cases_Bool, cases_lt, and_parts}
 use Rattle.machine.specs.Machine.{Rules}
-use Rattle.agreement.specs.whole_logs.Applying.{applied_to}
+use Rattle.agreement.specs.whole_logs.Application.{applied_to}
 use Rattle.agreement.specs.whole_logs.Messages.{Body}
 use Rattle.agreement.specs.whole_logs.Messages.Body.{NewBallot, Join, State, Install, Installed, Activate, Activated, Superseded, Append, Held, Commit}
 use Rattle.ballot_base.specs.declared.status.Role.{Role}
@@ -13,11 +13,11 @@ use Rattle.agreement.specs.whole_logs.Protocol.{Input, received, ticked, replica
 use Rattle.agreement.specs.whole_logs.Protocol.Input.{Receives, Proposes, Ticks}
 use Rattle.agreement.specs.whole_logs.Replica.{ReplicaState}
 use Rattle.ballot_base.specs.Replica.{is_active, is_installing, others, progress_at}
-use Rattle.agreement.specs.whole_logs.Sending.{Outcome}
-use Rattle.ballot_base.specs.Serving.{max_places}
-use Rattle.agreement.specs.whole_logs.Serving.{proposed, on_tick_active}
+use Rattle.agreement.specs.whole_logs.StepOutcome.{Outcome}
+use Rattle.ballot_base.specs.Service.{max_places}
+use Rattle.agreement.specs.whole_logs.Service.{proposed, on_tick_active}
 use Rattle.agreement.proofs.of_whole_logs.StepRows.{proposed-adds, proposed-not_active, proposed-full}
-use Rattle.agreement.specs.whole_logs.Activating.{on_activated}
+use Rattle.agreement.specs.whole_logs.Activation.{on_activated}
 use Rattle.agreement.proofs.Frame.Roles.{role_active, role_installing}
 use Rattle.agreement.proofs.of_whole_logs.ChangeRows.{on_activated-stays, on_activated-adds}
 use Rattle.agreement.proofs.Starts.StaysActive.{StaysActive, active_new_ballot, active_join, active_state, active_install, active_installed, active_superseded, active_append, active_held, active_commit, added_keeps}

@@ -10,7 +10,7 @@ use Rattle.ballot_base.specs.Logs.{places}
 use Rattle.ballot_base.specs.Protocol.{Input}
 use Rattle.ballot_base.specs.Protocol.Input.{Receives, Proposes, Ticks}
 use Rattle.ballot_base.specs.Replica.{ReplicaState}
-use Rattle.agreement.specs.Giving.{given_in as whole_given_in, given_of as whole_given_of}
+use Rattle.agreement.specs.NodeOutputs.{given_in as whole_given_in, given_of as whole_given_of}
 use Rattle.agreement.specs.MasterState.{MasterState}
 use Rattle.agreement.specs.Moments.{Learns, Moment as WholeMoment, Moments as WholeMoments}
 use Rattle.agreement.specs.Moments.Moments.{began, went_on, learned}

@@ -9,7 +9,7 @@ use Rattle.lists.specs.Lists.{In, IsPrefixOf}
 use Rattle.lists.specs.Lists.In.{there}
 use Rattle.lists.proofs.Prefixes.{prefix_then, take_prefix}
 use Rattle.lists.proofs.Places.{get_set}
-use Rattle.agreement.specs.whole_logs.Applying.{applied_to as whole_applied_to}
+use Rattle.agreement.specs.whole_logs.Application.{applied_to as whole_applied_to}
 use Rattle.ballot_base.specs.declared.config.Config.{Config}
 use Rattle.agreement.specs.whole_logs.Messages.{Effect as WholeEffect}
 use Rattle.agreement.specs.whole_logs.Losses.{Thinned as WholeThinned}

@@ -8,7 +8,7 @@ use Rattle.machine.specs.Machine.{Rules}
 use Rattle.ballot_base.specs.declared.status.Progress.{Progress}
 use Rattle.ballot_base.specs.Replica.{is_active, is_installing, others, progress_at, ReplicaState}
 use Rattle.ballot_base.specs.declared.status.Role.TheVariants.{Backup, Fetching, Installing, Active}
-use Rattle.ballot_base.specs.Serving.{least, max_places, raised, added, append_at, appends_after, commit, commit_at, extended, follows, leads, on_append, on_commit, on_held, on_tick_active, proposed}
+use Rattle.ballot_base.specs.Service.{least, max_places, raised, added, append_at, appends_after, commit, commit_at, extended, follows, leads, on_append, on_commit, on_held, on_tick_active, proposed}
 use Rattle.lists.specs.Lists.{In}
 use Rattle.lists.specs.Lists.In.{here, there}
 use Rattle.lists.proofs.Members.{in_append}
@@ -16,13 +16,13 @@ use Rattle.ballot_base.specs.Logs.{Log, command_at, places, pushed}
 use Rattle.ballot_base.specs.declared.message.Body.{Body}
 use Rattle.ballot_base.specs.declared.message.Effect.{Effect}
 use Rattle.ballot_base.specs.declared.message.Message.{Message}
-use Rattle.ballot_base.specs.Sending.{Outcome, message_to_each, message_to_followed, nothing_done}
+use Rattle.ballot_base.specs.StepOutcome.{Outcome, message_to_each, message_to_followed, nothing_done}
 use Rattle.agreement.specs.cut_logs.World.{messages}
 use Rattle.ballot_base.specs.declared.message.Body.TheVariants.{Join, State, Install, Installed, Append, Held, Commit}
 use Rattle.ballot_base.specs.declared.message.Effect.TheVariants.{To, Out}
-use Rattle.ballot_base.specs.Changing.{answers_installed, installs_taken, install_effects, on_join, on_new_ballot}
-use Rattle.ballot_base.specs.Activating.{activates, on_activated, on_installed, on_superseded}
-use Rattle.ballot_base.specs.Applying.{applied_to, outputs_from, outputs_to}
+use Rattle.ballot_base.specs.Transfer.{answers_installed, installs_taken, install_effects, on_join, on_new_ballot}
+use Rattle.ballot_base.specs.Activation.{activates, on_activated, on_installed, on_superseded}
+use Rattle.ballot_base.specs.Application.{applied_to, outputs_from, outputs_to}
 
 -- what a log that is sent is
 abbrev pub IsOwn : {S C : Type 0} → ReplicaState S C → Body C → Type 0

@@ -7,20 +7,20 @@ use Rattle.agreement.specs.whole_logs.Messages.{Effect as effects}
 use Rattle.agreement.specs.whole_logs.Replica.{ReplicaState as WholeState}
 use Rattle.ballot_base.specs.Replica.{is_installing, others, progress_at, ReplicaState}
 use Rattle.ballot_base.specs.declared.status.Role.TheVariants.{Backup, Active}
-use Rattle.agreement.specs.whole_logs.Sending.{message_to_each as whole_each}
-use Rattle.ballot_base.specs.Serving.{max_places, added}
-use Rattle.agreement.specs.whole_logs.Serving.{added as whole_added}
-use Rattle.agreement.specs.whole_logs.Changing.{on_new_ballot as whole_on_new_ballot, on_join as whole_on_join, install_effects as whole_install_effects, on_tick_fetching as whole_on_tick_fetching, on_tick_installing as whole_on_tick_installing}
-use Rattle.agreement.specs.whole_logs.Activating.{activates as whole_activates, on_installed as whole_on_installed, on_activated as whole_on_activated, on_superseded as whole_on_superseded}
+use Rattle.agreement.specs.whole_logs.StepOutcome.{message_to_each as whole_each}
+use Rattle.ballot_base.specs.Service.{max_places, added}
+use Rattle.agreement.specs.whole_logs.Service.{added as whole_added}
+use Rattle.agreement.specs.whole_logs.Transfer.{on_new_ballot as whole_on_new_ballot, on_join as whole_on_join, install_effects as whole_install_effects, on_tick_fetching as whole_on_tick_fetching, on_tick_installing as whole_on_tick_installing}
+use Rattle.agreement.specs.whole_logs.Activation.{activates as whole_activates, on_installed as whole_on_installed, on_activated as whole_on_activated, on_superseded as whole_on_superseded}
 use Rattle.ballot_base.specs.Logs.{places}
 use Rattle.agreement.specs.cut_logs.Whole.{whole_log, whole, whole_body, whole_effects}
 use Rattle.agreement.specs.cut_logs.Matches.{IsBased, OutcomeMatches}
 use Rattle.ballot_base.specs.declared.message.Body.{Body}
-use Rattle.ballot_base.specs.Sending.{message_to_each}
+use Rattle.ballot_base.specs.StepOutcome.{message_to_each}
 use Rattle.ballot_base.specs.declared.message.Body.TheVariants.{Join, Install}
-use Rattle.ballot_base.specs.Changing.{install_effects, on_join, on_new_ballot, on_tick_fetching, on_tick_installing}
-use Rattle.ballot_base.specs.Activating.{activates, on_activated, on_installed, on_superseded}
-use Rattle.ballot_base.specs.Applying.{applied_to}
+use Rattle.ballot_base.specs.Transfer.{install_effects, on_join, on_new_ballot, on_tick_fetching, on_tick_installing}
+use Rattle.ballot_base.specs.Activation.{activates, on_activated, on_installed, on_superseded}
+use Rattle.ballot_base.specs.Application.{applied_to}
 use Rattle.agreement.proofs.of_cut_logs.Fronts.{whole_long, whole_part}
 use Rattle.agreement.proofs.of_cut_logs.Serving.{added_matches, if_matches, matches_all, matches_nothing}
 

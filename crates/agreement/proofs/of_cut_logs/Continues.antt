@@ -9,13 +9,13 @@ use Rattle.agreement.specs.whole_logs.Replica.{ReplicaState as WholeState}
 use Rattle.machine.specs.Machine.{Rules}
 use Rattle.agreement.specs.whole_logs.Messages.{Message as WholeMessage}
 use Rattle.agreement.specs.whole_logs.Messages.Body.{Held, Installed}
-use Rattle.agreement.specs.Leaving.{LeftInOrder}
+use Rattle.agreement.specs.LeftOutputs.{LeftInOrder}
 use Rattle.agreement.specs.MasterState.{MasterState}
 use Rattle.agreement.specs.World.{GroupWorld as WholeWorld}
-use Rattle.agreement.specs.Moments.{Moment, HasConfig, WasActive, HasTold, IsChosen, IsAgreed, ToldLength}
-use Rattle.agreement.proofs.of_cut_logs.MoreMoments.{config_in, told_in}
+use Rattle.agreement.specs.Moments.{Moment, HasConfig, WasActive, HasAcknowledged, IsChosen, IsAgreed, AcknowledgedLength}
+use Rattle.agreement.proofs.of_cut_logs.MoreMoments.{config_in, acknowledged_in}
 use Rattle.agreement.specs.Moments.HasConfig.{opened_with, was_assigned}
-use Rattle.agreement.specs.Moments.HasTold.{told_as_log, told_by_message}
+use Rattle.agreement.specs.Moments.HasAcknowledged.{told_as_log, told_by_message}
 
 -- what was acknowledged, given and active at one moment is so at another
 pub record TellsAs {S C O : Type 0} (c d : Moment S C O) : Type 0 where
@@ -85,14 +85,14 @@ config_back config short long q b c (was_assigned a i waits) =
 active_back : {S C O : Type 0} (short long : List (Moment S C O)) → Covers short long → (b : ℕ) → WasActive long b → WasActive short b
 active_back short long q b (a, i, e) = let z = q.none_else a i in (z.0, z.1, ap (λ (m : MasterState). m.active) (sym z.2.master) ∙ e)
 
-sent_back : {S C O : Type 0} (w v : WholeWorld S C O) (member b held : ℕ) → w.sent ≡ v.sent → ToldLength w member b held → ToldLength v member b held
+sent_back : {S C O : Type 0} (w v : WholeWorld S C O) (member b held : ℕ) → w.sent ≡ v.sent → AcknowledgedLength w member b held → AcknowledgedLength v member b held
 sent_back {S = S} {C = C} {O = O} w v member b held e (receiver, inl i) =
     (receiver, inl (subst (λ (us : List (ℕ × WholeMessage C)). In (receiver, record { from = member; body = Held b held }) us) e i))
 sent_back {S = S} {C = C} {O = O} w v member b held e (receiver, inr i) =
     (receiver, inr (subst (λ (us : List (ℕ × WholeMessage C)). In (receiver, record { from = member; body = Installed b held }) us) e i))
 
 told_back : {S C O : Type 0} (config : Config) (short long : List (Moment S C O)) → Covers short long → (b n : ℕ) (xs : List C) →
-    HasTold config long b n xs → HasTold config short b n xs
+    HasAcknowledged config long b n xs → HasAcknowledged config short b n xs
 told_back config short long q b n xs (told_as_log a r c i stands held has primary is) =
     let z = q.none_else a i in let y = z.2.nodes n r stands in
     told_as_log z.0 y.0 c z.1 y.1 (y.3 ∙ held) (config_back config short long q b c has) primary (y.2 ∙ is)
@@ -105,7 +105,7 @@ told_back {S = S} {C = C} {O = O} config short long q b n xs (told_by_message a 
 chosen_in : {S C O : Type 0} (config : Config) (short long : List (Moment S C O)) → Covers short long → (b : ℕ) (xs : List C) →
     IsChosen config short b xs → IsChosen config long b xs
 chosen_in config short long q b xs (c, has, all) =
-    (c, config_in config short long q.all b c has, λ n j. let z = all n j in (z.0, told_in config short long q.all b n z.0 z.1, z.2))
+    (c, config_in config short long q.all b c has, λ n j. let z = all n j in (z.0, acknowledged_in config short long q.all b n z.0 z.1, z.2))
 
 chosen_back : {S C O : Type 0} (config : Config) (short long : List (Moment S C O)) → Covers short long → (b : ℕ) (xs : List C) →
     IsChosen config long b xs → IsChosen config short b xs

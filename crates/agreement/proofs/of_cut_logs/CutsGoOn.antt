@@ -11,7 +11,7 @@ use Rattle.ballot_base.specs.declared.config.Config.{Config}
 use Rattle.agreement.specs.whole_logs.Messages.{Message as WholeMessage}
 use Rattle.agreement.specs.whole_logs.Replica.{ReplicaState as WholeState}
 use Rattle.agreement.specs.Agreement.{Agrees, Holds}
-use Rattle.agreement.specs.Leaving.{LeftInOrder}
+use Rattle.agreement.specs.LeftOutputs.{LeftInOrder}
 use Rattle.agreement.specs.MasterState.{MasterState}
 use Rattle.agreement.specs.Moments.{Moment, Moments, IsAgreed}
 use Rattle.agreement.specs.Steps.MayHappen.{node_stops}
@@ -22,11 +22,11 @@ use Rattle.agreement.specs.cut_logs.Whole.{whole_log, whole}
 use Rattle.ballot_base.specs.declared.message.Body.{Body}
 use Rattle.ballot_base.specs.declared.message.Body.TheVariants.{NewBallot, Join, State, Install, Installed, Activate, Activated, Superseded, Append, Held, Commit}
 use Rattle.ballot_base.specs.Replica.{ReplicaState}
-use Rattle.ballot_base.specs.Cutting.{cut}
+use Rattle.ballot_base.specs.Compaction.{cut}
 use Rattle.ballot_base.specs.Losses.{halted}
 use Rattle.agreement.specs.cut_logs.World.{CutGroupWorld, NodeGoes, moved, recorded, whole_sent, whole_world}
 use Rattle.agreement.specs.cut_logs.World.NodeGoes.{takes, stops, cuts}
-use Rattle.agreement.specs.cut_logs.Giving.{given_by_node}
+use Rattle.agreement.specs.cut_logs.NodeOutputs.{given_by_node}
 use Rattle.agreement.specs.cut_logs.Proposals.{proposed_to, taken_as, taken_by_node}
 use Rattle.agreement.proofs.of_cut_logs.Agreed.{WasApplied}
 use Rattle.agreement.proofs.of_cut_logs.Cuts.{IsWithin, Recorded, body_stays, is_recorded, map_alike, map_alike_at, recorded_longer}

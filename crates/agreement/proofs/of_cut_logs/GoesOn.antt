@@ -18,7 +18,7 @@ use Rattle.agreement.specs.cut_logs.Whole.{whole, whole_effects, whole_input}
 use Rattle.agreement.specs.cut_logs.Matches.{IsBased}
 use Rattle.ballot_base.specs.declared.message.Body.{Body}
 use Rattle.ballot_base.specs.declared.message.Effect.{Effect}
-use Rattle.ballot_base.specs.Sending.{Outcome}
+use Rattle.ballot_base.specs.StepOutcome.{Outcome}
 use Rattle.ballot_base.specs.Losses.{Thinned, Loses}
 use Rattle.agreement.specs.cut_logs.World.{messages, CutGroupWorld, MayTake, moved, whole_world}
 use Rattle.ballot_base.specs.declared.message.Body.TheVariants.{NewBallot, Join, State, Install, Installed, Activate, Activated, Superseded, Append, Held, Commit}

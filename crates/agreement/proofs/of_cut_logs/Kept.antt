@@ -29,7 +29,7 @@ use Rattle.ballot_base.specs.declared.message.Body.TheVariants.{NewBallot, Join,
 use Rattle.ballot_base.specs.declared.message.Effect.TheVariants.{To, Out}
 use Rattle.ballot_base.specs.Losses.Thinned.{none, keeps, loses}
 use Rattle.ballot_base.specs.Protocol.{Input, replica_step}
-use Rattle.ballot_base.specs.Taking.{taken, with_places, with_snapshot, read_into}
+use Rattle.ballot_base.specs.TakenLog.{taken, with_places, with_snapshot, read_into}
 use Rattle.agreement.proofs.of_cut_logs.Agreed.{WasApplied}
 use Rattle.agreement.proofs.of_cut_logs.Bases.{IsOwn, KeepsBase, SaysOwn}
 use Rattle.agreement.proofs.of_cut_logs.Fronts.{whole_front, whole_long}

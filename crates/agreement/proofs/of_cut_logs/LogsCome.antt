@@ -6,18 +6,18 @@ use Rattle.std.proofs.lemmas.Bool.{and_parts, cases_Bool, eqb-true, leb-true}
 use Rattle.machine.specs.Machine.{Rules}
 use Rattle.agreement.proofs.of_whole_logs.ChangeRows.{on_state-stays, on_state-takes, on_install-answers, on_install-stays, on_install-takes}
 use Rattle.agreement.specs.whole_logs.Messages.{Body as bodies}
-use Rattle.agreement.specs.whole_logs.Changing.{on_state as whole_on_state, on_install as whole_on_install, install_effects as whole_install_effects}
+use Rattle.agreement.specs.whole_logs.Transfer.{on_state as whole_on_state, on_install as whole_on_install, install_effects as whole_install_effects}
 use Rattle.ballot_base.specs.declared.status.Role.TheVariants.{Backup, Installing}
 use Rattle.agreement.specs.whole_logs.Messages.{Effect as WholeEffect}
 use Rattle.agreement.specs.whole_logs.Messages.{Effect as effects}
 use Rattle.ballot_base.specs.Replica.{is_active, is_fetching, others, ReplicaState}
-use Rattle.agreement.specs.whole_logs.Sending.{Outcome as WholeOutcome, message_to as whole_message_to}
+use Rattle.agreement.specs.whole_logs.StepOutcome.{Outcome as WholeOutcome, message_to as whole_message_to}
 use Rattle.ballot_base.specs.Logs.{Log, places}
 use Rattle.agreement.specs.cut_logs.Whole.{whole_log, whole}
 use Rattle.agreement.specs.cut_logs.Matches.{OutcomeMatches}
-use Rattle.ballot_base.specs.Sending.{Outcome, message_to, nothing_done}
+use Rattle.ballot_base.specs.StepOutcome.{Outcome, message_to, nothing_done}
 use Rattle.ballot_base.specs.declared.message.Body.TheVariants.{State, Install, Installed}
-use Rattle.ballot_base.specs.Changing.{on_install, on_state}
+use Rattle.ballot_base.specs.Transfer.{on_install, on_state}
 use Rattle.ballot_base.specs.Protocol.Input.{Receives}
 use Rattle.agreement.proofs.of_cut_logs.Fronts.{whole_long}
 use Rattle.agreement.proofs.of_cut_logs.LogsGoOn.{TakesLog}

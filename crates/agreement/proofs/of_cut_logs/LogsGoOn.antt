@@ -6,12 +6,12 @@ use Rattle.std.proofs.lemmas.List.{take-take}
 use Rattle.machine.specs.Machine.{Rules, replay}
 use Rattle.lists.specs.Lists.{In}
 use Rattle.lists.specs.Lists.In.{there}
-use Rattle.agreement.specs.whole_logs.Applying.{applied_to as whole_applied_to}
+use Rattle.agreement.specs.whole_logs.Application.{applied_to as whole_applied_to}
 use Rattle.ballot_base.specs.declared.config.Config.{Config}
 use Rattle.agreement.specs.whole_logs.Protocol.{replica_step as whole_step}
 use Rattle.agreement.specs.whole_logs.Replica.{ReplicaState as WholeState}
 use Rattle.ballot_base.specs.Replica.{is_active, ReplicaState}
-use Rattle.agreement.specs.whole_logs.Sending.{Outcome as WholeOutcome}
+use Rattle.agreement.specs.whole_logs.StepOutcome.{Outcome as WholeOutcome}
 use Rattle.agreement.specs.MasterState.{MasterState}
 use Rattle.agreement.specs.Moments.{Moment, Moments}
 use Rattle.agreement.specs.Moments.Moments.{went_on}
@@ -23,7 +23,7 @@ use Rattle.agreement.specs.cut_logs.Matches.{IsBased, OutcomeMatches}
 use Rattle.ballot_base.specs.declared.message.Effect.{Effect}
 use Rattle.ballot_base.specs.Losses.{Thinned}
 use Rattle.ballot_base.specs.Protocol.{Input, replica_step}
-use Rattle.ballot_base.specs.Taking.{read_into, taken, with_places, with_snapshot}
+use Rattle.ballot_base.specs.TakenLog.{read_into, taken, with_places, with_snapshot}
 use Rattle.agreement.specs.cut_logs.World.{CutGroupWorld, MayTake, moved, whole_world}
 use Rattle.lists.proofs.Places.{get_set, get_set_other}
 use Rattle.agreement.proofs.of_cut_logs.Continues.{Continues, TellsAs, one_more, two_more}

@@ -3,9 +3,9 @@ use Rattle.std.proofs.Common.{◌≡◌, ℕ, ◌≤◌, true, List, [], ◌∷�
 use Rattle.std.specs.Prelude.{nat_lt, nat_le, ◌&&◌, ◌||◌, ◌==◌}
 use Rattle.machine.specs.Machine.{Rules}
 use Rattle.agreement.proofs.of_whole_logs.ChangeRows.{on_state-takes, on_install-takes}
-use Rattle.agreement.specs.whole_logs.Applying.{applied_to as whole_applied_to}
+use Rattle.agreement.specs.whole_logs.Application.{applied_to as whole_applied_to}
 use Rattle.agreement.specs.whole_logs.Messages.{Body as bodies}
-use Rattle.agreement.specs.whole_logs.Changing.{on_state as whole_on_state, on_install as whole_on_install, install_effects as whole_install_effects}
+use Rattle.agreement.specs.whole_logs.Transfer.{on_state as whole_on_state, on_install as whole_on_install, install_effects as whole_install_effects}
 use Rattle.agreement.specs.whole_logs.Messages.{Effect as WholeEffect}
 use Rattle.agreement.specs.whole_logs.Messages.{Effect as effects}
 use Rattle.agreement.specs.whole_logs.Losses.{Thinned as WholeThinned}
@@ -13,12 +13,12 @@ use Rattle.agreement.specs.whole_logs.Losses.Thinned.{none, keeps}
 use Rattle.agreement.specs.whole_logs.Replica.{ReplicaState as WholeState}
 use Rattle.ballot_base.specs.Replica.{is_fetching, others, ReplicaState}
 use Rattle.ballot_base.specs.declared.status.Role.TheVariants.{Backup, Installing}
-use Rattle.agreement.specs.whole_logs.Sending.{Outcome as WholeOutcome}
+use Rattle.agreement.specs.whole_logs.StepOutcome.{Outcome as WholeOutcome}
 use Rattle.ballot_base.specs.Logs.{Log, places}
 use Rattle.agreement.specs.cut_logs.Whole.{whole_log, whole}
-use Rattle.ballot_base.specs.Sending.{Outcome}
-use Rattle.ballot_base.specs.Changing.{answers_installed, installs_taken, on_install, on_state}
-use Rattle.ballot_base.specs.Taking.{taken}
+use Rattle.ballot_base.specs.StepOutcome.{Outcome}
+use Rattle.ballot_base.specs.Transfer.{answers_installed, installs_taken, on_install, on_state}
+use Rattle.ballot_base.specs.TakenLog.{taken}
 use Rattle.agreement.proofs.of_cut_logs.Changing.{whole_handed}
 use Rattle.agreement.proofs.of_cut_logs.Fronts.{whole_long}
 use Rattle.agreement.proofs.of_cut_logs.LogsTaken.{LearnsTo}

@@ -4,7 +4,7 @@ use Rattle.machine.specs.Machine.{Rules}
 use Rattle.agreement.proofs.Agreed.OnePrimary as primaries
 use Rattle.agreement.proofs.Agreed.MomentsAgree as wholes
 use Rattle.agreement.proofs.Agreed.MomentsGrow as growing
-use Rattle.agreement.specs.cut_logs.Laws.{AgreedGrows, HasAgreed, LogsAreCutRight, MachinesReplay, NodesAgree, OnePrimaryABallot, SentLogsAreRight, SnapshotsAreRead}
+use Rattle.agreement.specs.cut_logs.Theorems.{AgreedGrows, HasAgreed, LogsAreCutRight, MachinesReplay, NodesAgree, OnePrimaryABallot, SentLogsAreRight, SnapshotsAreRead}
 use Rattle.agreement.specs.cut_logs.Moments.{whole_moment}
 use Rattle.agreement.proofs.of_cut_logs.Continues.{agreed_back, agreed_in, left_back}
 use Rattle.agreement.proofs.of_cut_logs.MomentsKept.{moments_stand}

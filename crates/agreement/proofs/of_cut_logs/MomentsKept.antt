@@ -4,7 +4,7 @@ use Rattle.machine.specs.Machine.{Rules}
 use Rattle.agreement.specs.whole_logs.Messages.Body.{Activated as whole_activated, Superseded as whole_superseded}
 use Rattle.agreement.specs.whole_logs.Messages.{Body as WholeBody}
 use Rattle.agreement.specs.MasterState.{MasterState, AssignRefusal, activating, is_granted, master_after, opening_master, refusal}
-use Rattle.agreement.specs.Giving.{given_of as whole_given_of}
+use Rattle.agreement.specs.NodeOutputs.{given_of as whole_given_of}
 use Rattle.agreement.specs.Moments.{Moment as WholeMoment, Moments as WholeMoments}
 use Rattle.agreement.specs.Proposals.{proposals_of as whole_proposals_of, taken_at as whole_taken_at, taken_of as whole_taken_of}
 use Rattle.agreement.specs.Steps.{world_after as whole_after}
@@ -13,7 +13,7 @@ use Rattle.ballot_base.specs.declared.config.Config.{Config}
 use Rattle.ballot_base.specs.declared.message.Body.TheVariants.{Activated, Superseded}
 use Rattle.agreement.specs.cut_logs.Moments.{Moment, Moments, opening_world, whole_moment}
 use Rattle.agreement.specs.cut_logs.Moments.Moments.{began, went_on}
-use Rattle.agreement.specs.cut_logs.Giving.{given_in, given_of}
+use Rattle.agreement.specs.cut_logs.NodeOutputs.{given_in, given_of}
 use Rattle.agreement.specs.cut_logs.Masters.{activated, assigned}
 use Rattle.agreement.specs.cut_logs.Proposals.{proposal_of, proposals_of, taken_at, taken_in, taken_of, takes_at}
 use Rattle.agreement.specs.cut_logs.Steps.{MayHappen, sends_from_master, world_after}

@@ -12,16 +12,16 @@ use Rattle.ballot_base.specs.declared.message.Body.TheVariants.{NewBallot, Join,
 use Rattle.ballot_base.specs.declared.message.Effect.{Effect}
 use Rattle.ballot_base.specs.declared.message.Effect.TheVariants.{To, Out}
 use Rattle.ballot_base.specs.declared.status.Role.TheVariants.{Installing}
-use Rattle.ballot_base.specs.Changing.{answers_installed, installs_taken, install_effects, lacks, on_install, on_state, waits_for}
+use Rattle.ballot_base.specs.Transfer.{answers_installed, installs_taken, install_effects, lacks, on_install, on_state, waits_for}
 use Rattle.ballot_base.specs.Logs.{Log, places}
 use Rattle.ballot_base.specs.Losses.{Loses, Thinned, halted}
 use Rattle.ballot_base.specs.Losses.Thinned.{none, keeps, loses}
 use Rattle.ballot_base.specs.Protocol.{Input, replica_step}
 use Rattle.ballot_base.specs.Protocol.Input.{Receives, Proposes, Ticks}
 use Rattle.ballot_base.specs.Replica.{ReplicaState, is_active, others}
-use Rattle.ballot_base.specs.Sending.{Outcome, message_to, message_to_each, nothing_done}
-use Rattle.ballot_base.specs.Taking.{taken}
-use Rattle.agreement.specs.Giving.{GivesNext, gives_from}
+use Rattle.ballot_base.specs.StepOutcome.{Outcome, message_to, message_to_each, nothing_done}
+use Rattle.ballot_base.specs.TakenLog.{taken}
+use Rattle.agreement.specs.NodeOutputs.{GivesNext, gives_from}
 use Rattle.agreement.specs.MasterState.{AssignRefusal, MasterState, refusal}
 use Rattle.agreement.specs.Moments.{Moment as WholeMoment}
 use Rattle.agreement.specs.whole_logs.Protocol.{replica_step as whole_step}
@@ -30,7 +30,7 @@ use Rattle.agreement.proofs.Agreed.MomentsAgree as wholes
 use Rattle.agreement.proofs.Agreed.MomentsKnown.{moments_known}
 use Rattle.agreement.proofs.Given.NextPlaces.{node_gives, same_gives, some_same}
 use Rattle.agreement.proofs.Given.Places.{front_between}
-use Rattle.agreement.specs.cut_logs.Giving.{given_in}
+use Rattle.agreement.specs.cut_logs.NodeOutputs.{given_in}
 use Rattle.agreement.specs.cut_logs.Matches.{IsBased}
 use Rattle.agreement.specs.cut_logs.Orders.{AnswersAtTheNextPlaces}
 use Rattle.agreement.specs.cut_logs.Moments.{Moment, whole_moment}

@@ -16,7 +16,7 @@ use Rattle.agreement.specs.Moments.{IsAgreed}
 use Rattle.agreement.specs.Primaries.{IsPrimary}
 use Rattle.agreement.specs.Proposals.{IsOfBallot, IsPartOf, commands_of, rows_in, taken_of as whole_taken_of}
 use Rattle.agreement.specs.World.{log_of, outputs as whole_outputs}
-use Rattle.agreement.specs.whole_logs.Applying.{outputs_between}
+use Rattle.agreement.specs.whole_logs.Application.{outputs_between}
 use Rattle.agreement.specs.whole_logs.Replica.{ReplicaState as WholeState}
 use Rattle.agreement.proofs.Agreed.OneNodeTakes as takers
 use Rattle.agreement.proofs.Agreed.MomentsAgree as wholes
@@ -27,8 +27,8 @@ use Rattle.agreement.proofs.Orders.TakenParts as parts
 use Rattle.agreement.proofs.Given.Places.{between_joins, none_between}
 use Rattle.agreement.proofs.Given.NextPlaces.{some_same}
 use Rattle.agreement.proofs.Given.StepGives.{from_active}
-use Rattle.agreement.specs.cut_logs.Giving.{LeadsOn, given_in, given_of}
-use Rattle.agreement.specs.cut_logs.Giving.LeadsOn.{leads_there, leads_still}
+use Rattle.agreement.specs.cut_logs.NodeOutputs.{LeadsOn, given_in, given_of}
+use Rattle.agreement.specs.cut_logs.NodeOutputs.LeadsOn.{leads_there, leads_still}
 use Rattle.agreement.specs.cut_logs.Orders.{AnswersWhileItLeads, KeepsTheOrder, OneNodeTakesABallot}
 use Rattle.agreement.specs.cut_logs.Moments.{Moment, Moments, whole_moment}
 use Rattle.agreement.specs.cut_logs.Proposals.{proposals_of, taken_at, taken_of}

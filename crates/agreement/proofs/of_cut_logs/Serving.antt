@@ -12,18 +12,18 @@ use Rattle.agreement.specs.whole_logs.Losses.Thinned.{none, keeps, loses}
 use Rattle.ballot_base.specs.declared.status.Progress.{Progress}
 use Rattle.agreement.specs.whole_logs.Replica.{ReplicaState as WholeState}
 use Rattle.ballot_base.specs.Replica.{is_active, ReplicaState}
-use Rattle.agreement.specs.whole_logs.Sending.{Outcome as WholeOutcome, message_to_followed as whole_followed, nothing_done as whole_nothing, sent_first as whole_sent_first}
-use Rattle.agreement.specs.whole_logs.Applying.{outputs_from as whole_outputs_from}
-use Rattle.ballot_base.specs.Serving.{least, max_places, raised, extended, added, append_at, appends_after, commit, commit_at, follows, leads, on_append, on_commit, on_held, on_tick_active, proposed}
-use Rattle.agreement.specs.whole_logs.Serving.{commit as whole_commit, commit_at as whole_commit_at, added as whole_added, proposed as whole_proposed, on_append as whole_on_append, on_held as whole_on_held, on_commit as whole_on_commit, on_tick_active as whole_on_tick_active, appends_after as whole_appends_after, append_at as whole_append_at, extended as whole_extended}
+use Rattle.agreement.specs.whole_logs.StepOutcome.{Outcome as WholeOutcome, message_to_followed as whole_followed, nothing_done as whole_nothing, sent_first as whole_sent_first}
+use Rattle.agreement.specs.whole_logs.Application.{outputs_from as whole_outputs_from}
+use Rattle.ballot_base.specs.Service.{least, max_places, raised, extended, added, append_at, appends_after, commit, commit_at, follows, leads, on_append, on_commit, on_held, on_tick_active, proposed}
+use Rattle.agreement.specs.whole_logs.Service.{commit as whole_commit, commit_at as whole_commit_at, added as whole_added, proposed as whole_proposed, on_append as whole_on_append, on_held as whole_on_held, on_commit as whole_on_commit, on_tick_active as whole_on_tick_active, appends_after as whole_appends_after, append_at as whole_append_at, extended as whole_extended}
 use Rattle.ballot_base.specs.Logs.{Log, command_at, part, places, pushed}
 use Rattle.agreement.specs.cut_logs.Whole.{whole_log, whole, whole_body, whole_effect, whole_effects}
 use Rattle.agreement.specs.cut_logs.Matches.{IsBased, OutcomeMatches}
 use Rattle.ballot_base.specs.declared.message.Body.{Body}
 use Rattle.ballot_base.specs.declared.message.Effect.{Effect}
-use Rattle.ballot_base.specs.Sending.{Outcome, message_to_followed, nothing_done, sent_first}
+use Rattle.ballot_base.specs.StepOutcome.{Outcome, message_to_followed, nothing_done, sent_first}
 use Rattle.ballot_base.specs.declared.message.Body.TheVariants.{Append, Commit}
-use Rattle.ballot_base.specs.Applying.{applied_to, outputs_from, outputs_to}
+use Rattle.ballot_base.specs.Application.{applied_to, outputs_from, outputs_to}
 use Rattle.agreement.proofs.of_cut_logs.Fronts.{whole_get, whole_long, whole_part, whole_pushed}
 
 -- effects that are the same are none missing; and parts of lists that are joined

@@ -6,12 +6,12 @@ use Rattle.machine.specs.Machine.{Rules}
 use Rattle.agreement.specs.Moments.{Moment}
 use Rattle.ballot_base.specs.declared.message.Body.{Body}
 use Rattle.ballot_base.specs.declared.message.Body.TheVariants.{NewBallot, Join, State, Install, Installed, Activate, Activated, Superseded, Append, Held, Commit}
-use Rattle.ballot_base.specs.Changing.{lacks, waits_for}
+use Rattle.ballot_base.specs.Transfer.{lacks, waits_for}
 use Rattle.ballot_base.specs.Logs.{Log, places}
 use Rattle.ballot_base.specs.Replica.{ReplicaState}
 use Rattle.ballot_base.specs.Unread.{is_unread, reads_none}
 use Rattle.ballot_base.proofs.LogsTaken.{reads_none-low, reads_none-not}
-use Rattle.agreement.specs.cut_logs.Laws.{log_in}
+use Rattle.agreement.specs.cut_logs.Theorems.{log_in}
 use Rattle.agreement.proofs.of_cut_logs.Kept.{Carries, IsSnapshot}
 
 -- a snapshot of a place over a replica's base is one of a place over 0

@@ -11,7 +11,7 @@ use Rattle.ballot_base.specs.Losses.{Loses}
 use Rattle.ballot_base.specs.Protocol.{Input, replica_step}
 use Rattle.ballot_base.specs.Protocol.Input.{Receives, Proposes, Ticks}
 use Rattle.ballot_base.specs.Replica.{ReplicaState}
-use Rattle.agreement.specs.Laws.{StandsAtOnce as WholeStands}
+use Rattle.agreement.specs.Theorems.{StandsAtOnce as WholeStands}
 use Rattle.agreement.specs.MasterState.{MasterState}
 use Rattle.agreement.specs.Proposals.{taken_by as whole_taken_by}
 use Rattle.agreement.specs.whole_logs.Protocol.{replica_step as whole_step}

@@ -2,7 +2,7 @@
 use Rattle.std.proofs.Common.{cond, ◌≡◌, ℕ, ◌<◌, ◌≤◌, max, List, ◌++◌, length, take, ap, ap₂, sym, ◌∙◌, arith}
 use Rattle.std.proofs.lemmas.Bool.{lt-ltb, le-ltb}
 use Rattle.machine.specs.Machine.{Rules, replay}
-use Rattle.agreement.specs.whole_logs.Applying.{applied_to as whole_applied_to}
+use Rattle.agreement.specs.whole_logs.Application.{applied_to as whole_applied_to}
 use Rattle.agreement.specs.whole_logs.Replica.{ReplicaState as WholeState}
 use Rattle.ballot_base.proofs.AppliesInOrder.{replay_goes_on}
 use Rattle.lists.specs.Lists.{IsPrefixOf}
@@ -11,8 +11,8 @@ use Rattle.ballot_base.specs.Logs.{Log, places}
 use Rattle.agreement.specs.cut_logs.Whole.{whole_log, whole}
 use Rattle.agreement.specs.cut_logs.Matches.{IsBased}
 use Rattle.ballot_base.specs.Replica.{ReplicaState}
-use Rattle.ballot_base.specs.Cutting.{cut}
-use Rattle.ballot_base.specs.Taking.{with_places, with_snapshot}
+use Rattle.ballot_base.specs.Compaction.{cut}
+use Rattle.ballot_base.specs.TakenLog.{with_places, with_snapshot}
 use Rattle.agreement.proofs.of_cut_logs.Fronts.{whole_front, whole_long, whole_shorter}
 
 -- its base is not over the replica's: the places below the replica's base are those of the record

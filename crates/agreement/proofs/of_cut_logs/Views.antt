@@ -7,7 +7,7 @@ use Rattle.agreement.specs.whole_logs.Messages.{Effect as WholeEffect}
 use Rattle.agreement.specs.whole_logs.Losses.{Loses as WholeLoses, Thinned as WholeThinned}
 use Rattle.agreement.specs.whole_logs.Losses.Thinned.{none as none_left, keeps as keeps_one, loses as loses_one}
 use Rattle.agreement.specs.whole_logs.Protocol.{replica_step as whole_step}
-use Rattle.agreement.specs.whole_logs.Sending.{Outcome as WholeOutcome}
+use Rattle.agreement.specs.whole_logs.StepOutcome.{Outcome as WholeOutcome}
 use Rattle.agreement.specs.MasterState.{MasterState}
 use Rattle.agreement.specs.Steps.{MayTake as WholeMayTake}
 use Rattle.agreement.specs.Steps.MayHappen.{node_takes}
@@ -16,7 +16,7 @@ use Rattle.lists.specs.Lists.{In}
 use Rattle.lists.specs.Lists.In.{here, there}
 use Rattle.agreement.specs.cut_logs.Matches.{OutcomeMatches}
 use Rattle.ballot_base.specs.declared.message.Effect.{Effect}
-use Rattle.ballot_base.specs.Sending.{Outcome}
+use Rattle.ballot_base.specs.StepOutcome.{Outcome}
 use Rattle.ballot_base.specs.Losses.{Thinned, Loses}
 use Rattle.agreement.specs.cut_logs.World.{messages, outputs, CutGroupWorld, MayTake, moved, whole_sent, whole_world}
 use Rattle.ballot_base.specs.declared.message.Effect.TheVariants.{To, Out}

@@ -3,7 +3,7 @@ use Rattle.std.proofs.Common.{◌≡◌, ℕ, ◌+◌, List, [], ◌∷◌, ◌+
 use Rattle.machine.specs.Machine.{Rules, replay_from}
 use Rattle.agreement.specs.whole_logs.Messages.{Effect}
 use Rattle.agreement.specs.whole_logs.Messages.Effect.{Out}
-use Rattle.agreement.specs.whole_logs.Applying.{outputs_from}
+use Rattle.agreement.specs.whole_logs.Application.{outputs_from}
 pub use Rattle.ballot_base.proofs.AppliesInOrder.{replay_from-append, part_none, replay_goes_on}
 
 -- commands after others give what they give in the state that those leave

@@ -4,18 +4,18 @@ use Rattle.std.specs.Prelude.{nat_lt, nat_le, ◌&&◌, ◌||◌, ◌==◌}
 use Rattle.std.specs.List.{list_any}
 use Rattle.std.proofs.lemmas.Bool.{lt-ltb, le-ltb}
 use Rattle.machine.specs.Machine.{Rules}
-use Rattle.agreement.specs.whole_logs.Applying.{applied_to}
+use Rattle.agreement.specs.whole_logs.Application.{applied_to}
 use Rattle.agreement.specs.whole_logs.Messages.Body.{Join, State, Install, Installed}
 use Rattle.ballot_base.specs.declared.status.Role.TheVariants.{Backup, Fetching, Installing, Active}
 use Rattle.ballot_base.specs.declared.status.Role.{Role}
 use Rattle.agreement.specs.whole_logs.Protocol.{ticked}
 use Rattle.agreement.specs.whole_logs.Replica.{ReplicaState}
 use Rattle.ballot_base.specs.Replica.{is_backup, is_fetching, is_installing, others, progress_at}
-use Rattle.agreement.specs.whole_logs.Sending.{nothing_done, message_to, message_to_each}
-use Rattle.ballot_base.specs.Serving.{max_places}
-use Rattle.agreement.specs.whole_logs.Serving.{added}
-use Rattle.agreement.specs.whole_logs.Changing.{on_new_ballot, on_join, on_install, install_effects, on_state, on_tick_fetching, on_tick_installing}
-use Rattle.agreement.specs.whole_logs.Activating.{on_superseded, activates, on_installed, on_activated}
+use Rattle.agreement.specs.whole_logs.StepOutcome.{nothing_done, message_to, message_to_each}
+use Rattle.ballot_base.specs.Service.{max_places}
+use Rattle.agreement.specs.whole_logs.Service.{added}
+use Rattle.agreement.specs.whole_logs.Transfer.{on_new_ballot, on_join, on_install, install_effects, on_state, on_tick_fetching, on_tick_installing}
+use Rattle.agreement.specs.whole_logs.Activation.{on_superseded, activates, on_installed, on_activated}
 
 -- NewBallot
 pub on_new_ballot-joins : {S C : Type 0} (O : Type 0) (r : ReplicaState S C) (b : ℕ) (members : List ℕ) (a : ℕ) (old : List ℕ) →

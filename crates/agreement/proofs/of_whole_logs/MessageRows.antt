@@ -9,10 +9,10 @@ use Rattle.ballot_base.specs.declared.status.Role.{Role}
 use Rattle.ballot_base.specs.declared.status.Role.TheVariants.{Backup, Fetching, Installing, Active}
 use Rattle.agreement.specs.whole_logs.Replica.{ReplicaState}
 use Rattle.ballot_base.specs.Replica.{is_active}
-use Rattle.agreement.specs.whole_logs.Sending.{Outcome, nothing_done, message_to, message_to_followed}
-use Rattle.agreement.specs.whole_logs.Applying.{outputs_to, applied_to}
-use Rattle.ballot_base.specs.Serving.{least, raised}
-use Rattle.agreement.specs.whole_logs.Serving.{follows, leads, extended, commit_at, commit, on_append, on_held, on_commit, appends_after, on_tick_active}
+use Rattle.agreement.specs.whole_logs.StepOutcome.{Outcome, nothing_done, message_to, message_to_followed}
+use Rattle.agreement.specs.whole_logs.Application.{outputs_to, applied_to}
+use Rattle.ballot_base.specs.Service.{least, raised}
+use Rattle.agreement.specs.whole_logs.Service.{follows, leads, extended, commit_at, commit, on_append, on_held, on_commit, appends_after, on_tick_active}
 use Rattle.agreement.specs.whole_logs.Protocol.{ticked}
 use Rattle.agreement.proofs.of_whole_logs.StepRows.{commit_at-goes, commit_at-stays}
 pub use Rattle.ballot_base.proofs.MessageRows.{raised_progress-member}

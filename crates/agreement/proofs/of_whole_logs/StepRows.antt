@@ -5,10 +5,10 @@ use Rattle.machine.specs.Machine.{Rules}
 use Rattle.agreement.specs.whole_logs.Messages.Body.{Append, Commit}
 use Rattle.agreement.specs.whole_logs.Replica.{ReplicaState}
 use Rattle.ballot_base.specs.Replica.{is_active}
-use Rattle.agreement.specs.whole_logs.Sending.{Outcome, nothing_done, message_to_followed, sent_first}
-use Rattle.agreement.specs.whole_logs.Applying.{outputs_to, applied_to}
-use Rattle.ballot_base.specs.Serving.{least, max_places}
-use Rattle.agreement.specs.whole_logs.Serving.{commit_at, commit, added, proposed}
+use Rattle.agreement.specs.whole_logs.StepOutcome.{Outcome, nothing_done, message_to_followed, sent_first}
+use Rattle.agreement.specs.whole_logs.Application.{outputs_to, applied_to}
+use Rattle.ballot_base.specs.Service.{least, max_places}
+use Rattle.agreement.specs.whole_logs.Service.{commit_at, commit, added, proposed}
 pub use Rattle.ballot_base.proofs.StepRows.{least-le}
 
 -- nothing new is committed

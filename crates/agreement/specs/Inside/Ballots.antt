@@ -24,23 +24,23 @@ pub record History (C : Type 0) : Type 0 where
   pub line : ℕ → Option (Line C)
 
 -- a member has acknowledged this many places of the ballot's list
-pub data Told {S C O : Type 0} (world : GroupWorld S C O) (history : History C)
+pub data Acknowledged {S C O : Type 0} (world : GroupWorld S C O) (history : History C)
     (member ballot places : ℕ) : Type 0 where
   -- nothing of ballot 1 at its opening
   told_at_opening : (given : Given) → ballot ≡ 1 → places ≡ 0 → history.given 1 ≡ Some given →
-      In member given.members → Told world history member ballot places
+      In member given.members → Acknowledged world history member ballot places
   -- it sent a Held with at least this length
   told_by_held : (receiver held : ℕ) →
       In (receiver, record { from = member; body = Held ballot held }) world.sent →
-      places ≤ held → Told world history member ballot places
+      places ≤ held → Acknowledged world history member ballot places
   -- it sent an Installed with at least this length
   told_by_installed : (receiver held : ℕ) →
       In (receiver, record { from = member; body = Installed ballot held }) world.sent →
-      places ≤ held → Told world history member ballot places
+      places ≤ held → Acknowledged world history member ballot places
   -- it is the primary: all of its list
   told_as_primary : (given : Given) (line : Line C) → history.given ballot ≡ Some given →
       given.primary ≡ member → history.line ballot ≡ Some line → places ≤ length line.list →
-      Told world history member ballot places
+      Acknowledged world history member ballot places
 
 -- a node acknowledges in the ballot in which it holds its log, and no more than its log has
 pub record TellsHere {S C O : Type 0} (world : GroupWorld S C O) (member ballot places : ℕ) :
@@ -56,7 +56,7 @@ pub record TellsHere {S C O : Type 0} (world : GroupWorld S C O) (member ballot 
 abbrev pub IsChosenIn : {S C O : Type 0} → GroupWorld S C O → History C → ℕ → ℕ → Type 0
 IsChosenIn world history ballot places =
     (given : Given) × (history.given ballot ≡ Some given)
-    × ((member : ℕ) → In member given.members → Told world history member ballot places)
+    × ((member : ℕ) → In member given.members → Acknowledged world history member ballot places)
 
 -- some member has left the ballot of this number for good, and all that it acknowledged there is a
 -- prefix of the list
@@ -71,5 +71,5 @@ pub record Sealed {S C O : Type 0} (world : GroupWorld S C O) (history : History
   pub lined : history.line number ≡ Some line
   pub stands : slice_get world.nodes node ≡ Some replica
   pub gone : number < replica.joined
-  pub covers : (places : ℕ) → Told world history (node + 1) number places →
+  pub covers : (places : ℕ) → Acknowledged world history (node + 1) number places →
       IsPrefixOf (take places line.list) list

@@ -3,7 +3,7 @@ use Rattle.std.specs.Prelude.{ℕ, ◌+◌, ◌<◌, ◌≤◌, ◌≡◌, ◌�
 use Rattle.agreement.specs.whole_logs.Replica.{ReplicaState}
 use Rattle.agreement.specs.World.{GroupWorld}
 use Rattle.lists.specs.Lists.{In, IsPrefixOf}
-use Rattle.agreement.specs.Inside.Ballots.{Given, Line, History, Told, IsChosenIn, Sealed}
+use Rattle.agreement.specs.Inside.Ballots.{Given, Line, History, Acknowledged, IsChosenIn, Sealed}
 
 -- each activated ballot was given while the next older one was active
 abbrev pub IsChain : {C : Type 0} → History C → List ℕ → Type 0
@@ -58,9 +58,10 @@ pub record IsPlaced {S C O : Type 0} (world : GroupWorld S C O) (history : Histo
       (given : Given) × (history.given replica.held_in ≡ Some given)
       × ((line : Line C) × (history.line replica.held_in ≡ Some line)
       × IsPrefixOf line.base replica.log × IsPrefixOf replica.log line.list)
-  pub told : (ballot places : ℕ) → Told world history (node + 1) ballot places →
+  pub told : (ballot places : ℕ) → Acknowledged world history (node + 1) ballot places →
       ballot ≤ replica.held_in
-  pub told_here : (places : ℕ) → Told world history (node + 1) replica.held_in places →
+  pub acknowledged_here : (places : ℕ) →
+      Acknowledged world history (node + 1) replica.held_in places →
       places ≤ length replica.log
 
 -- what a node applied is chosen in an activated ballot that is not above the one that it joined

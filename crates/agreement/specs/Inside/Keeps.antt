@@ -5,11 +5,11 @@ use Rattle.std.specs.Prelude.{◌⊎◌, ℕ, ◌≡◌, List, [], ◌∷◌, �
 use Rattle.machine.specs.Machine.{Rules}
 use Rattle.agreement.specs.whole_logs.Messages.{Effect}
 use Rattle.agreement.specs.whole_logs.Losses.{Thinned}
-use Rattle.agreement.specs.whole_logs.Sending.{Outcome}
+use Rattle.agreement.specs.whole_logs.StepOutcome.{Outcome}
 use Rattle.agreement.specs.World.{GroupWorld, moved}
 use Rattle.lists.specs.Lists.{In, IsPrefixOf}
-use Rattle.agreement.specs.Inside.Ballots.{Told, TellsHere, Given, Line, History}
-use Rattle.agreement.specs.Inside.Extending.{Extends}
+use Rattle.agreement.specs.Inside.Ballots.{Acknowledged, TellsHere, Given, Line, History}
+use Rattle.agreement.specs.Inside.Extension.{Extends}
 use Rattle.agreement.specs.Inside.Sound.{IsSoundWorld}
 
 -- a later world is sound, with a history that continues from the one before
@@ -49,8 +49,8 @@ pub record NodeGoesOn {S C O : Type 0} (rules : Rules S C O) (world : GroupWorld
   pub added : (ballot : ℕ) (line : Line C) → history.line ballot ≡ Some line →
       LineAdds adds earlier ballot line
   -- what is acknowledged was acknowledged before, or is acknowledged now by a node that holds it
-  pub tells : (member ballot places : ℕ) → Told next history member ballot places →
-      Told world earlier member ballot places ⊎ TellsHere next member ballot places
+  pub tells : (member ballot places : ℕ) → Acknowledged next history member ballot places →
+      Acknowledged world earlier member ballot places ⊎ TellsHere next member ballot places
 
 -- whichever of its messages are lost, the outcome of a node's step is sound, and adds no more than
 -- it may

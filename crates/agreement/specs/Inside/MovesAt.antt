@@ -5,7 +5,7 @@ use Rattle.agreement.specs.whole_logs.Messages.{Effect}
 use Rattle.agreement.specs.whole_logs.Replica.{ReplicaState}
 use Rattle.agreement.specs.World.{GroupWorld, moved}
 use Rattle.lists.specs.Lists.{In, IsPrefixOf}
-use Rattle.agreement.specs.Inside.Ballots.{Given, Line, History, Told, Sealed}
+use Rattle.agreement.specs.Inside.Ballots.{Given, Line, History, Acknowledged, Sealed}
 
 -- the history with other lists
 abbrev pub with_lines : {C : Type 0} → History C → (ℕ → Option (Line C)) → History C
@@ -54,8 +54,8 @@ pub record MovesAt {S C O : Type 0} (world : GroupWorld S C O) (history : Histor
   pub own : (ballot : ℕ) (assigned : Given) → history.given ballot ≡ Some assigned →
       (assigned.primary ≡ node + 1 → ⊥) → line ballot ≡ history.line ballot
   pub tells : (member ballot places : ℕ) →
-      Told (moved world node new given) (with_lines history line) member ballot places →
-      Told world history member ballot places
+      Acknowledged (moved world node new given) (with_lines history line) member ballot places →
+      Acknowledged world history member ballot places
       ⊎ ((member ≡ node + 1) × TellsNow line old new ballot places)
 
 -- the lists of the ballots, with another for one ballot

@@ -4,14 +4,14 @@ use Rattle.std.specs.List.{flat_map}
 use Rattle.machine.specs.Machine.{Rules}
 use Rattle.agreement.specs.whole_logs.Messages.{Message}
 use Rattle.agreement.specs.whole_logs.Replica.{ReplicaState}
-use Rattle.agreement.specs.whole_logs.Applying.{outputs_between}
+use Rattle.agreement.specs.whole_logs.Application.{outputs_between}
 use Rattle.agreement.specs.World.{GroupWorld, outputs}
 use Rattle.lists.specs.Lists.{In, IsPrefixOf}
-use Rattle.agreement.specs.Inside.Ballots.{Given, Line, History, Told, IsChosenIn}
+use Rattle.agreement.specs.Inside.Ballots.{Given, Line, History, Acknowledged, IsChosenIn}
 use Rattle.agreement.specs.Inside.BallotsStand.{AreBallots, BallotListsStand}
 use Rattle.agreement.specs.Inside.SoundNodes.{IsSoundNode}
-use Rattle.agreement.specs.Leaving.{AreInOrder, Segment}
-use Rattle.agreement.specs.Inside.Saying.{SpeaksTruth}
+use Rattle.agreement.specs.LeftOutputs.{AreInOrder, Segment}
+use Rattle.agreement.specs.Inside.MessageMeaning.{SpeaksTruth}
 
 -- the outputs that left are those of segments in order, each a part of what is chosen in its ballot
 pub record LeftIs {S C O : Type 0} (rules : Rules S C O) (world : GroupWorld S C O)
@@ -38,7 +38,7 @@ pub record IsSoundWorld {S C O : Type 0} (rules : Rules S C O) (world : GroupWor
     (history : History C) : Type 0 where
   pub ballots : AreBallots history
   pub lines : BallotListsStand world history
-  pub within : (member ballot places : ℕ) → Told world history member ballot places →
+  pub within : (member ballot places : ℕ) → Acknowledged world history member ballot places →
       (places ≡ 0) ⊎ ((line : Line C) × (history.line ballot ≡ Some line)
       × (places ≤ length line.list))
   pub said : (to : ℕ) (message : Message C) → In (to, message) world.sent →

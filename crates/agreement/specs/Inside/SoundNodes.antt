@@ -5,9 +5,9 @@ use Rattle.ballot_base.specs.declared.status.Role.TheVariants.{Fetching, Install
 use Rattle.agreement.specs.whole_logs.Replica.{ReplicaState}
 use Rattle.agreement.specs.World.{GroupWorld}
 use Rattle.lists.specs.Lists.{In}
-use Rattle.agreement.specs.Inside.Ballots.{Given, Line, History, Told}
+use Rattle.agreement.specs.Inside.Ballots.{Given, Line, History, Acknowledged}
 use Rattle.agreement.specs.Inside.BallotsStand.{IsPlaced, Applied}
-use Rattle.agreement.specs.Inside.Saying.{IsOf}
+use Rattle.agreement.specs.Inside.MessageMeaning.{IsOf}
 
 -- what a leader's fields are, by its role
 abbrev pub Leads : {S C O : Type 0} → GroupWorld S C O → History C → ℕ → ReplicaState S C → Type 0
@@ -38,7 +38,7 @@ pub record IsInstalling {S C O : Type 0} (world : GroupWorld S C O) (history : H
   pub base : replica.log ≡ line.base
   pub noted : (member : ℕ) → In member replica.members →
       (In member replica.lacking
-      ⊎ Told world history member replica.joined (length line.base))
+      ⊎ Acknowledged world history member replica.joined (length line.base))
   pub lacks : (member : ℕ) → In member replica.lacking →
       In member replica.members × (member ≡ node + 1 → ⊥)
 
@@ -60,7 +60,7 @@ pub record IsActive {S C O : Type 0} (world : GroupWorld S C O) (history : Histo
   pub followed : (reached : Progress) → In reached replica.progress →
       (In reached.member replica.members)
       × (length line.base ≤ reached.held) × (replica.committed ≤ reached.held)
-      × Told world history reached.member replica.joined reached.held
+      × Acknowledged world history reached.member replica.joined reached.held
   pub others : (reached : Progress) → In reached replica.progress → reached.member ≡ node + 1 → ⊥
 
 -- a node is as it should be

@@ -1,8 +1,8 @@
 -- When a step of nodes that cut their logs is a step on the whole logs.
 use Rattle.std.specs.Prelude.{◌≤◌, ◌≡◌, List, length}
 use Rattle.agreement.specs.whole_logs.Losses.{Thinned}
-use Rattle.agreement.specs.whole_logs.Sending.{Outcome as WholeOutcome}
-use Rattle.ballot_base.specs.Sending.{Outcome}
+use Rattle.agreement.specs.whole_logs.StepOutcome.{Outcome as WholeOutcome}
+use Rattle.ballot_base.specs.StepOutcome.{Outcome}
 use Rattle.ballot_base.specs.Replica.{ReplicaState}
 use Rattle.agreement.specs.cut_logs.Whole.{whole, whole_effects}
 

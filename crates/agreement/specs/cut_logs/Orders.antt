@@ -4,8 +4,8 @@ use Rattle.std.specs.Prelude.{ℕ, Bool, ◌≤◌, ◌≡◌, List, [], ◌∷�
 use Rattle.std.specs.Prelude.{slice_get, Some}
 use Rattle.machine.specs.Machine.{Rules}
 use Rattle.lists.specs.Lists.{In, IsPrefixOf}
-use Rattle.agreement.specs.whole_logs.Applying.{outputs_between}
-use Rattle.agreement.specs.Giving.{GivesNext}
+use Rattle.agreement.specs.whole_logs.Application.{outputs_between}
+use Rattle.agreement.specs.NodeOutputs.{GivesNext}
 use Rattle.agreement.specs.MasterState.{MasterState}
 use Rattle.agreement.specs.Moments.{IsAgreed}
 use Rattle.agreement.specs.Primaries.{IsPrimary}
@@ -13,7 +13,7 @@ use Rattle.agreement.specs.Proposals.{IsOfBallot, IsPartOf, IsTaken, commands_of
 use Rattle.agreement.specs.World.{log_of, outputs}
 use Rattle.ballot_base.specs.declared.config.Config.{Config}
 use Rattle.ballot_base.specs.Replica.{ReplicaState}
-use Rattle.agreement.specs.cut_logs.Giving.{LeadsOn, given_in, given_of}
+use Rattle.agreement.specs.cut_logs.NodeOutputs.{LeadsOn, given_in, given_of}
 use Rattle.agreement.specs.cut_logs.Moments.{Moment, Moments, whole_moment}
 use Rattle.agreement.specs.cut_logs.Proposals.{proposal_of, proposals_of, taken_at, taken_in}
 use Rattle.agreement.specs.cut_logs.Proposals.{taken_of, takes_at}

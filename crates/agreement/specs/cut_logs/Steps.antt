@@ -7,7 +7,7 @@ use Rattle.lists.specs.Lists.{In}
 use Rattle.agreement.specs.MasterState.{MasterState, AssignRefusal, master_after, refusal}
 use Rattle.ballot_base.specs.declared.config.Config.{Config}
 use Rattle.ballot_base.specs.declared.message.Body.TheVariants.{Activate}
-use Rattle.ballot_base.specs.Sending.{master}
+use Rattle.ballot_base.specs.StepOutcome.{master}
 use Rattle.agreement.specs.cut_logs.Masters.{MasterOutcome, activated, assigned}
 use Rattle.agreement.specs.cut_logs.World.{NodeGoes, CutGroupWorld}
 

@@ -13,7 +13,7 @@ use Rattle.ballot_base.specs.declared.message.Message.{Message}
 use Rattle.ballot_base.specs.Losses.{Loses, halted}
 use Rattle.ballot_base.specs.Replica.{ReplicaState}
 use Rattle.ballot_base.specs.Protocol.{Input, replica_step}
-use Rattle.ballot_base.specs.Cutting.{cut}
+use Rattle.ballot_base.specs.Compaction.{cut}
 use Rattle.ballot_base.specs.Protocol.Input.{Receives, Proposes, Ticks}
 
 -- the nodes, number n + 1 at index n

@@ -4,7 +4,7 @@ use Rattle.machine.specs.Machine.{Rules}
 use Rattle.agreement.specs.whole_logs.Messages.{Message, Effect}
 use Rattle.agreement.specs.whole_logs.Messages.Effect.{To}
 use Rattle.agreement.specs.whole_logs.Replica.{ReplicaState}
-use Rattle.agreement.specs.whole_logs.Sending.{Outcome}
+use Rattle.agreement.specs.whole_logs.StepOutcome.{Outcome}
 
 -- the first list is the second with some messages missing; no output is missing
 pub data Thinned {C O : Type 0} : List (Effect C O) → List (Effect C O) → Type 0 where

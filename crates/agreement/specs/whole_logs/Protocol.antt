@@ -6,11 +6,11 @@ use Rattle.agreement.specs.whole_logs.Messages.Body.{NewBallot, Join, State, Ins
 use Rattle.agreement.specs.whole_logs.Messages.Body.{Activated, Superseded, Append, Held, Commit}
 use Rattle.ballot_base.specs.declared.status.Role.{Role}
 use Rattle.ballot_base.specs.declared.status.Role.TheVariants.{Backup, Fetching, Installing, Active}
-use Rattle.agreement.specs.whole_logs.Sending.{Outcome, nothing_done}
-use Rattle.agreement.specs.whole_logs.Serving.{proposed, on_append, on_held, on_commit, on_tick_active}
-use Rattle.agreement.specs.whole_logs.Changing.{on_new_ballot, on_join, on_state, on_install}
-use Rattle.agreement.specs.whole_logs.Changing.{on_tick_fetching, on_tick_installing}
-use Rattle.agreement.specs.whole_logs.Activating.{on_installed, on_activated, on_superseded}
+use Rattle.agreement.specs.whole_logs.StepOutcome.{Outcome, nothing_done}
+use Rattle.agreement.specs.whole_logs.Service.{proposed, on_append, on_held, on_commit, on_tick_active}
+use Rattle.agreement.specs.whole_logs.Transfer.{on_new_ballot, on_join, on_state, on_install}
+use Rattle.agreement.specs.whole_logs.Transfer.{on_tick_fetching, on_tick_installing}
+use Rattle.agreement.specs.whole_logs.Activation.{on_installed, on_activated, on_superseded}
 use Rattle.agreement.specs.whole_logs.Replica.{ReplicaState}
 
 -- the input of a replica in one step

@@ -3,11 +3,11 @@
 ghost use Rattle.std.specs.Prelude.{◌≡◌, ◌<◌, ◌↔◌, true, false, [], ◌∷◌, OnOk, OnErr, IsErr};
 ghost use Rattle.ballot.specs.Inside.{MessagesOrLost, PlainStepOrLost, ReadingStepOrLost};
 ghost use Rattle.ballot_base.specs.Losses.{AppendedStepOrLost, SendsAndAddsNothing, one_more};
-ghost use Rattle.ballot_base.specs.Sending.{message_to};
+ghost use Rattle.ballot_base.specs.StepOutcome.{message_to};
 ghost use Rattle.ballot_base.specs.Unread.{is_unread};
 ghost use Rattle.ballot_base.specs.Protocol.{received, replica_step};
 ghost use Rattle.ballot_base.specs.Protocol.Input.{Receives};
-ghost use Rattle.ballot_base.specs.Serving.{follows, leads, on_append, on_commit, on_held};
+ghost use Rattle.ballot_base.specs.Service.{follows, leads, on_append, on_commit, on_held};
 
 use super::Replica;
 use ballot_base::{
@@ -199,14 +199,14 @@ impl<M: Machine> Replica<M> {
         }
     }
 
-    /// Says whether this is a backup that holds the log of a ballot.
+    /// Returns true if this is a backup that holds the log of a ballot.
     pub(super) fn follows(&self, ballot: u64) -> bool
         ensures { result ≡ follows self.now.state ballot }
     {
         (self.joined == ballot && self.held_in == ballot) && self.role.is_backup()
     }
 
-    /// Says whether this is the active primary of a ballot.
+    /// Returns true if this is the active primary of a ballot.
     pub(super) fn leads(&self, ballot: u64) -> bool
         ensures { result ≡ leads self.now.state ballot }
     {

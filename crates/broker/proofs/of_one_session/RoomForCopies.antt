@@ -7,7 +7,7 @@ use Rattle.session_base.specs.declared.publication.Publication.{Publication}
 use Rattle.session_base.specs.Publication.{is_answered}
 use Rattle.session_base.specs.Queue.{Queue, room}
 use Rattle.session_base.specs.Copies.{copies_left}
-use Rattle.session_base.specs.Sending.{copies_sent}
+use Rattle.session_base.specs.EntryPackets.{copies_sent}
 use Rattle.broker_spec.specs.Entries.{queued}
 use Rattle.broker_base.proofs.of_rows.publications.CopiesInParts.{copies_join, copies_take_room}
 

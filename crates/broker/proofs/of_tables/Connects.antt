@@ -17,7 +17,7 @@ use Rattle.broker_base.specs.State.{State, session_in, owner_in}
 use Rattle.broker_base.specs.StepAnswers.{connection_of}
 use Rattle.broker_base.specs.rows.Served.{ServesClient}
 use Rattle.broker_base.specs.rows.Published.{session_changed}
-use Rattle.broker_base.specs.rows.ConnectLaws.{may_have_session, begins_in}
+use Rattle.broker_base.specs.rows.ConnectTheorems.{may_have_session, begins_in}
 use Rattle.broker_base.specs.rows.Owners.{owners_in, with_owner, without_owner}
 use Rattle.broker_base.proofs.of_rows.ConnectSteps.{beginning_step, resuming_step, full_step}
 use Rattle.broker_base.proofs.of_rows.LeavingSteps.{further_connect_step}
@@ -25,10 +25,10 @@ use Rattle.broker_base.proofs.of_rows.maps.OwnersConnect.{connecting_sets_the_ow
 use Rattle.broker_base.proofs.of_rows.maps.ContentOfSteps.{beginning_drops, writing_keeps_content}
 use Rattle.broker_base.specs.rows.Touched.{written}
 use Rattle.broker.specs.declared.tables.tables.Tables.{Tables}
-use Rattle.broker.specs.declared.tables.connecting.ConnectOutcome.TheVariants as outcomes
+use Rattle.broker.specs.declared.tables.connect.ConnectOutcome.TheVariants as outcomes
 use Rattle.broker.specs.tables.Tables.{owners_at, state_in, stepped, IsTied, IsConsistent}
 use Rattle.broker.specs.one_session.OneSession.{sent_to_resumed}
-use Rattle.broker.specs.tables.Connecting.{TakesOver, connect_outcome}
+use Rattle.broker.specs.tables.Connect.{TakesOver, connect_outcome}
 use Rattle.broker.proofs.of_tables.FoundByMaps.{is_nobodys}
 use Rattle.broker.proofs.of_tables.Losses.{loss_step}
 use Rattle.broker.proofs.of_tables.TiesOfRows.{tied_to}

@@ -17,7 +17,7 @@ use Rattle.broker_spec.specs.declared.command.Output.TheVariants as outputs
 use Rattle.broker_base.specs.ClientSession.{ClientSession}
 use Rattle.broker_base.specs.State.{session_in}
 use Rattle.broker_base.specs.rows.Served.{ServesClient, with_session, with_content}
-use Rattle.broker_base.specs.rows.CopyLaws.{granted_in_turn, subscribed_in_turn, sent_in_turn}
+use Rattle.broker_base.specs.rows.CopyTheorems.{granted_in_turn, subscribed_in_turn, sent_in_turn}
 use Rattle.broker_base.specs.rows.Indexed.{all_set}
 use Rattle.broker_base.proofs.of_rows.PacketSteps.{subscribe_step}
 use Rattle.broker_base.proofs.of_rows.publications.SubscribesInTurn.{subscribes}

@@ -13,7 +13,7 @@ use Rattle.broker_base.specs.ClientSession.{ClientSession}
 use Rattle.broker_base.specs.Decisions.{owned_mark}
 use Rattle.broker_base.specs.StepAnswers.{handled_in, while_connected}
 use Rattle.broker_base.specs.rows.Served.{ServesClient, with_session, with_content}
-use Rattle.broker_base.specs.rows.PacketLaws.{handled_state}
+use Rattle.broker_base.specs.rows.PacketTheorems.{handled_state}
 use Rattle.broker_base.proofs.of_rows.PacketSteps.{handled_step}
 use Rattle.broker_base.proofs.of_rows.ServedStep.{served_on}
 use Rattle.broker.specs.declared.tables.tables.Tables.{Tables}

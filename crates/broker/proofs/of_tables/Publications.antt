@@ -21,7 +21,7 @@ use Rattle.broker_base.specs.State.{Sessions, session_in}
 use Rattle.broker_base.specs.Decisions.{repeats_taken, is_one_topic_over}
 use Rattle.broker_base.specs.rows.Served.{ServesClient}
 use Rattle.broker_base.specs.rows.Published.{granted_rows, session_changed, received_on, all_delivered, answered_in_turn, session_lacks_room}
-use Rattle.broker_base.specs.rows.PublishLaws.{is_refused_by_rows, HaveRoomInTurn}
+use Rattle.broker_base.specs.rows.PublishTheorems.{is_refused_by_rows, HaveRoomInTurn}
 use Rattle.broker_base.proofs.of_rows.PacketSteps.{repeat_step}
 use Rattle.broker_base.proofs.of_rows.publications.RoomInTurn.{room_lasts}
 use Rattle.broker_base.proofs.of_rows.PublishSteps.{refused_step, taken_step}

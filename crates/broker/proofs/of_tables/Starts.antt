@@ -10,7 +10,7 @@ use Rattle.broker_spec.specs.declared.command.Command.TheVariants as commands
 use Rattle.broker_base.specs.ClientSession.{ClientSession}
 use Rattle.broker_base.specs.State.{Sessions, keyed}
 use Rattle.broker_base.specs.rows.Served.{left_off}
-use Rattle.broker_base.specs.rows.ConnectLaws.{all_left_off}
+use Rattle.broker_base.specs.rows.ConnectTheorems.{all_left_off}
 use Rattle.broker_base.specs.rows.Indexed.{all_dropped, clean_clients}
 use Rattle.broker_base.proofs.of_rows.StartSteps.{start_step}
 use Rattle.broker_base.proofs.of_rows.maps.OwnersLeave.{start_removes_the_owners}

@@ -15,7 +15,7 @@ use Rattle.broker_base.specs.ClientSession.{ClientSession}
 use Rattle.broker_base.specs.State.{session_in}
 use Rattle.broker_base.specs.rows.Served.{ServesClient, with_session, with_content}
 use Rattle.broker_base.specs.rows.Indexed.{all_cleared}
-use Rattle.broker_base.specs.rows.PacketLaws.{handled_state}
+use Rattle.broker_base.specs.rows.PacketTheorems.{handled_state}
 use Rattle.broker_base.proofs.of_rows.PacketSteps.{handled_step}
 use Rattle.broker_base.proofs.of_rows.maps.OwnersStay.{owners_written}
 use Rattle.broker_base.proofs.of_rows.maps.ContentOfSteps.{unsubscribing_clears}

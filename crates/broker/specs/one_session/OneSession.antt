@@ -8,7 +8,7 @@ use Rattle.session_base.specs.declared.publication.Publication.{Publication}
 use Rattle.packet_base.specs.QoS.{lower_qos}
 use Rattle.session_base.specs.Session.{SessionState}
 use Rattle.session_base.specs.Queue.{on_puback, on_pubrec, on_pubcomp}
-use Rattle.session_base.specs.Sending.{fill_sends, pubrec_sends, resend}
+use Rattle.session_base.specs.EntryPackets.{fill_sends, pubrec_sends, resend}
 use Rattle.broker_base.specs.ClientSession.{ClientSession}
 
 -- whether a packet is a step of a handshake

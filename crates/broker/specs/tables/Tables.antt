@@ -12,7 +12,7 @@ use Rattle.broker_spec.specs.Window.{wide_window}
 use Rattle.broker_spec.specs.declared.command.Command.{Command}
 use Rattle.broker_spec.specs.declared.command.Output.{Output}
 use Rattle.broker_base.specs.State.{State}
-use Rattle.broker_base.specs.StateLaws.{IsSound}
+use Rattle.broker_base.specs.StateTheorems.{IsSound}
 use Rattle.broker_base.specs.Step.{step}
 use Rattle.broker_base.specs.rows.Owners.{Owners, owners_in}
 use Rattle.broker_base.specs.rows.Indexed.{content_in}

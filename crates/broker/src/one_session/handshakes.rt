@@ -1,7 +1,7 @@
 // The steps of handshakes in one session: PUBACK, PUBREC, PUBREL and PUBCOMP (MQTT 3.4 to 3.7).
 
 ghost use Rattle.std.specs.Prelude.{◌≡◌, ◌++◌, OnOk, true};
-ghost use Rattle.broker_base.specs.rows.PacketLaws.{handled_state};
+ghost use Rattle.broker_base.specs.rows.PacketTheorems.{handled_state};
 ghost use Rattle.broker.specs.one_session.OneSession.{is_handshake, handshake_sends};
 
 use broker_spec::Window;
@@ -9,7 +9,7 @@ use machine::Halted;
 use packet::Packet;
 use session::Session;
 
-/// Says whether a packet is a step of a handshake.
+/// Returns true if a packet is a step of a handshake.
 pub fn is_handshake(packet: &Packet) -> bool
     ensures { result ≡ is_handshake packet.now }
 {

@@ -3,11 +3,11 @@
 ghost use Rattle.std.specs.Prelude.{◌≡◌, ◌≤◌, ◌++◌, length, OnOk, IfOk};
 ghost use Rattle.session_base.specs.Queue.{room};
 ghost use Rattle.session_base.specs.Copies.{copies_left};
-ghost use Rattle.session_base.specs.Sending.{copies_sent};
+ghost use Rattle.session_base.specs.EntryPackets.{copies_sent};
 ghost use Rattle.session_base.specs.Session.{with_queue};
 ghost use Rattle.broker_spec.specs.Entries.{copies_for, queued, retained_copy};
 
-use crate::one_session::delivering::put_copy;
+use crate::one_session::delivery::put_copy;
 use broker_spec::Window;
 use machine::Halted;
 use packet::{Packet, Subscription};

@@ -4,7 +4,7 @@ use Rattle.std.proofs.Common.{◌≡◌, ℕ, ◌≤◌, Bool, true, false, not,
 use Rattle.packet.specs.declared.packet.Packet.TheVariants as packets
 use Rattle.retained.specs.Retained.{RetainedTopics}
 use Rattle.session_base.specs.declared.publication.Publication.{Publication}
-use Rattle.session_base.specs.Laws.{IsFilledQueue}
+use Rattle.session_base.specs.Theorems.{IsFilledQueue}
 use Rattle.session_base.specs.Subscriptions.{GrantedSubscription}
 use Rattle.session_base.specs.Queue.{Flight, on_puback, on_pubrec, on_pubcomp, fill}
 use Rattle.session_base.proofs.CopiesOneByOne.{fill_quiet, copies_are_one_fill}

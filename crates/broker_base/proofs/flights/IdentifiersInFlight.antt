@@ -59,18 +59,18 @@ count_in_flight n test [] h = omega (arith, none n)
     none : (k : ℕ) → count test (released_below k []) ≡ 0
     none zero = refl
     none (suc k) = ap (count test) (append_none (released_below k [])) ∙ none k
-count_in_flight n test (Entry.Waits made p ∷ es) h =
-    ap (λ ids. count test ids + count test (ids_of (sent_flights es))) (same_first n (Entry.Waits made p) es (λ t. refl)) ∙ count_in_flight n test es h.1
-count_in_flight n test (Entry.Started made p id start ∷ es) h =
-    omega (arith, ap (count test) (same_first n (Entry.Started made p id start) es (λ t. refl)), count_in_flight n test es h.2)
+count_in_flight n test (Entry.Queued made p ∷ es) h =
+    ap (λ ids. count test ids + count test (ids_of (sent_flights es))) (same_first n (Entry.Queued made p) es (λ t. refl)) ∙ count_in_flight n test es h.1
+count_in_flight n test (Entry.Sent made p id start ∷ es) h =
+    omega (arith, ap (count test) (same_first n (Entry.Sent made p id start) es (λ t. refl)), count_in_flight n test es h.2)
 count_in_flight n test (Entry.Released made p id start release ∷ es) h =
     omega (arith, released_first n test made p id start release es, count_in_flight n test es h.3, one (nat_lt release n) (all_now release n h.2))
   where
     one : (b : Bool) → one_if b ≡ 1 → one_if (b && test id) ≡ one_if (test id)
     one true e = refl
     one false e = absurd (omega (arith, e))
-count_in_flight n test (Entry.Finished made p id start release finish ∷ es) h =
-    ap (λ ids. count test ids + count test (ids_of (sent_flights es))) (same_first n (Entry.Finished made p id start release finish) es (λ t. refl)) ∙ count_in_flight n test es h.1
+count_in_flight n test (Entry.Done made p id start release finish ∷ es) h =
+    ap (λ ids. count test ids + count test (ids_of (sent_flights es))) (same_first n (Entry.Done made p id start release finish) es (λ t. refl)) ∙ count_in_flight n test es h.1
 
 ids_released : (ids : List ℕ) → ids_of (map released_flight ids) ≡ ids
 ids_released [] = refl

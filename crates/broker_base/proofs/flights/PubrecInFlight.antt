@@ -34,10 +34,10 @@ released_all (id ∷ ids) = ap (λ xs. released_flight id ∷ xs) (released_all 
 
 pub released_of_sent : (es : List Entry) → filter is_released (sent_flights es) ≡ []
 released_of_sent [] = refl
-released_of_sent (Entry.Waits made p ∷ es) = released_of_sent es
-released_of_sent (Entry.Started made p id start ∷ es) = rw (not_released p) (released_of_sent es)
+released_of_sent (Entry.Queued made p ∷ es) = released_of_sent es
+released_of_sent (Entry.Sent made p id start ∷ es) = rw (not_released p) (released_of_sent es)
 released_of_sent (Entry.Released made p id start release ∷ es) = released_of_sent es
-released_of_sent (Entry.Finished made p id start release finish ∷ es) = released_of_sent es
+released_of_sent (Entry.Done made p id start release finish ∷ es) = released_of_sent es
 
 others_of_released : (i : ℕ) (ids : List ℕ) → filter (λ flight. not (is_released flight) && not (awaits_pubrec i flight)) (map released_flight ids) ≡ []
 others_of_released i [] = refl
@@ -46,10 +46,10 @@ others_of_released i (id ∷ ids) = others_of_released i ids
 others_of_sent : (i : ℕ) (es : List Entry) →
     filter (λ flight. not (is_released flight) && not (awaits_pubrec i flight)) (sent_flights es) ≡ filter (λ flight. not (awaits_pubrec i flight)) (sent_flights es)
 others_of_sent i [] = refl
-others_of_sent i (Entry.Waits made p ∷ es) = others_of_sent i es
-others_of_sent i (Entry.Started made p id start ∷ es) = rw (not_released p, others_of_sent i es) refl
+others_of_sent i (Entry.Queued made p ∷ es) = others_of_sent i es
+others_of_sent i (Entry.Sent made p id start ∷ es) = rw (not_released p, others_of_sent i es) refl
 others_of_sent i (Entry.Released made p id start release ∷ es) = others_of_sent i es
-others_of_sent i (Entry.Finished made p id start release finish ∷ es) = others_of_sent i es
+others_of_sent i (Entry.Done made p id start release finish ∷ es) = others_of_sent i es
 
 none_of_released : (i : ℕ) (ids : List ℕ) → list_any (awaits_pubrec i) (map released_flight ids) ≡ false
 none_of_released i [] = refl
@@ -75,10 +75,10 @@ released_with_is t i es =
 
 count_sent : (test : ℕ → Bool) (es : List Entry) → count test (ids_of (sent_flights es)) ≤ count test (busy_ids es)
 count_sent test [] = omega arith
-count_sent test (Entry.Waits made p ∷ es) = count_sent test es
-count_sent test (Entry.Started made p id start ∷ es) = omega (arith, count_sent test es)
+count_sent test (Entry.Queued made p ∷ es) = count_sent test es
+count_sent test (Entry.Sent made p id start ∷ es) = omega (arith, count_sent test es)
 count_sent test (Entry.Released made p id start release ∷ es) = omega (arith, count_sent test es)
-count_sent test (Entry.Finished made p id start release finish ∷ es) = count_sent test es
+count_sent test (Entry.Done made p id start release finish ∷ es) = count_sent test es
 
 pub flights_pubrec : (n i : ℕ) (es : List Entry) → Sound n es → flights_below (suc n) (map (at_pubrec n i) es) ≡ on_pubrec i (flights_below n es)
 flights_pubrec n i es s =

@@ -6,7 +6,7 @@ use Rattle.packet.specs.declared.packet.Packet.{Packet}
 use Rattle.packet.specs.declared.packet.Packet.TheVariants as packets
 use Rattle.lists.specs.Lists.{has_id}
 use Rattle.session_base.specs.Queue.{awaits_pubcomp, on_pubrec}
-use Rattle.session_base.specs.Sending.{pubrec_sends}
+use Rattle.session_base.specs.EntryPackets.{pubrec_sends}
 use Rattle.broker_spec.specs.Connection.{ConnectionName}
 use Rattle.broker_spec.specs.Place.{Client, Place, Past, Limits}
 use Rattle.broker_spec.specs.Sessions.{accepts, ends_any, current_connection, clean_session_of}
@@ -37,10 +37,10 @@ has_released i (id ∷ ids) = ap₂ (λ a b. a || b) (yes (i == id)) (has_releas
 
 sent_has_none : (i : ℕ) (es : List Entry) → list_any (λ flight. awaits_pubcomp i flight) (sent_flights es) ≡ false
 sent_has_none i [] = refl
-sent_has_none i (Entry.Waits made p ∷ es) = sent_has_none i es
-sent_has_none i (Entry.Started made p id start ∷ es) = rw (awaits_no_pubcomp i id p) (sent_has_none i es)
+sent_has_none i (Entry.Queued made p ∷ es) = sent_has_none i es
+sent_has_none i (Entry.Sent made p id start ∷ es) = rw (awaits_no_pubcomp i id p) (sent_has_none i es)
 sent_has_none i (Entry.Released made p id start release ∷ es) = sent_has_none i es
-sent_has_none i (Entry.Finished made p id start release finish ∷ es) = sent_has_none i es
+sent_has_none i (Entry.Done made p id start release finish ∷ es) = sent_has_none i es
 
 or_none : (b : Bool) → (b || false) ≡ b
 or_none true = refl
@@ -77,7 +77,7 @@ pubrec_by_kept limits place past c x i (Some clean) is_session not_opened not_en
     ap (λ b. if b then Send x (packets.Pubrel i) ∷ [] else [])
     (ap (λ es. has_id i (released_below (suc (length past)) es))
     (entries_next limits place past c clean not_opened not_ended is_session
-    ∙ ap₂ (λ es ps. started (window_at limits (place ∷ past)) (length past) (current_connection past c) (es ++ map (Entry.Waits (length past)) (queued ps))) answer no_copies
+    ∙ ap₂ (λ es ps. started (window_at limits (place ∷ past)) (length past) (current_connection past c) (es ++ map (Entry.Queued (length past)) (queued ps))) answer no_copies
     ∙ ap (started (window_at limits (place ∷ past)) (length past) (current_connection past c)) (append_none (map (at_pubrec (length past) i) (entries_of limits past c))))
     ∙ ap (has_id i) (released_anyway (suc (length past)) (window_at limits (place ∷ past)) (length past) (current_connection past c) (map (at_pubrec (length past) i) (entries_of limits past c)))
     ∙ sym (has_in_flight i (suc (length past)) (map (at_pubrec (length past) i) (entries_of limits past c)))

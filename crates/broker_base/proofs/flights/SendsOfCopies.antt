@@ -8,7 +8,7 @@ use Rattle.session_base.specs.declared.publication.Publication.{Publication}
 use Rattle.session_base.specs.Publication.{publish_for, is_answered}
 use Rattle.session_base.specs.Identifiers.{least_free}
 use Rattle.session_base.specs.Queue.{Flight, ids_of, started_flight, fill}
-use Rattle.session_base.specs.Sending.{fill_sends, copies_sent}
+use Rattle.session_base.specs.EntryPackets.{fill_sends, copies_sent}
 use Rattle.broker_spec.specs.Connection.{ConnectionName}
 use Rattle.broker_spec.specs.Entries.{Entry, queued}
 use Rattle.broker_spec.specs.Times.{start_all}
@@ -33,10 +33,10 @@ sends_full w fs (p ∷ ps) h = ap (λ b. if b then packets.Publish (publish_for 
     full : (k w : ℕ) → w ≤ k → nat_lt k w ≡ false
     full k w h = grind arith
 
-pub starts_full : (w n : ℕ) (ids : List ℕ) (ps : List Publication) → w ≤ length ids → start_all w n ids (map (Entry.Waits n) ps) ≡ map (Entry.Waits n) ps
+pub starts_full : (w n : ℕ) (ids : List ℕ) (ps : List Publication) → w ≤ length ids → start_all w n ids (map (Entry.Queued n) ps) ≡ map (Entry.Queued n) ps
 starts_full w n ids [] h = refl
 starts_full w n ids (p ∷ ps) h =
-    ap (λ b. if b then Entry.Started n p (least_free ids) n ∷ start_all w n (least_free ids ∷ ids) (map (Entry.Waits n) ps) else Entry.Waits n p ∷ map (Entry.Waits n) ps) (full (length ids) w h)
+    ap (λ b. if b then Entry.Sent n p (least_free ids) n ∷ start_all w n (least_free ids ∷ ids) (map (Entry.Queued n) ps) else Entry.Queued n p ∷ map (Entry.Queued n) ps) (full (length ids) w h)
   where
     full : (k w : ℕ) → w ≤ k → nat_lt k w ≡ false
     full k w h = grind arith
@@ -83,9 +83,9 @@ same_size fs ids same = sym (length-map fs (λ (flight : Flight). flight.0)) ∙
 -- by whether the window is open
 handed_open : (x : ConnectionName) (w n : ℕ) (ids : List ℕ) (fs : List Flight) (ms : List Publication) (p : Publication) (copies : List Publication) →
     SameIds (ids_of fs) ids → Quiet w fs ms → nat_lt (length ids) w ≡ true →
-    copy_outputs x n copies (start_all w n (least_free ids ∷ ids) (map (Entry.Waits n) (queued copies)))
+    copy_outputs x n copies (start_all w n (least_free ids ∷ ids) (map (Entry.Queued n) (queued copies)))
     ≡ map (Send x) (copies_sent w copies (record { in_flight = fs ++ started_flight fs p ∷ []; waiting = [] })) →
-    all_started x n (Entry.Started n p (least_free ids) n ∷ []) ++ copy_outputs x n copies (start_all w n (least_free ids ∷ ids) (map (Entry.Waits n) (queued copies)))
+    all_started x n (Entry.Sent n p (least_free ids) n ∷ []) ++ copy_outputs x n copies (start_all w n (least_free ids ∷ ids) (map (Entry.Queued n) (queued copies)))
     ≡ map (Send x) (fill_sends w fs (ms ++ p ∷ []) ++ copies_sent w copies (fill w fs (ms ++ p ∷ [])))
 handed_open x w n ids fs ms p copies same (inl e) is_open rest =
     rw (this_place n)
@@ -100,9 +100,9 @@ handed_open x w n ids fs ms p copies same (inr e) is_open rest = absurd (omega (
 
 handed_shut : (x : ConnectionName) (w n : ℕ) (ids : List ℕ) (fs : List Flight) (ms : List Publication) (p : Publication) (copies : List Publication) →
     SameIds (ids_of fs) ids → nat_lt (length ids) w ≡ false →
-    copy_outputs x n copies (start_all w n ids (map (Entry.Waits n) (queued copies)))
+    copy_outputs x n copies (start_all w n ids (map (Entry.Queued n) (queued copies)))
     ≡ map (Send x) (copies_sent w copies (record { in_flight = fs; waiting = ms ++ p ∷ [] })) →
-    all_started x n (Entry.Waits n p ∷ []) ++ copy_outputs x n copies (map (Entry.Waits n) (queued copies))
+    all_started x n (Entry.Queued n p ∷ []) ++ copy_outputs x n copies (map (Entry.Queued n) (queued copies))
     ≡ map (Send x) (fill_sends w fs (ms ++ p ∷ []) ++ copies_sent w copies (fill w fs (ms ++ p ∷ [])))
 handed_shut x w n ids fs ms p copies same shut rest =
     ap (λ es. copy_outputs x n copies es) (sym (starts_full w n ids (queued copies) (beyond (length ids) w shut)))
@@ -113,7 +113,7 @@ handed_shut x w n ids fs ms p copies same shut rest =
     full = omega (arith, same_size fs ids same, beyond (length ids) w shut)
 
 pub handed_is : (x : ConnectionName) (w n : ℕ) (ids : List ℕ) (fs : List Flight) (ms copies : List Publication) → SameIds (ids_of fs) ids → Quiet w fs ms →
-    copy_outputs x n copies (start_all w n ids (map (Entry.Waits n) (queued copies))) ≡ map (Send x) (copies_sent w copies (record { in_flight = fs; waiting = ms }))
+    copy_outputs x n copies (start_all w n ids (map (Entry.Queued n) (queued copies))) ≡ map (Send x) (copies_sent w copies (record { in_flight = fs; waiting = ms }))
 handed_is x w n ids fs ms [] same quiet = refl
 handed_is x w n ids fs ms (p ∷ copies) same quiet =
     by (is_answered p.qos) refl
@@ -121,20 +121,20 @@ handed_is x w n ids fs ms (p ∷ copies) same quiet =
     (handed_is x w n (least_free ids ∷ ids) (fs ++ started_flight fs p ∷ []) [] copies (same_next fs ids p same) (inl refl))
   where
     one : (b : Bool) → nat_lt (length ids) w ≡ b →
-        ((qs : List Publication) → Quiet w fs qs → copy_outputs x n copies (start_all w n ids (map (Entry.Waits n) (queued copies))) ≡ map (Send x) (copies_sent w copies (record { in_flight = fs; waiting = qs }))) →
-        (copy_outputs x n copies (start_all w n (least_free ids ∷ ids) (map (Entry.Waits n) (queued copies))) ≡ map (Send x) (copies_sent w copies (record { in_flight = fs ++ started_flight fs p ∷ []; waiting = [] }))) →
-        all_started x n (take 1 (if b then Entry.Started n p (least_free ids) n ∷ start_all w n (least_free ids ∷ ids) (map (Entry.Waits n) (queued copies)) else Entry.Waits n p ∷ map (Entry.Waits n) (queued copies)))
-        ++ copy_outputs x n copies (drop 1 (if b then Entry.Started n p (least_free ids) n ∷ start_all w n (least_free ids ∷ ids) (map (Entry.Waits n) (queued copies)) else Entry.Waits n p ∷ map (Entry.Waits n) (queued copies)))
+        ((qs : List Publication) → Quiet w fs qs → copy_outputs x n copies (start_all w n ids (map (Entry.Queued n) (queued copies))) ≡ map (Send x) (copies_sent w copies (record { in_flight = fs; waiting = qs }))) →
+        (copy_outputs x n copies (start_all w n (least_free ids ∷ ids) (map (Entry.Queued n) (queued copies))) ≡ map (Send x) (copies_sent w copies (record { in_flight = fs ++ started_flight fs p ∷ []; waiting = [] }))) →
+        all_started x n (take 1 (if b then Entry.Sent n p (least_free ids) n ∷ start_all w n (least_free ids ∷ ids) (map (Entry.Queued n) (queued copies)) else Entry.Queued n p ∷ map (Entry.Queued n) (queued copies)))
+        ++ copy_outputs x n copies (drop 1 (if b then Entry.Sent n p (least_free ids) n ∷ start_all w n (least_free ids ∷ ids) (map (Entry.Queued n) (queued copies)) else Entry.Queued n p ∷ map (Entry.Queued n) (queued copies)))
         ≡ map (Send x) (fill_sends w fs (ms ++ p ∷ []) ++ copies_sent w copies (fill w fs (ms ++ p ∷ [])))
     one true is_open shut_rest open_rest = handed_open x w n ids fs ms p copies same quiet is_open open_rest
     one false shut shut_rest open_rest =
         handed_shut x w n ids fs ms p copies same shut (shut_rest (ms ++ p ∷ []) (inr (omega (arith, same_size fs ids same, beyond (length ids) w shut))))
 
     by : (b : Bool) → is_answered p.qos ≡ b →
-        ((qs : List Publication) → Quiet w fs qs → copy_outputs x n copies (start_all w n ids (map (Entry.Waits n) (queued copies))) ≡ map (Send x) (copies_sent w copies (record { in_flight = fs; waiting = qs }))) →
-        (copy_outputs x n copies (start_all w n (least_free ids ∷ ids) (map (Entry.Waits n) (queued copies))) ≡ map (Send x) (copies_sent w copies (record { in_flight = fs ++ started_flight fs p ∷ []; waiting = [] }))) →
-        (if b then all_started x n (take 1 (start_all w n ids (map (Entry.Waits n) (if b then p ∷ queued copies else queued copies)))) ++ copy_outputs x n copies (drop 1 (start_all w n ids (map (Entry.Waits n) (if b then p ∷ queued copies else queued copies))))
-        else publish_output x false 0 p ∷ copy_outputs x n copies (start_all w n ids (map (Entry.Waits n) (if b then p ∷ queued copies else queued copies))))
+        ((qs : List Publication) → Quiet w fs qs → copy_outputs x n copies (start_all w n ids (map (Entry.Queued n) (queued copies))) ≡ map (Send x) (copies_sent w copies (record { in_flight = fs; waiting = qs }))) →
+        (copy_outputs x n copies (start_all w n (least_free ids ∷ ids) (map (Entry.Queued n) (queued copies))) ≡ map (Send x) (copies_sent w copies (record { in_flight = fs ++ started_flight fs p ∷ []; waiting = [] }))) →
+        (if b then all_started x n (take 1 (start_all w n ids (map (Entry.Queued n) (if b then p ∷ queued copies else queued copies)))) ++ copy_outputs x n copies (drop 1 (start_all w n ids (map (Entry.Queued n) (if b then p ∷ queued copies else queued copies))))
+        else publish_output x false 0 p ∷ copy_outputs x n copies (start_all w n ids (map (Entry.Queued n) (if b then p ∷ queued copies else queued copies))))
         ≡ map (Send x) (if b then fill_sends w fs (ms ++ p ∷ []) ++ copies_sent w copies (fill w fs (ms ++ p ∷ [])) else packets.Publish (publish_for false 0 p) ∷ copies_sent w copies (record { in_flight = fs; waiting = ms }))
     by true e shut_rest open_rest = one (nat_lt (length ids) w) refl shut_rest open_rest
     by false e shut_rest open_rest = ap (λ answers. publish_output x false 0 p ∷ answers) (shut_rest ms quiet)

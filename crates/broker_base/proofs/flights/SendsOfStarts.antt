@@ -9,7 +9,7 @@ use Rattle.session_base.specs.declared.awaits.Awaits.TheVariants as waits_for
 use Rattle.session_base.specs.Publication.{is_qos1, publish_for}
 use Rattle.session_base.specs.Identifiers.{least_free}
 use Rattle.session_base.specs.Queue.{Flight, ids_of, started_flight}
-use Rattle.session_base.specs.Sending.{fill_sends, sent_anew, resend}
+use Rattle.session_base.specs.EntryPackets.{fill_sends, sent_anew, resend}
 use Rattle.broker_spec.specs.Connection.{ConnectionName}
 use Rattle.broker_spec.specs.Entries.{Entry}
 use Rattle.broker_spec.specs.Readings.{released_below, waiting_of, busy_ids}
@@ -34,51 +34,51 @@ this_place n = grind arith
 
 pub none_started : (x : ConnectionName) (n : ℕ) (es : List Entry) → AllWait es → all_started x n es ≡ []
 none_started x n [] h = refl
-none_started x n (Entry.Waits made p ∷ es) h = none_started x n es h
-none_started x n (Entry.Started made p id start ∷ es) h = absurd h
+none_started x n (Entry.Queued made p ∷ es) h = none_started x n es h
+none_started x n (Entry.Sent made p id start ∷ es) h = absurd h
 none_started x n (Entry.Released made p id start release ∷ es) h = absurd h
-none_started x n (Entry.Finished made p id start release finish ∷ es) h = absurd h
+none_started x n (Entry.Done made p id start release finish ∷ es) h = absurd h
 
 pub waits_started : (x : ConnectionName) (w n : ℕ) (ids : List ℕ) (fs : List Flight) (es : List Entry) → AllWait es → SameIds (ids_of fs) ids →
     all_started x n (start_all w n ids es) ≡ map (Send x) (fill_sends w fs (waiting_of es))
 waits_started x w n ids fs [] h same = refl
-waits_started x w n ids fs (Entry.Waits made p ∷ es) h same =
+waits_started x w n ids fs (Entry.Queued made p ∷ es) h same =
     by (nat_lt (length ids) w) (waits_started x w n (least_free ids ∷ ids) (fs ++ started_flight fs p ∷ []) es h (same_next fs ids p same))
     ∙ ap (λ k. map (Send x) (if nat_lt k w then packets.Publish (publish_for false (least_free (ids_of fs)) p) ∷ fill_sends w (fs ++ started_flight fs p ∷ []) (waiting_of es) else []))
     (sym (same_length (ids_of fs) ids same) ∙ length-map fs (λ (flight : Flight). flight.0))
   where
     by : (b : Bool) → all_started x n (start_all w n (least_free ids ∷ ids) es) ≡ map (Send x) (fill_sends w (fs ++ started_flight fs p ∷ []) (waiting_of es)) →
-        all_started x n (if b then Entry.Started made p (least_free ids) n ∷ start_all w n (least_free ids ∷ ids) es else Entry.Waits made p ∷ es)
+        all_started x n (if b then Entry.Sent made p (least_free ids) n ∷ start_all w n (least_free ids ∷ ids) es else Entry.Queued made p ∷ es)
         ≡ map (Send x) (if b then packets.Publish (publish_for false (least_free (ids_of fs)) p) ∷ fill_sends w (fs ++ started_flight fs p ∷ []) (waiting_of es) else [])
     by true e = rw (this_place n) (ap₂ (λ id answers. publish_output x false id p ∷ answers) (sym (same_least (ids_of fs) ids same)) e)
     by false e = none_started x n es h
-waits_started x w n ids fs (Entry.Started made p id start ∷ es) h same = absurd h
+waits_started x w n ids fs (Entry.Sent made p id start ∷ es) h same = absurd h
 waits_started x w n ids fs (Entry.Released made p id start release ∷ es) h same = absurd h
-waits_started x w n ids fs (Entry.Finished made p id start release finish ∷ es) h same = absurd h
+waits_started x w n ids fs (Entry.Done made p id start release finish ∷ es) h same = absurd h
 
 pub starts_sent : (x : ConnectionName) (w n : ℕ) (ids : List ℕ) (fs : List Flight) (es : List Entry) → InOrder es → StartedBefore n es → SameIds (ids_of fs) (busy_ids es ++ ids) →
     all_started x n (start_all w n ids es) ≡ map (Send x) (fill_sends w fs (waiting_of es))
 starts_sent x w n ids fs [] h before same = refl
-starts_sent x w n ids fs (Entry.Waits made p ∷ es) h before same =
-    waits_started x w n ids fs (Entry.Waits made p ∷ es) h (λ test. same test ∙ ap (λ xs. count test (xs ++ ids)) (busy_waits es h))
-starts_sent x w n ids fs (Entry.Started made p id start ∷ es) h before same =
+starts_sent x w n ids fs (Entry.Queued made p ∷ es) h before same =
+    waits_started x w n ids fs (Entry.Queued made p ∷ es) h (λ test. same test ∙ ap (λ xs. count test (xs ++ ids)) (busy_waits es h))
+starts_sent x w n ids fs (Entry.Sent made p id start ∷ es) h before same =
     rw (earlier start n before.0) (starts_sent x w n (id ∷ ids) fs es h before.1 (λ test. same test ∙ moved test id (busy_ids es) ids))
 starts_sent x w n ids fs (Entry.Released made p id start release ∷ es) h before same =
     starts_sent x w n (id ∷ ids) fs es h before (λ test. same test ∙ moved test id (busy_ids es) ids)
-starts_sent x w n ids fs (Entry.Finished made p id start release finish ∷ es) h before same = starts_sent x w n ids fs es h before same
+starts_sent x w n ids fs (Entry.Done made p id start release finish ∷ es) h before same = starts_sent x w n ids fs es h before same
 
 -- ---- what is sent again
 
 again_started : (x : ConnectionName) (w n : ℕ) (ids : List ℕ) (es : List Entry) → flat_map (repeated_output x n) (start_all w n ids es) ≡ flat_map (repeated_output x n) es
 again_started x w n ids [] = refl
-again_started x w n ids (Entry.Waits made p ∷ es) =
-    elim (nat_lt (length ids) w) as (λ (b : Bool). flat_map (repeated_output x n) (if b then Entry.Started made p (least_free ids) n ∷ start_all w n (least_free ids ∷ ids) es else Entry.Waits made p ∷ es) ≡ flat_map (repeated_output x n) es) [
+again_started x w n ids (Entry.Queued made p ∷ es) =
+    elim (nat_lt (length ids) w) as (λ (b : Bool). flat_map (repeated_output x n) (if b then Entry.Sent made p (least_free ids) n ∷ start_all w n (least_free ids ∷ ids) es else Entry.Queued made p ∷ es) ≡ flat_map (repeated_output x n) es) [
       | true ↦ rw (this_place n) (again_started x w n (least_free ids ∷ ids) es)
       | false ↦ refl
     ]
-again_started x w n ids (Entry.Started made p id start ∷ es) = ap (λ answers. repeated_output x n (Entry.Started made p id start) ++ answers) (again_started x w n (id ∷ ids) es)
+again_started x w n ids (Entry.Sent made p id start ∷ es) = ap (λ answers. repeated_output x n (Entry.Sent made p id start) ++ answers) (again_started x w n (id ∷ ids) es)
 again_started x w n ids (Entry.Released made p id start release ∷ es) = again_started x w n (id ∷ ids) es
-again_started x w n ids (Entry.Finished made p id start release finish ∷ es) = again_started x w n ids es
+again_started x w n ids (Entry.Done made p id start release finish ∷ es) = again_started x w n ids es
 
 anew_by : (b : Bool) (id : ℕ) (p : Publication) → sent_anew id (if b then waits_for.Puback p else waits_for.Pubrec p) ≡ packets.Publish (publish_for true id p)
 anew_by true id p = refl
@@ -86,11 +86,11 @@ anew_by false id p = refl
 
 again_sent : (x : ConnectionName) (n : ℕ) (es : List Entry) → StartedBefore n es → flat_map (repeated_output x n) es ≡ map (Send x) (resend (sent_flights es))
 again_sent x n [] h = refl
-again_sent x n (Entry.Waits made p ∷ es) h = again_sent x n es h
-again_sent x n (Entry.Started made p id start ∷ es) h =
+again_sent x n (Entry.Queued made p ∷ es) h = again_sent x n es h
+again_sent x n (Entry.Sent made p id start ∷ es) h =
     rw (earlier start n h.0) (ap₂ (λ packet answers. Send x packet ∷ answers) (sym (anew_by (is_qos1 p.qos) id p)) (again_sent x n es h.1))
 again_sent x n (Entry.Released made p id start release ∷ es) h = again_sent x n es h
-again_sent x n (Entry.Finished made p id start release finish ∷ es) h = again_sent x n es h
+again_sent x n (Entry.Done made p id start release finish ∷ es) h = again_sent x n es h
 
 pubrels : (x : ConnectionName) (ids : List ℕ) → map (λ id. Send x (packets.Pubrel id)) ids ≡ map (Send x) (resend (map released_flight ids))
 pubrels x [] = refl

@@ -20,36 +20,36 @@ use Rattle.broker_base.proofs.flights.IdentifiersInFlight.{append_none, same_ids
 -- what of the entries starts now, in flight
 abbrev pub newly : ℕ → ℕ → List ℕ → List Entry → List Flight
 newly w n ids [] = []
-newly w n ids (Entry.Waits made p ∷ es) = sent_flights (start_all w n ids (Entry.Waits made p ∷ es))
-newly w n ids (Entry.Started made p id start ∷ es) = newly w n (id ∷ ids) es
+newly w n ids (Entry.Queued made p ∷ es) = sent_flights (start_all w n ids (Entry.Queued made p ∷ es))
+newly w n ids (Entry.Sent made p id start ∷ es) = newly w n (id ∷ ids) es
 newly w n ids (Entry.Released made p id start release ∷ es) = newly w n (id ∷ ids) es
-newly w n ids (Entry.Finished made p id start release finish ∷ es) = newly w n ids es
+newly w n ids (Entry.Done made p id start release finish ∷ es) = newly w n ids es
 
 sent_of_waits : (es : List Entry) → AllWait es → sent_flights es ≡ []
 sent_of_waits [] h = refl
-sent_of_waits (Entry.Waits made p ∷ es) h = sent_of_waits es h
-sent_of_waits (Entry.Started made p id start ∷ es) h = absurd h
+sent_of_waits (Entry.Queued made p ∷ es) h = sent_of_waits es h
+sent_of_waits (Entry.Sent made p id start ∷ es) h = absurd h
 sent_of_waits (Entry.Released made p id start release ∷ es) h = absurd h
-sent_of_waits (Entry.Finished made p id start release finish ∷ es) h = absurd h
+sent_of_waits (Entry.Done made p id start release finish ∷ es) h = absurd h
 
 pub sent_started : (w n : ℕ) (ids : List ℕ) (es : List Entry) → InOrder es → sent_flights (start_all w n ids es) ≡ sent_flights es ++ newly w n ids es
 sent_started w n ids [] h = refl
-sent_started w n ids (Entry.Waits made p ∷ es) h =
-    ap (λ fs. fs ++ newly w n ids (Entry.Waits made p ∷ es)) (sym (sent_of_waits es h))
-sent_started w n ids (Entry.Started made p id start ∷ es) h = ap (λ fs. (id, awaited p) ∷ fs) (sent_started w n (id ∷ ids) es h)
+sent_started w n ids (Entry.Queued made p ∷ es) h =
+    ap (λ fs. fs ++ newly w n ids (Entry.Queued made p ∷ es)) (sym (sent_of_waits es h))
+sent_started w n ids (Entry.Sent made p id start ∷ es) h = ap (λ fs. (id, awaited p) ∷ fs) (sent_started w n (id ∷ ids) es h)
 sent_started w n ids (Entry.Released made p id start release ∷ es) h = sent_started w n (id ∷ ids) es h
-sent_started w n ids (Entry.Finished made p id start release finish ∷ es) h = sent_started w n ids es h
+sent_started w n ids (Entry.Done made p id start release finish ∷ es) h = sent_started w n ids es h
 
 released_at_started : (t w n : ℕ) (ids : List ℕ) (es : List Entry) → released_at t (start_all w n ids es) ≡ released_at t es
 released_at_started t w n ids [] = refl
-released_at_started t w n ids (Entry.Waits made p ∷ es) =
-    elim (nat_lt (length ids) w) as (λ (b : Bool). released_at t (if b then Entry.Started made p (least_free ids) n ∷ start_all w n (least_free ids ∷ ids) es else Entry.Waits made p ∷ es) ≡ released_at t es) [
+released_at_started t w n ids (Entry.Queued made p ∷ es) =
+    elim (nat_lt (length ids) w) as (λ (b : Bool). released_at t (if b then Entry.Sent made p (least_free ids) n ∷ start_all w n (least_free ids ∷ ids) es else Entry.Queued made p ∷ es) ≡ released_at t es) [
       | true ↦ released_at_started t w n (least_free ids ∷ ids) es
       | false ↦ refl
     ]
-released_at_started t w n ids (Entry.Started made p id start ∷ es) = released_at_started t w n (id ∷ ids) es
+released_at_started t w n ids (Entry.Sent made p id start ∷ es) = released_at_started t w n (id ∷ ids) es
 released_at_started t w n ids (Entry.Released made p id start release ∷ es) = ap (λ xs. if release == t then id ∷ xs else xs) (released_at_started t w n (id ∷ ids) es)
-released_at_started t w n ids (Entry.Finished made p id start release finish ∷ es) = released_at_started t w n ids es
+released_at_started t w n ids (Entry.Done made p id start release finish ∷ es) = released_at_started t w n ids es
 
 pub released_started : (t w n : ℕ) (ids : List ℕ) (es : List Entry) → released_below t (start_all w n ids es) ≡ released_below t es
 released_started zero w n ids es = refl
@@ -67,7 +67,7 @@ same_next fs ids p same test =
 pub fill_waits : (w n : ℕ) (ids : List ℕ) (fs : List Flight) (es : List Entry) → AllWait es → SameIds (ids_of fs) ids →
     fill w fs (waiting_of es) ≡ record { in_flight = fs ++ sent_flights (start_all w n ids es); waiting = waiting_of (start_all w n ids es) }
 fill_waits w n ids fs [] h same = ap (λ xs. record { in_flight = xs; waiting = [] }) (sym (append_none fs))
-fill_waits w n ids fs (Entry.Waits made p ∷ es) h same =
+fill_waits w n ids fs (Entry.Queued made p ∷ es) h same =
     ap (λ k. if nat_lt k w then fill w (fs ++ started_flight fs p ∷ []) (waiting_of es) else record { in_flight = fs; waiting = p ∷ waiting_of es })
     (sym (length-map fs (λ (flight : Flight). flight.0)) ∙ same_length (ids_of fs) ids same)
     ∙ by (nat_lt (length ids) w) (fill_waits w n (least_free ids ∷ ids) (fs ++ started_flight fs p ∷ []) es h (same_next fs ids p same))
@@ -76,16 +76,16 @@ fill_waits w n ids fs (Entry.Waits made p ∷ es) h same =
         fill w (fs ++ started_flight fs p ∷ []) (waiting_of es) ≡ record { in_flight = (fs ++ started_flight fs p ∷ []) ++ sent_flights (start_all w n (least_free ids ∷ ids) es); waiting = waiting_of (start_all w n (least_free ids ∷ ids) es) } →
         (if b then fill w (fs ++ started_flight fs p ∷ []) (waiting_of es) else record { in_flight = fs; waiting = p ∷ waiting_of es })
         ≡ record {
-          in_flight = fs ++ sent_flights (if b then Entry.Started made p (least_free ids) n ∷ start_all w n (least_free ids ∷ ids) es else Entry.Waits made p ∷ es);
-          waiting = waiting_of (if b then Entry.Started made p (least_free ids) n ∷ start_all w n (least_free ids ∷ ids) es else Entry.Waits made p ∷ es);
+          in_flight = fs ++ sent_flights (if b then Entry.Sent made p (least_free ids) n ∷ start_all w n (least_free ids ∷ ids) es else Entry.Queued made p ∷ es);
+          waiting = waiting_of (if b then Entry.Sent made p (least_free ids) n ∷ start_all w n (least_free ids ∷ ids) es else Entry.Queued made p ∷ es);
         }
     by true e = e ∙ ap (λ xs. record { in_flight = xs; waiting = waiting_of (start_all w n (least_free ids ∷ ids) es) })
         (append_assoc fs (started_flight fs p ∷ []) (sent_flights (start_all w n (least_free ids ∷ ids) es))
         ∙ ap (λ id. fs ++ (id, awaited p) ∷ sent_flights (start_all w n (least_free ids ∷ ids) es)) (same_least (ids_of fs) ids same))
     by false e = ap (λ xs. record { in_flight = xs; waiting = p ∷ waiting_of es }) (sym (append_none fs) ∙ ap (λ xs. fs ++ xs) (sym (sent_of_waits es h)))
-fill_waits w n ids fs (Entry.Started made p id start ∷ es) h same = absurd h
+fill_waits w n ids fs (Entry.Sent made p id start ∷ es) h same = absurd h
 fill_waits w n ids fs (Entry.Released made p id start release ∷ es) h same = absurd h
-fill_waits w n ids fs (Entry.Finished made p id start release finish ∷ es) h same = absurd h
+fill_waits w n ids fs (Entry.Done made p id start release finish ∷ es) h same = absurd h
 
 pub moved : (test : ℕ → Bool) (id : ℕ) (others ids : List ℕ) → count test (id ∷ others ++ ids) ≡ count test (others ++ id ∷ ids)
 moved test id others ids = omega (arith, count-append test others ids, count-append test others (id ∷ ids))
@@ -93,13 +93,13 @@ moved test id others ids = omega (arith, count-append test others ids, count-app
 pub fill_started : (w n : ℕ) (ids : List ℕ) (fs : List Flight) (es : List Entry) → InOrder es → SameIds (ids_of fs) (busy_ids es ++ ids) →
     fill w fs (waiting_of es) ≡ record { in_flight = fs ++ newly w n ids es; waiting = waiting_of (start_all w n ids es) }
 fill_started w n ids fs [] h same = ap (λ xs. record { in_flight = xs; waiting = [] }) (sym (append_none fs))
-fill_started w n ids fs (Entry.Waits made p ∷ es) h same =
-    fill_waits w n ids fs (Entry.Waits made p ∷ es) h (λ test. same test ∙ ap (λ xs. count test (xs ++ ids)) (busy_waits es h))
-fill_started w n ids fs (Entry.Started made p id start ∷ es) h same =
+fill_started w n ids fs (Entry.Queued made p ∷ es) h same =
+    fill_waits w n ids fs (Entry.Queued made p ∷ es) h (λ test. same test ∙ ap (λ xs. count test (xs ++ ids)) (busy_waits es h))
+fill_started w n ids fs (Entry.Sent made p id start ∷ es) h same =
     fill_started w n (id ∷ ids) fs es h (λ test. same test ∙ moved test id (busy_ids es) ids)
 fill_started w n ids fs (Entry.Released made p id start release ∷ es) h same =
     fill_started w n (id ∷ ids) fs es h (λ test. same test ∙ moved test id (busy_ids es) ids)
-fill_started w n ids fs (Entry.Finished made p id start release finish ∷ es) h same = fill_started w n ids fs es h same
+fill_started w n ids fs (Entry.Done made p id start release finish ∷ es) h same = fill_started w n ids fs es h same
 
 pub queue_started : (w n : ℕ) (connection : Option ConnectionName) (es : List Entry) → IsBelow (suc n) es → InOrder es →
     queue_of (suc n) (started w n connection es) ≡ filled_on connection w (flights_below (suc n) es) (waiting_of es)

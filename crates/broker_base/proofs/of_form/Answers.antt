@@ -36,7 +36,7 @@ use Rattle.broker_base.specs.SessionStep.{copies_with}
 use Rattle.broker_base.specs.State.{Sessions, session_in}
 use Rattle.broker_base.specs.StepAnswers.{sent_on, copies_answered, copies_to, while_connected, handled_of, handled_in}
 use Rattle.broker_base.specs.form.InRange.{IsRetained, IsSession}
-use Rattle.broker_base.specs.form.RangeLaws.{CanBeSpelled}
+use Rattle.broker_base.specs.form.RangeTheorems.{CanBeSpelled}
 use Rattle.broker_base.proofs.of_form.Queues.{all_append, puback_in_range, pubcomp_in_range}
 use Rattle.broker_base.proofs.of_form.Filters.{copies_can_be_sent}
 use Rattle.broker_base.proofs.of_form.Sessions.{HasRoom, IfSession}

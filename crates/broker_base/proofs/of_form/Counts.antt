@@ -18,7 +18,7 @@ use Rattle.broker_spec.specs.declared.command.Command.TheVariants as commands
 use Rattle.broker_base.specs.ClientSession.{ClientSession}
 use Rattle.broker_base.specs.SessionStep.{session_connected, session_by}
 use Rattle.broker_base.specs.State.{Sessions, State, keyed, session_in, owner_in, put_session}
-use Rattle.broker_base.specs.StateLaws.{AreByClient}
+use Rattle.broker_base.specs.StateTheorems.{AreByClient}
 use Rattle.broker_base.specs.Decisions.{is_one_topic_over, row_lacks_room, is_refused_in, repeats_taken, packet_mark_in, connect_mark_in, place_in}
 use Rattle.broker_base.specs.Step.{session_after, sessions_left, sessions_with, window_after, step}
 use Rattle.broker_base.proofs.SessionsStayByClient.{left_by_client}

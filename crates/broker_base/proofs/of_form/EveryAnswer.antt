@@ -7,7 +7,7 @@ use Rattle.packet.specs.declared.packet.Packet.{Packet}
 use Rattle.packet.specs.declared.packet.Packet.TheVariants as packets
 use Rattle.session_base.specs.Publication.{publication_of}
 use Rattle.session_base.specs.Queue.{room}
-use Rattle.session_base.specs.Sending.{fill_sends, resend}
+use Rattle.session_base.specs.EntryPackets.{fill_sends, resend}
 use Rattle.broker_spec.specs.Connection.{ConnectionName}
 use Rattle.broker_spec.specs.Place.{Client, Mark, Place, Limits}
 use Rattle.broker_spec.specs.Answers.{close_outputs, acknowledged}
@@ -21,7 +21,7 @@ use Rattle.broker_base.specs.Decisions.{is_refused_in, repeats_taken, owned_mark
 use Rattle.broker_base.specs.StepAnswers.{packet_answers_in, connection_of, resumed, connect_answers_in}
 use Rattle.broker_base.specs.Step.{step, state_from, steps_from}
 use Rattle.broker_base.specs.form.InRange.{IsBrokerState}
-use Rattle.broker_base.specs.form.RangeLaws.{CanBeSpelled, AnswersAreSpelled, ListsAreInRange}
+use Rattle.broker_base.specs.form.RangeTheorems.{CanBeSpelled, AnswersAreSpelled, ListsAreInRange}
 use Rattle.broker_base.proofs.of_form.Queues.{all_append}
 use Rattle.broker_base.proofs.of_form.Sessions.{IfSession}
 use Rattle.broker_base.proofs.of_form.Rooms.{AllHaveRoom, rooms}

@@ -5,7 +5,7 @@ use Rattle.packet_base.specs.Spelling.{IsId, number}
 use Rattle.packet.specs.Spelling.{IsPacket, max_body}
 use Rattle.packet.specs.declared.packet.Packet.TheVariants as packets
 use Rattle.packet_base.specs.declared.qos.QoS.{QoS}
-use Rattle.packet_base.specs.declared.qos.QoS.TheVariants as qualities
+use Rattle.packet_base.specs.declared.qos.QoS.TheVariants as qos_levels
 use Rattle.packet.specs.declared.publish.Publish.{Publish}
 use Rattle.packet.specs.declared.delivery.Delivery.{Delivery}
 use Rattle.packet.specs.declared.delivery.Delivery.TheVariants as deliveries
@@ -39,58 +39,58 @@ same_length id other topic payload h =
 
 -- with RETAIN or without it
 pub marked : (r s : Bool) (qos : QoS) (topic payload : List ℕ) → CanBeSent (made r qos topic payload) → CanBeSent (made s qos topic payload)
-marked r s qualities.AtMostOnce topic payload h = h
-marked r s qualities.AtLeastOnce topic payload h = h
-marked r s qualities.ExactlyOnce topic payload h = h
+marked r s qos_levels.AtMostOnce topic payload h = h
+marked r s qos_levels.AtLeastOnce topic payload h = h
+marked r s qos_levels.ExactlyOnce topic payload h = h
 
 -- at QoS 0, if it can be sent at another
-at_most_once : (r : Bool) (qos : QoS) (topic payload : List ℕ) → CanBeSent (made r qos topic payload) → CanBeSent (made r qualities.AtMostOnce topic payload)
-at_most_once r qualities.AtMostOnce topic payload h = h
-at_most_once r qualities.AtLeastOnce topic payload h = ((h.0.0, tt), tt, shorter topic payload h.2)
-at_most_once r qualities.ExactlyOnce topic payload h = ((h.0.0, tt), tt, shorter topic payload h.2)
+at_most_once : (r : Bool) (qos : QoS) (topic payload : List ℕ) → CanBeSent (made r qos topic payload) → CanBeSent (made r qos_levels.AtMostOnce topic payload)
+at_most_once r qos_levels.AtMostOnce topic payload h = h
+at_most_once r qos_levels.AtLeastOnce topic payload h = ((h.0.0, tt), tt, shorter topic payload h.2)
+at_most_once r qos_levels.ExactlyOnce topic payload h = ((h.0.0, tt), tt, shorter topic payload h.2)
 
 -- an identifier takes two bytes at QoS 1 and at QoS 2
 pub lower : (r : Bool) (q asked : QoS) (topic payload : List ℕ) → CanBeSent (made r q topic payload) → CanBeSent (made r (lower_qos q asked) topic payload)
-lower r qualities.AtMostOnce qualities.AtMostOnce topic payload h = h
-lower r qualities.AtMostOnce qualities.AtLeastOnce topic payload h = h
-lower r qualities.AtMostOnce qualities.ExactlyOnce topic payload h = h
-lower r qualities.AtLeastOnce qualities.AtMostOnce topic payload h = at_most_once r qualities.AtLeastOnce topic payload h
-lower r qualities.AtLeastOnce qualities.AtLeastOnce topic payload h = h
-lower r qualities.AtLeastOnce qualities.ExactlyOnce topic payload h = h
-lower r qualities.ExactlyOnce qualities.AtMostOnce topic payload h = at_most_once r qualities.ExactlyOnce topic payload h
-lower r qualities.ExactlyOnce qualities.AtLeastOnce topic payload h = h
-lower r qualities.ExactlyOnce qualities.ExactlyOnce topic payload h = h
+lower r qos_levels.AtMostOnce qos_levels.AtMostOnce topic payload h = h
+lower r qos_levels.AtMostOnce qos_levels.AtLeastOnce topic payload h = h
+lower r qos_levels.AtMostOnce qos_levels.ExactlyOnce topic payload h = h
+lower r qos_levels.AtLeastOnce qos_levels.AtMostOnce topic payload h = at_most_once r qos_levels.AtLeastOnce topic payload h
+lower r qos_levels.AtLeastOnce qos_levels.AtLeastOnce topic payload h = h
+lower r qos_levels.AtLeastOnce qos_levels.ExactlyOnce topic payload h = h
+lower r qos_levels.ExactlyOnce qos_levels.AtMostOnce topic payload h = at_most_once r qos_levels.ExactlyOnce topic payload h
+lower r qos_levels.ExactlyOnce qos_levels.AtLeastOnce topic payload h = h
+lower r qos_levels.ExactlyOnce qos_levels.ExactlyOnce topic payload h = h
 
 pub lower_asked : (r : Bool) (q asked : QoS) (topic payload : List ℕ) → CanBeSent (made r q topic payload) → CanBeSent (made r (lower_qos asked q) topic payload)
-lower_asked r qualities.AtMostOnce qualities.AtMostOnce topic payload h = h
-lower_asked r qualities.AtMostOnce qualities.AtLeastOnce topic payload h = h
-lower_asked r qualities.AtMostOnce qualities.ExactlyOnce topic payload h = h
-lower_asked r qualities.AtLeastOnce qualities.AtMostOnce topic payload h = at_most_once r qualities.AtLeastOnce topic payload h
-lower_asked r qualities.AtLeastOnce qualities.AtLeastOnce topic payload h = h
-lower_asked r qualities.AtLeastOnce qualities.ExactlyOnce topic payload h = h
-lower_asked r qualities.ExactlyOnce qualities.AtMostOnce topic payload h = at_most_once r qualities.ExactlyOnce topic payload h
-lower_asked r qualities.ExactlyOnce qualities.AtLeastOnce topic payload h = h
-lower_asked r qualities.ExactlyOnce qualities.ExactlyOnce topic payload h = h
+lower_asked r qos_levels.AtMostOnce qos_levels.AtMostOnce topic payload h = h
+lower_asked r qos_levels.AtMostOnce qos_levels.AtLeastOnce topic payload h = h
+lower_asked r qos_levels.AtMostOnce qos_levels.ExactlyOnce topic payload h = h
+lower_asked r qos_levels.AtLeastOnce qos_levels.AtMostOnce topic payload h = at_most_once r qos_levels.AtLeastOnce topic payload h
+lower_asked r qos_levels.AtLeastOnce qos_levels.AtLeastOnce topic payload h = h
+lower_asked r qos_levels.AtLeastOnce qos_levels.ExactlyOnce topic payload h = h
+lower_asked r qos_levels.ExactlyOnce qos_levels.AtMostOnce topic payload h = at_most_once r qos_levels.ExactlyOnce topic payload h
+lower_asked r qos_levels.ExactlyOnce qos_levels.AtLeastOnce topic payload h = h
+lower_asked r qos_levels.ExactlyOnce qos_levels.ExactlyOnce topic payload h = h
 
 -- with any identifier
 spelled_at : (dup : Bool) (id : ℕ) (r : Bool) (qos : QoS) (topic payload : List ℕ) → IsId id → CanBeSent (made r qos topic payload) →
     IsPacket (packets.Publish (publish_for dup id (made r qos topic payload)))
-spelled_at dup id r qualities.AtMostOnce topic payload i h = h
-spelled_at dup id r qualities.AtLeastOnce topic payload i h = ((h.0.0, i), tt, same_length id 1 topic payload h.2)
-spelled_at dup id r qualities.ExactlyOnce topic payload i h = ((h.0.0, i), tt, same_length id 1 topic payload h.2)
+spelled_at dup id r qos_levels.AtMostOnce topic payload i h = h
+spelled_at dup id r qos_levels.AtLeastOnce topic payload i h = ((h.0.0, i), tt, same_length id 1 topic payload h.2)
+spelled_at dup id r qos_levels.ExactlyOnce topic payload i h = ((h.0.0, i), tt, same_length id 1 topic payload h.2)
 
 pub spelled : (dup : Bool) (id : ℕ) (p : Publication) → IsId id → CanBeSent p → IsPacket (packets.Publish (publish_for dup id p))
 spelled dup id p i h = spelled_at dup id p.retain p.qos p.topic p.payload i h
 
 -- at QoS 0 there is no identifier
-pub spelled_once : (p : Publication) → p.qos ≡ qualities.AtMostOnce → CanBeSent p → IsPacket (packets.Publish (publish_for false 0 p))
+pub spelled_once : (p : Publication) → p.qos ≡ qos_levels.AtMostOnce → CanBeSent p → IsPacket (packets.Publish (publish_for false 0 p))
 spelled_once p e h = by p.qos e h
   where
-    by : (q : QoS) → q ≡ qualities.AtMostOnce → CanBeSent (made p.retain q p.topic p.payload) →
+    by : (q : QoS) → q ≡ qos_levels.AtMostOnce → CanBeSent (made p.retain q p.topic p.payload) →
         IsPacket (packets.Publish (publish_for false 0 (made p.retain q p.topic p.payload)))
-    by qualities.AtMostOnce e h = h
-    by qualities.AtLeastOnce e h = absurd (cc)
-    by qualities.ExactlyOnce e h = absurd (cc)
+    by qos_levels.AtMostOnce e h = h
+    by qos_levels.AtLeastOnce e h = absurd (cc)
+    by qos_levels.ExactlyOnce e h = absurd (cc)
 
 -- what a PUBLISH of the log carries can be sent
 pub carried : (p : Publish) → IsPacket (packets.Publish p) → CanBeSent (publication_of p)

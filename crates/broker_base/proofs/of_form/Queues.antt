@@ -4,7 +4,7 @@ use Rattle.std.specs.List.{AllByRecursion, list_any}
 use Rattle.std.proofs.lemmas.List.{length-append, length-map}
 use Rattle.packet_base.specs.Spelling.{IsId}
 use Rattle.packet_base.specs.declared.qos.QoS.{QoS}
-use Rattle.packet_base.specs.declared.qos.QoS.TheVariants as qualities
+use Rattle.packet_base.specs.declared.qos.QoS.TheVariants as qos_levels
 use Rattle.lists.specs.Lists.{IsDistinct}
 use Rattle.session_base.specs.declared.publication.Publication.{Publication}
 use Rattle.session_base.specs.Publication.{is_answered}
@@ -56,9 +56,9 @@ pub started_in_range : (fs : List Flight) (p : Publication) → suc (length fs) 
 started_in_range fs p h k = by p.qos k
   where
     by : (q : QoS) → MayWait (made p.retain q p.topic p.payload) → IsInFlight ((started_flight fs p).0, awaited (made p.retain q p.topic p.payload))
-    by qualities.AtMostOnce k = absurd (cc)
-    by qualities.AtLeastOnce k = (free_is_id fs p h, refl, k.1)
-    by qualities.ExactlyOnce k = (free_is_id fs p h, refl, k.1)
+    by qos_levels.AtMostOnce k = absurd (cc)
+    by qos_levels.AtLeastOnce k = (free_is_id fs p h, refl, k.1)
+    by qos_levels.ExactlyOnce k = (free_is_id fs p h, refl, k.1)
 
 filled_in_range : (w n : ℕ) (fs : List Flight) (ps : List Publication) → n < 2 ^ 16 → AllByRecursion IsInFlight fs → AllByRecursion MayWait ps →
     length fs + length ps ≤ n → IsQueue n (fill w fs ps)

@@ -24,7 +24,7 @@ use Rattle.broker_spec.specs.declared.command.Command.TheVariants as commands
 use Rattle.broker_base.specs.ClientSession.{ClientSession}
 use Rattle.broker_base.specs.SessionStep.{copies_with}
 use Rattle.broker_base.specs.State.{Sessions, State, session_in, owner_in}
-use Rattle.broker_base.specs.StateLaws.{AreByClient}
+use Rattle.broker_base.specs.StateTheorems.{AreByClient}
 use Rattle.broker_base.specs.Decisions.{row_lacks_room, is_one_topic_over, is_refused_in, repeats_taken, owned_mark, packet_mark_in, place_in}
 use Rattle.broker_base.proofs.of_rows.FindsEach.{Finds, finds_each}
 use Rattle.broker_base.proofs.of_rows.OwnersRow.{owner_found}

@@ -10,7 +10,7 @@ use Rattle.packet_base.specs.QoS.{qos_number}
 use Rattle.packet_base.proofs.Clients.{client_parts, client_short}
 use Rattle.retained.specs.declared.retained_publication.RetainedPublication.{RetainedPublication}
 use Rattle.session_base.specs.Form.{long_number, flag_at, state_bytes}
-use Rattle.session_base.specs.FormLaws.{HasForm}
+use Rattle.session_base.specs.FormTheorems.{HasForm}
 use Rattle.session_base.proofs.Counted.{IsReadAgain}
 use Rattle.session_base.proofs.Fields.{flag_again, qos_again, long_again, size_of}
 use Rattle.session_base.proofs.FormAgain.{frozen_is_read}
@@ -18,10 +18,10 @@ use Rattle.broker_spec.specs.Commands.{usual_limits}
 use Rattle.broker_spec.specs.Connection.{ConnectionName, is_connection_name}
 use Rattle.broker_spec.specs.Place.{Client}
 use Rattle.broker_base.specs.ClientSession.{ClientSession}
-use Rattle.broker_base.specs.StateLaws.{IsSoundSession, FitsWindow}
+use Rattle.broker_base.specs.StateTheorems.{IsSoundSession, FitsWindow}
 use Rattle.broker_base.specs.form.InRange.{IsNamed, IsRetained, IsSession, as_publication}
 use Rattle.broker_base.specs.form.Form.{wide_number_at, name_at, connection_at, client_at, row_at, is_retainable, retained_at}
-use Rattle.broker_base.specs.form.Writing.{wide_number, connection_bytes, row_bytes, retained_bytes}
+use Rattle.broker_base.specs.form.Bytes.{wide_number, connection_bytes, row_bytes, retained_bytes}
 
 wide_again : (n : ℕ) (rest : List ℕ) → n < 2 ^ 64 → wide_number_at (wide_number n ++ rest) ≡ Ok (n, rest)
 unfolding wide_number_at

@@ -17,7 +17,7 @@ use Rattle.broker_spec.specs.Place.{Client, by_bytes}
 use Rattle.broker_spec.specs.Sessions.{any_connection}
 use Rattle.broker_base.specs.ClientSession.{ClientSession}
 use Rattle.broker_base.specs.State.{Sessions, owner_in}
-use Rattle.broker_base.specs.StateLaws.{IsNobodys, ConnectionsAreApart, AreByClient}
+use Rattle.broker_base.specs.StateTheorems.{IsNobodys, ConnectionsAreApart, AreByClient}
 use Rattle.broker_base.proofs.ConnectionsOfSessions.{same_turned}
 use Rattle.broker_base.specs.form.Follows.{is_after, is_owned, row_follows}
 use Rattle.lists.proofs.Tables.{Table, Rises}

@@ -7,12 +7,12 @@ use Rattle.packet.specs.Spelling.{IsPacket}
 use Rattle.packet.specs.declared.packet.Packet.{Packet}
 use Rattle.packet.specs.declared.packet.Packet.TheVariants as packets
 use Rattle.packet_base.specs.declared.qos.QoS.{QoS}
-use Rattle.packet_base.specs.declared.qos.QoS.TheVariants as qualities
+use Rattle.packet_base.specs.declared.qos.QoS.TheVariants as qos_levels
 use Rattle.session_base.specs.declared.publication.Publication.{Publication}
 use Rattle.session_base.specs.declared.awaits.Awaits.TheVariants as waits_for
 use Rattle.session_base.specs.Publication.{publish_for, is_answered}
 use Rattle.session_base.specs.Queue.{Flight, Queue, started_flight, awaits_pubcomp, enqueue, filled}
-use Rattle.session_base.specs.Sending.{fill_sends, resend, pubrec_sends, copies_sent}
+use Rattle.session_base.specs.EntryPackets.{fill_sends, resend, pubrec_sends, copies_sent}
 use Rattle.broker_spec.specs.Entries.{queued}
 use Rattle.session_base.specs.InRange.{CanBeSent, MayWait, IsInFlight, IsQueue}
 use Rattle.broker_base.proofs.of_form.Publications.{spelled, spelled_once}
@@ -51,10 +51,10 @@ pubrels_are_packets id fs h = by (list_any (λ flight. awaits_pubcomp id flight)
     by true = ((h, tt, omega arith), tt)
     by false = tt
 
-not_answered : (q : QoS) → is_answered q ≡ false → q ≡ qualities.AtMostOnce
-not_answered qualities.AtMostOnce e = refl
-not_answered qualities.AtLeastOnce e = absurd (cc)
-not_answered qualities.ExactlyOnce e = absurd (cc)
+not_answered : (q : QoS) → is_answered q ≡ false → q ≡ qos_levels.AtMostOnce
+not_answered qos_levels.AtMostOnce e = refl
+not_answered qos_levels.AtLeastOnce e = absurd (cc)
+not_answered qos_levels.ExactlyOnce e = absurd (cc)
 
 -- copies, and what starts after each
 pub copies_are_packets : (w n : ℕ) (copies : List Publication) (q : Queue) → n + length (queued copies) < 2 ^ 16 → AllByRecursion CanBeSent copies →

@@ -19,7 +19,7 @@ use Rattle.broker_spec.specs.declared.command.Command.TheVariants as commands
 use Rattle.broker_base.specs.ClientSession.{ClientSession}
 use Rattle.broker_base.specs.SessionStep.{copies_with, filled_on, answered_queue, copied_queue, session_on, session_anew, session_resumed, session_connected, session_by, session_touched}
 use Rattle.broker_base.specs.Step.{touches, session_after}
-use Rattle.broker_base.specs.StateLaws.{IsSoundSession}
+use Rattle.broker_base.specs.StateTheorems.{IsSoundSession}
 use Rattle.session_base.specs.InRange.{CanBeSent, IsQueue}
 use Rattle.broker_base.specs.form.InRange.{IsRetained, IsNamed, IsSession}
 use Rattle.broker_base.proofs.of_form.Queues.{wider, fill_in_range, puback_in_range, pubrec_in_range, pubcomp_in_range, copies_in_range, waiting_in_range}

@@ -17,13 +17,13 @@ use Rattle.broker_spec.specs.declared.command.Command.TheVariants as commands
 use Rattle.broker_base.specs.ClientSession.{ClientSession}
 use Rattle.broker_base.specs.SessionStep.{session_connected}
 use Rattle.broker_base.specs.State.{Sessions, keyed, session_in}
-use Rattle.broker_base.specs.StateLaws.{AllSound}
+use Rattle.broker_base.specs.StateTheorems.{AllSound}
 use Rattle.broker_base.specs.Decisions.{place_in, mark_in}
 use Rattle.broker_base.specs.Step.{session_after, sessions_left, sessions_with, window_after}
 use Rattle.broker_base.proofs.StatesStaySound.{stays_sound}
 use Rattle.session_base.specs.InRange.{CanBeSent}
 use Rattle.broker_base.specs.form.InRange.{IsRetained, IsSession}
-use Rattle.broker_base.specs.form.RangeLaws.{StaysInRange}
+use Rattle.broker_base.specs.form.RangeTheorems.{StaysInRange}
 use Rattle.broker_base.proofs.of_form.Publications.{carried}
 use Rattle.broker_base.proofs.of_form.Sessions.{IfSession, connected, session_in_range}
 use Rattle.broker_base.proofs.of_form.Rooms.{AllInRange, AllHaveRoom, rooms}

@@ -5,7 +5,7 @@ use Rattle.std.proofs.lemmas.Bool.{eqb-true}
 use Rattle.std.proofs.lemmas.Nat.{be_bytes_8}
 use Rattle.packet_base.specs.declared.stop.Stop.{Stop}
 use Rattle.packet_base.specs.Spelling.{number, text, bit}
-use Rattle.packet_base.specs.Reading.{AreBytes, byte_at, front_at, number_at, text_at, ended, is_text}
+use Rattle.packet_base.specs.Readers.{AreBytes, byte_at, front_at, number_at, text_at, ended, is_text}
 use Rattle.packet_base.specs.TopicFields.{topic_at}
 use Rattle.topics.specs.Text.{is_topic}
 use Rattle.packet_base.proofs.Steps.{then_if, seq_if, check_if}
@@ -24,8 +24,8 @@ use Rattle.broker_base.specs.ClientSession.{ClientSession}
 use Rattle.broker_base.specs.State.{State}
 use Rattle.broker_base.specs.form.Form.{wide_number_at, name_at, connection_at, client_at, row_at, is_retainable, retainable, retained_at, size_at, head_at, content_at, broker_at, found}
 use Rattle.broker_base.specs.form.Follows.{row_follows, topic_follows}
-use Rattle.broker_base.specs.form.Writing.{wide_number, connection_bytes, row_bytes, retained_bytes, content_bytes, frozen, frozen_before}
-use Rattle.broker_base.specs.form.FormLaws.{ThawedIsFrozen}
+use Rattle.broker_base.specs.form.Bytes.{wide_number, connection_bytes, row_bytes, retained_bytes, content_bytes, frozen, frozen_before}
+use Rattle.broker_base.specs.form.FormTheorems.{ThawedIsFrozen}
 
 -- ---- a client's session
 

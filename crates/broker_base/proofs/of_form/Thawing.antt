@@ -5,7 +5,7 @@ use Rattle.std.specs.List.{AllByRecursion}
 use Rattle.std.proofs.lemmas.Bool.{leb-true, ltb-true}
 use Rattle.std.proofs.lemmas.List.{append-nil}
 use Rattle.packet_base.specs.Spelling.{number, text}
-use Rattle.packet_base.specs.Reading.{AreBytes, byte_at, front_at, number_at, text_at, ended, is_text}
+use Rattle.packet_base.specs.Readers.{AreBytes, byte_at, front_at, number_at, text_at, ended, is_text}
 use Rattle.packet_base.specs.TopicFields.{topic_at}
 use Rattle.packet_base.proofs.Steps.{then_if, check_if, seq_if}
 use Rattle.packet_base.proofs.FieldsAgain.{number_again}
@@ -18,7 +18,7 @@ use Rattle.retained.specs.Retained.{RetainedTopics}
 use Rattle.session_base.specs.Counted.{counted_bytes, counted_items_at}
 use Rattle.session_base.specs.Form.{flag_at, qos_at, long_number_at, body_length}
 use Rattle.session_base.specs.SessionForm.{state_at}
-use Rattle.session_base.specs.FormLaws.{HasForm, FitsIn}
+use Rattle.session_base.specs.FormTheorems.{HasForm, FitsIn}
 use Rattle.session_base.proofs.Counted.{AllFollow, IsReadAgain, counted_again}
 use Rattle.session_base.proofs.Found.{IsFound, AreRead, counted_found}
 use Rattle.session_base.proofs.FieldsFound.{a_byte, a_number, a_flag, a_front, a_long_number, a_qos, sent_of}
@@ -29,12 +29,12 @@ use Rattle.broker_spec.specs.Place.{Client}
 use Rattle.broker_spec.specs.Window.{is_window_size, IsWindowSize}
 use Rattle.broker_base.specs.ClientSession.{ClientSession}
 use Rattle.broker_base.specs.State.{Sessions, State}
-use Rattle.broker_base.specs.StateLaws.{IsSoundSession, FitsWindow, AllSound, AllInWindow}
+use Rattle.broker_base.specs.StateTheorems.{IsSoundSession, FitsWindow, AllSound, AllInWindow}
 use Rattle.broker_base.specs.form.InRange.{IsNamed, IsRetained, IsSession, as_publication}
 use Rattle.broker_base.specs.form.Form.{wide_number_at, name_at, connection_at, client_at, row_at, is_retainable, retainable, retained_at, size_at, head_at, content_at, broker_at, found}
 use Rattle.broker_base.specs.form.Follows.{row_follows, topic_follows}
-use Rattle.broker_base.specs.form.Writing.{row_bytes, retained_bytes, content_bytes, frozen, frozen_before}
-use Rattle.broker_base.specs.form.FormLaws.{IsUsualState, FrozenIsThawed, FrozenBeforeIsThawed, ThawedIsInRange}
+use Rattle.broker_base.specs.form.Bytes.{row_bytes, retained_bytes, content_bytes, frozen, frozen_before}
+use Rattle.broker_base.specs.form.FormTheorems.{IsUsualState, FrozenIsThawed, FrozenBeforeIsThawed, ThawedIsInRange}
 use Rattle.broker_base.proofs.of_form.Windows.{no_more}
 use Rattle.broker_base.proofs.of_form.RowsAgain.{row_again, topic_row_again}
 use Rattle.broker_base.proofs.of_form.RowsFollow.{After, rows_after, rows_rise, sessions_follow, sessions_are}

@@ -8,7 +8,7 @@ use Rattle.broker_spec.specs.declared.command.Command.{Command}
 use Rattle.broker_spec.specs.declared.command.Command.TheVariants as commands
 use Rattle.broker_base.specs.State.{State, empty_state}
 use Rattle.broker_base.specs.Step.{step, window_after}
-use Rattle.broker_base.specs.form.FormLaws.{IsUsualState}
+use Rattle.broker_base.specs.form.FormTheorems.{IsUsualState}
 use Rattle.broker_base.proofs.StatesStaySound.{stays_in_window}
 use Rattle.broker_base.proofs.of_form.States.{stays_in_range}
 use Rattle.broker_base.proofs.of_form.Windows.{no_more}

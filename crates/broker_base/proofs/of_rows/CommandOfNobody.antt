@@ -9,7 +9,7 @@ use Rattle.broker_spec.specs.Sessions.{any_connection}
 use Rattle.broker_base.specs.State.{Sessions, State, session_in, owner_in}
 use Rattle.broker_base.specs.Decisions.{packet_mark_in, connect_mark_in, mark_in, place_in}
 use Rattle.broker_base.specs.Step.{is_about, window_after, step}
-use Rattle.broker_base.specs.StateLaws.{IsNobodys}
+use Rattle.broker_base.specs.StateTheorems.{IsNobodys}
 use Rattle.broker_spec.specs.declared.command.Command.{Command}
 use Rattle.broker_spec.specs.declared.command.Command.TheVariants as commands
 use Rattle.broker_base.specs.rows.Touched.{Untouched, comes_on, is_accepted, TouchesNoRow}

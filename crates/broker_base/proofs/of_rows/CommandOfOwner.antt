@@ -7,7 +7,7 @@ use Rattle.broker_base.specs.ClientSession.{ClientSession}
 use Rattle.broker_base.specs.State.{Sessions, State, owner_in}
 use Rattle.broker_base.specs.Decisions.{mark_in, place_in}
 use Rattle.broker_base.specs.Step.{session_after, sessions_left, sessions_with, window_after, step}
-use Rattle.broker_base.specs.StateLaws.{AreByClient, ConnectionsAreApart}
+use Rattle.broker_base.specs.StateTheorems.{AreByClient, ConnectionsAreApart}
 use Rattle.broker_spec.specs.declared.command.Command.{Command}
 use Rattle.broker_spec.specs.declared.command.Command.TheVariants as commands
 use Rattle.broker_base.specs.rows.Touched.{comes_on, is_taken, is_accepted, IsMarkOf, written}

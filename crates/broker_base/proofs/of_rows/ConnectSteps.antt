@@ -6,7 +6,7 @@ use Rattle.std.specs.declared.cmp.Ordering.{Ordering}
 use Rattle.std.specs.declared.cmp.Ordering.TheVariants.{Less, Equal, Greater}
 use Rattle.std.specs.List.Sorted.{IsStrictlySortedBy}
 use Rattle.std.specs.Ordering.{is_eq, match_ordering}
-use Rattle.session_base.specs.Sending.{fill_sends, resend}
+use Rattle.session_base.specs.EntryPackets.{fill_sends, resend}
 use Rattle.broker_spec.specs.Connection.{ConnectionName}
 use Rattle.broker_spec.specs.Place.{Client, by_bytes, Mark, Limits}
 use Rattle.broker_spec.specs.Sessions.{begins_session}
@@ -17,13 +17,13 @@ use Rattle.broker_base.specs.State.{Sessions, State, session_in, owner_in}
 use Rattle.broker_base.specs.StepAnswers.{connection_of, connect_answers_in, answers_by_state}
 use Rattle.broker_base.specs.Decisions.{connect_mark_in, mark_in}
 use Rattle.broker_base.specs.Step.{step_at, step}
-use Rattle.broker_base.specs.StateLaws.{IsSound}
+use Rattle.broker_base.specs.StateTheorems.{IsSound}
 use Rattle.broker_spec.specs.declared.command.Command.TheVariants as commands
 use Rattle.broker_spec.specs.declared.command.Output.{Output}
 use Rattle.broker_spec.specs.declared.command.Output.TheVariants.{Send}
 use Rattle.broker_base.proofs.SessionsStayByClient.{ComesBefore, before_more}
 use Rattle.broker_base.specs.rows.Touched.{written, is_accepted, is_taken}
-use Rattle.broker_base.specs.rows.ConnectLaws.{may_have_session, BeginningStep, ResumingStep, FullStep, InsertionWrites}
+use Rattle.broker_base.specs.rows.ConnectTheorems.{may_have_session, BeginningStep, ResumingStep, FullStep, InsertionWrites}
 use Rattle.broker_base.proofs.of_rows.CommandOfNobody.{nobody_owns, nobody_stays}
 use Rattle.broker_base.proofs.of_rows.NewConnection.{put_left}
 use Rattle.broker_base.proofs.of_rows.ServedStep.{retained_same}

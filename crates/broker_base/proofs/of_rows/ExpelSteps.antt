@@ -10,7 +10,7 @@ use Rattle.broker_spec.specs.Answers.{close_outputs}
 use Rattle.broker_base.specs.ClientSession.{ClientSession}
 use Rattle.broker_base.specs.SessionStep.{session_on}
 use Rattle.broker_base.specs.State.{Sessions, State, session_in}
-use Rattle.broker_base.specs.StateLaws.{AreByClient}
+use Rattle.broker_base.specs.StateTheorems.{AreByClient}
 use Rattle.broker_base.specs.StepAnswers.{connection_of}
 use Rattle.broker_base.specs.Step.{touches, is_about, session_after}
 use Rattle.broker_spec.specs.declared.command.Command.TheVariants as commands
@@ -18,7 +18,7 @@ use Rattle.broker_spec.specs.declared.command.Output.{Output}
 use Rattle.broker_spec.proofs.ClientsInOrder.{same_is, same_self}
 use Rattle.broker_base.proofs.SessionsStayByClient.{ComesBefore}
 use Rattle.broker_base.specs.rows.Touched.{Untouched, TouchesOnly, written}
-use Rattle.broker_base.specs.rows.ExpelLaws.{ExpelStep, NobodysExpelStep}
+use Rattle.broker_base.specs.rows.ExpelTheorems.{ExpelStep, NobodysExpelStep}
 use Rattle.broker_base.proofs.of_rows.OneRow.{left_untouched, left_one}
 
 -- the place

@@ -6,7 +6,7 @@ use Rattle.broker_spec.specs.Place.{Client}
 use Rattle.broker_base.specs.ClientSession.{ClientSession}
 use Rattle.broker_base.specs.State.{Sessions, session_in}
 use Rattle.broker_base.proofs.SessionsStayByClient.{ComesBefore}
-use Rattle.broker_base.specs.StateLaws.{AreByClient}
+use Rattle.broker_base.specs.StateTheorems.{AreByClient}
 use Rattle.broker_spec.proofs.ClientsInOrder.{same_self, less_turned}
 
 -- this look-up finds each row's session

@@ -12,7 +12,7 @@ use Rattle.broker_spec.specs.declared.command.Command.TheVariants as commands
 use Rattle.broker_spec.specs.declared.command.Output.TheVariants.{Close}
 use Rattle.broker_base.specs.rows.Touched.{is_taken}
 use Rattle.broker_base.specs.rows.Served.{left_off}
-use Rattle.broker_base.specs.rows.LeavingLaws.{LeavingStep, FurtherConnectStep, LostStep}
+use Rattle.broker_base.specs.rows.LeavingTheorems.{LeavingStep, FurtherConnectStep, LostStep}
 use Rattle.broker_base.proofs.of_rows.SessionParted.{IsParting, parted_is}
 use Rattle.broker_base.proofs.of_rows.ServedStep.{served_on, served_step}
 

@@ -11,7 +11,7 @@ use Rattle.broker_spec.specs.Place.{Client, by_bytes, Mark, Place}
 use Rattle.broker_base.specs.ClientSession.{ClientSession}
 use Rattle.broker_base.specs.State.{Sessions, keyed, put_session}
 use Rattle.broker_base.specs.Step.{session_after, sessions_left}
-use Rattle.broker_base.specs.StateLaws.{AreByClient, IsNobodys}
+use Rattle.broker_base.specs.StateTheorems.{AreByClient, IsNobodys}
 use Rattle.broker_spec.specs.declared.command.Command.TheVariants as commands
 use Rattle.broker_spec.proofs.ClientsInOrder.{equal_is}
 use Rattle.broker_base.proofs.SessionsStayByClient.{ComesBefore, before_more, put_first}

@@ -8,8 +8,8 @@ use Rattle.broker_base.specs.StepAnswers.{answers_by_state}
 use Rattle.broker_base.specs.Decisions.{packet_mark_in, mark_in}
 use Rattle.broker_spec.specs.declared.command.Command.TheVariants as commands
 use Rattle.broker_base.specs.rows.Touched.{is_taken, is_accepted}
-use Rattle.broker_base.specs.rows.IdlePacketLaws.{NobodysPacketStep}
-use Rattle.broker_base.specs.rows.LeavingLaws.{NobodysLossStep}
+use Rattle.broker_base.specs.rows.IdlePacketTheorems.{NobodysPacketStep}
+use Rattle.broker_base.specs.rows.LeavingTheorems.{NobodysLossStep}
 use Rattle.broker_base.proofs.of_rows.CommandOfNobody.{nobody_stays}
 use Rattle.broker_base.proofs.of_rows.ServedStep.{retained_same}
 

@@ -5,7 +5,7 @@ use Rattle.broker_spec.specs.Connection.{ConnectionName}
 use Rattle.broker_spec.specs.Place.{Client}
 use Rattle.broker_base.specs.ClientSession.{ClientSession}
 use Rattle.broker_base.specs.State.{Sessions, owner_in}
-use Rattle.broker_base.specs.StateLaws.{AreByClient}
+use Rattle.broker_base.specs.StateTheorems.{AreByClient}
 use Rattle.broker_base.specs.rows.Owners.{Owners, owners_in, row_in}
 use Rattle.broker_base.proofs.of_rows.OwnersRow.{owner_found}
 

@@ -9,7 +9,7 @@ use Rattle.broker_spec.specs.Sessions.{any_connection}
 use Rattle.broker_base.specs.ClientSession.{ClientSession}
 use Rattle.broker_base.specs.State.{Sessions, session_in, owner_in}
 use Rattle.broker_base.proofs.SessionsStayByClient.{ComesBefore}
-use Rattle.broker_base.specs.StateLaws.{AreByClient, IsNobodys, ConnectionsAreApart}
+use Rattle.broker_base.specs.StateTheorems.{AreByClient, IsNobodys, ConnectionsAreApart}
 use Rattle.broker_spec.proofs.ClientsInOrder.{same_self, less_turned}
 use Rattle.broker_base.specs.rows.Touched.{Untouched, TouchesOnly, TouchesNoOther}
 

@@ -5,7 +5,7 @@ use Rattle.std.specs.Prelude.{map}
 use Rattle.packet.specs.declared.packet.Packet.{Packet}
 use Rattle.packet.specs.declared.packet.Packet.TheVariants as packets
 use Rattle.session_base.specs.Publication.{publication_of}
-use Rattle.session_base.specs.Sending.{copies_sent}
+use Rattle.session_base.specs.EntryPackets.{copies_sent}
 use Rattle.broker_spec.specs.Connection.{ConnectionName}
 use Rattle.broker_spec.specs.Place.{Client, Mark, Place}
 use Rattle.broker_spec.specs.Subscriptions.{granted_of}
@@ -20,8 +20,8 @@ use Rattle.broker_spec.specs.declared.command.Output.{Output}
 use Rattle.broker_spec.specs.declared.command.Output.TheVariants.{Send}
 use Rattle.broker_spec.proofs.ClientsInOrder.{same_self}
 use Rattle.broker_base.specs.rows.Served.{ServesClient, with_session, with_content}
-use Rattle.broker_base.specs.rows.PacketLaws.{handled_state, HandledStep, subscribed_to, subscribe_answers, SubscribeStep}
-use Rattle.broker_base.specs.rows.IdlePacketLaws.{PingreqStep, RepeatStep}
+use Rattle.broker_base.specs.rows.PacketTheorems.{handled_state, HandledStep, subscribed_to, subscribe_answers, SubscribeStep}
+use Rattle.broker_base.specs.rows.IdlePacketTheorems.{PingreqStep, RepeatStep}
 use Rattle.broker_base.proofs.of_rows.ServedStep.{served_on, served_found, written_same, served_step}
 use Rattle.broker_base.proofs.of_rows.ServedGoesOn.{packet_at, handled_is, subscribe_is, repeat_is}
 

@@ -22,7 +22,7 @@ use Rattle.broker_base.specs.Step.{is_about, session_after}
 use Rattle.broker_spec.specs.declared.command.Command.TheVariants as commands
 use Rattle.broker_spec.proofs.ClientsInOrder.{same_self}
 use Rattle.broker_base.specs.rows.Served.{with_content}
-use Rattle.broker_base.specs.rows.PacketLaws.{handled_state, subscribed_to}
+use Rattle.broker_base.specs.rows.PacketTheorems.{handled_state, subscribed_to}
 
 -- the place of a packet
 abbrev pub packet_at : ConnectionName → Packet → Mark → Place

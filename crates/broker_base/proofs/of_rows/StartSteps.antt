@@ -8,11 +8,11 @@ use Rattle.broker_spec.specs.Sessions.{ends_any}
 use Rattle.broker_base.specs.ClientSession.{ClientSession}
 use Rattle.broker_base.specs.SessionStep.{session_touched}
 use Rattle.broker_base.specs.State.{Sessions, keyed}
-use Rattle.broker_base.specs.StateLaws.{AllSound}
+use Rattle.broker_base.specs.StateTheorems.{AllSound}
 use Rattle.broker_base.specs.Step.{session_after, sessions_left}
 use Rattle.broker_spec.specs.declared.command.Command.TheVariants as commands
 use Rattle.broker_base.specs.rows.Served.{left_off}
-use Rattle.broker_base.specs.rows.ConnectLaws.{all_left_off, StartStep}
+use Rattle.broker_base.specs.rows.ConnectTheorems.{all_left_off, StartStep}
 use Rattle.broker_base.proofs.of_rows.SessionParted.{parted_is}
 
 -- the place of a Start

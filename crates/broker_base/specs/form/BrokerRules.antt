@@ -9,7 +9,7 @@ use Rattle.broker_spec.specs.declared.command.Output.{Output}
 use Rattle.broker_base.specs.State.{State, empty_state}
 use Rattle.broker_base.specs.Step.{step}
 use Rattle.broker_base.specs.form.Form.{thawed}
-use Rattle.broker_base.specs.form.Writing.{frozen}
+use Rattle.broker_base.specs.form.Bytes.{frozen}
 
 -- the state after a command, with the limits of this broker
 abbrev pub after : State → Command → State

@@ -3,7 +3,7 @@ use Rattle.std.specs.Prelude.{ℕ, not, ◌&&◌, ◌||◌, ◌==◌, Bool, nat_
 use Rattle.std.specs.Prelude.{length, Option, Some, None, is_some, Result, Ok, Err}
 use Rattle.std.specs.Int.{w64, from_be_bytes}
 use Rattle.packet_base.specs.declared.stop.Stop.{Stop}
-use Rattle.packet_base.specs.Reading.{◌>>=◌, ◌>>◌, byte_at, front_at, number_at, text_at, ended}
+use Rattle.packet_base.specs.Readers.{◌>>=◌, ◌>>◌, byte_at, front_at, number_at, text_at, ended}
 use Rattle.packet_base.specs.TopicFields.{topic_at}
 use Rattle.packet_base.specs.ClientId.{is_client}
 use Rattle.packet.specs.Spelling.{max_body}

@@ -8,7 +8,7 @@ use Rattle.broker_spec.specs.declared.command.Command.TheVariants as commands
 use Rattle.broker_base.specs.State.{State, empty_state}
 use Rattle.broker_base.specs.Step.{step}
 use Rattle.broker_base.specs.form.Form.{thawed}
-use Rattle.broker_base.specs.form.Writing.{frozen, frozen_before}
+use Rattle.broker_base.specs.form.Bytes.{frozen, frozen_before}
 
 -- no session and no topic
 abbrev pub no_content : List ℕ

@@ -2,10 +2,10 @@
 -- session with two filters, two received identifiers, an entry in flight of each kind and two that
 -- wait, and two retained publications.
 use Rattle.std.specs.Prelude.{◌≡◌, ℕ, false, List, [], ◌∷◌, ◌++◌, Some, codes}
-use Rattle.packet_base.specs.declared.qos.QoS.TheVariants as qualities
+use Rattle.packet_base.specs.declared.qos.QoS.TheVariants as qos_levels
 use Rattle.session_base.specs.FormRows.{full_session, full_session_by_hand}
 use Rattle.broker_base.specs.State.{State}
-use Rattle.broker_base.specs.form.Writing.{frozen, frozen_before}
+use Rattle.broker_base.specs.form.Bytes.{frozen, frozen_before}
 
 -- client `a` on connection 258 of ballot 2
 abbrev pub full_state : ℕ → State
@@ -20,8 +20,8 @@ full_state window = record {
     },
   ) ∷ [];
   retained =
-      (codes "t/1", record { qos = qualities.AtMostOnce; payload = codes "x" })
-      ∷ (codes "t/2", record { qos = qualities.ExactlyOnce; payload = codes "yz" })
+      (codes "t/1", record { qos = qos_levels.AtMostOnce; payload = codes "x" })
+      ∷ (codes "t/2", record { qos = qos_levels.ExactlyOnce; payload = codes "yz" })
       ∷ [];
 }
 

@@ -12,7 +12,7 @@ use Rattle.broker_spec.specs.Connection.{ConnectionName, IsConnectionName}
 use Rattle.broker_spec.specs.Place.{Client, Limits}
 use Rattle.broker_base.specs.ClientSession.{ClientSession}
 use Rattle.broker_base.specs.State.{State}
-use Rattle.broker_base.specs.StateLaws.{IsSound}
+use Rattle.broker_base.specs.StateTheorems.{IsSound}
 
 -- ---- what is retained
 

@@ -10,7 +10,7 @@ use Rattle.session_base.specs.Publication.{is_answered}
 use Rattle.packet_base.specs.QoS.{lower_qos}
 use Rattle.session_base.specs.Queue.{room}
 use Rattle.session_base.specs.Session.{with_received, with_queue}
-use Rattle.session_base.specs.Sending.{copies_sent}
+use Rattle.session_base.specs.EntryPackets.{copies_sent}
 use Rattle.broker_spec.specs.Place.{Client, Limits}
 use Rattle.session_base.specs.Subscriptions.{granted_qos}
 use Rattle.broker_spec.specs.Entries.{copy_of}

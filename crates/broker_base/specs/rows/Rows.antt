@@ -3,7 +3,7 @@
 -- connection 2 and holds t/1 at QoS 2.
 use Rattle.std.specs.Prelude.{◌≡◌, ℕ, Bool, true, false, List, [], ◌∷◌, Option, Some, None, codes}
 use Rattle.packet_base.specs.declared.qos.QoS.{QoS}
-use Rattle.packet_base.specs.declared.qos.QoS.TheVariants as qualities
+use Rattle.packet_base.specs.declared.qos.QoS.TheVariants as qos_levels
 use Rattle.packet.specs.declared.delivery.Delivery.{Delivery}
 use Rattle.packet.specs.declared.delivery.Delivery.TheVariants as deliveries
 use Rattle.session_base.specs.declared.publication.Publication.{Publication}
@@ -19,7 +19,7 @@ use Rattle.broker_base.specs.rows.Owners.{owners_in, with_owner, without_owner}
 use Rattle.broker_base.specs.rows.Indexed.{content_in, all_set, all_cleared, all_dropped, clean_clients}
 use Rattle.broker_base.specs.rows.Published.{granted_rows, session_changed, received_on}
 use Rattle.broker_base.specs.rows.Published.{all_delivered, answered_in_turn}
-use Rattle.broker_base.specs.rows.ConnectLaws.{all_left_off}
+use Rattle.broker_base.specs.rows.ConnectTheorems.{all_left_off}
 
 -- the third client
 abbrev pub c : Client
@@ -39,11 +39,11 @@ row client clean connection subscriptions received queue = (
 
 -- what b and c hold
 abbrev pub of_b : List GrantedSubscription
-of_b = (codes "t/#", qualities.AtLeastOnce) ∷ []
+of_b = (codes "t/#", qos_levels.AtLeastOnce) ∷ []
 
 -- the subscriptions of c
 abbrev pub of_c : List GrantedSubscription
-of_c = (codes "t/1", qualities.ExactlyOnce) ∷ []
+of_c = (codes "t/1", qos_levels.ExactlyOnce) ∷ []
 
 -- the sessions of three clients: a and c are connected, b is away
 abbrev pub three : Sessions
@@ -65,24 +65,25 @@ seventh = deliveries.ExactlyOnce false 7
 -- b and c are granted the publication, each at its own QoS
 abbrev pub TwoAreGranted : Type 0
 TwoAreGranted =
-    granted_rows (codes "t/1") three ≡ (b, qualities.AtLeastOnce) ∷ (c, qualities.ExactlyOnce) ∷ []
+    granted_rows (codes "t/1") three
+    ≡ (b, qos_levels.AtLeastOnce) ∷ (c, qos_levels.ExactlyOnce) ∷ []
 
 -- a's session takes note of 7, o waits for b, and c is sent o and owes PUBREC
 abbrev pub EachGetsItsCopy : Type 0
 EachGetsItsCopy =
-    all_delivered 16 (o_at qualities.ExactlyOnce) (granted_rows (codes "t/1") three)
+    all_delivered 16 (o_at qos_levels.ExactlyOnce) (granted_rows (codes "t/1") three)
     (session_changed a (received_on seventh) three)
     ≡ row a true (Some (nth 1)) [] (7 ∷ []) empty_queue
     ∷ row b false None of_b []
-    (record { in_flight = []; waiting = o_at qualities.AtLeastOnce ∷ [] })
+    (record { in_flight = []; waiting = o_at qos_levels.AtLeastOnce ∷ [] })
     ∷ row c true (Some (nth 2)) of_c []
-    (record { in_flight = (1, waits_for.Pubrec (o_at qualities.ExactlyOnce)) ∷ []; waiting = [] })
+    (record { in_flight = (1, waits_for.Pubrec (o_at qos_levels.ExactlyOnce)) ∷ []; waiting = [] })
     ∷ []
 
 -- only c is sent o at once
 abbrev pub OneIsAnswered : Type 0
 OneIsAnswered =
-    answered_in_turn 16 (o_at qualities.ExactlyOnce) (granted_rows (codes "t/1") three)
+    answered_in_turn 16 (o_at qos_levels.ExactlyOnce) (granted_rows (codes "t/1") three)
     (session_changed a (received_on seventh) three)
     ≡ sends 2 (publish (deliveries.ExactlyOnce false 1) false (codes "o")) ∷ []
 
@@ -100,15 +101,15 @@ EachOwnsItsConnection =
 -- a filter is compared character by character, replaced, given up, and dropped with its client
 abbrev pub EachHoldsItsFilters : Type 0
 EachHoldsItsFilters =
-    (content_in three b (codes "t/#") ≡ Some qualities.AtLeastOnce)
+    (content_in three b (codes "t/#") ≡ Some qos_levels.AtLeastOnce)
     × (content_in three b (codes "t/1") ≡ None)
     × (content_in three a (codes "t/#") ≡ None)
-    × (all_set b ((codes "t/#", qualities.ExactlyOnce) ∷ []) (content_in three) b (codes "t/#")
-    ≡ Some qualities.ExactlyOnce)
+    × (all_set b ((codes "t/#", qos_levels.ExactlyOnce) ∷ []) (content_in three) b (codes "t/#")
+    ≡ Some qos_levels.ExactlyOnce)
     × (all_cleared b (codes "t/#" ∷ []) (content_in three) b (codes "t/#") ≡ None)
     × (all_dropped (clean_clients three) (content_in three) c (codes "t/1") ≡ None)
     × (all_dropped (clean_clients three) (content_in three) b (codes "t/#")
-    ≡ Some qualities.AtLeastOnce)
+    ≡ Some qos_levels.AtLeastOnce)
 
 -- a Start leaves only b's session
 abbrev pub OneIsLeftByAStart : Type 0

@@ -6,7 +6,7 @@ use Rattle.broker_spec.specs.Connection.{ConnectionName}
 use Rattle.broker_spec.specs.Place.{Client}
 use Rattle.broker_base.specs.ClientSession.{ClientSession}
 use Rattle.broker_base.specs.State.{State, session_in, owner_in}
-use Rattle.broker_base.specs.StateLaws.{IsSound}
+use Rattle.broker_base.specs.StateTheorems.{IsSound}
 use Rattle.broker_base.specs.rows.Touched.{written}
 
 -- in a sound state the client is served on the connection, and this is kept of its session

@@ -3,7 +3,7 @@ use Rattle.std.specs.Prelude.{◌≡◌, ℕ, true, false, ◌&&◌, nat_lt, Som
 use Rattle.client_base.specs.declared.error.ClientError.{ClientError}
 use Rattle.client_base.specs.declared.error.ClientError.TheVariants as errors
 use Rattle.client_base.specs.State.{ClientState, kept_count}
-use Rattle.client_base.specs.Publishing.{next_id, has_free_id, max_kept}
+use Rattle.client_base.specs.Publications.{next_id, has_free_id, max_kept}
 use Rattle.client_base.specs.Steps.{request_refusal}
 
 -- the next identifier, or why the request is refused

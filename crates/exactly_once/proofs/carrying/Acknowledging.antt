@@ -18,8 +18,8 @@ use Rattle.broker_spec.specs.Marks.{is_refused, packet_mark_of}
 use Rattle.broker_spec.specs.Sends.{deliveries_to}
 use Rattle.broker_spec.specs.Answers.{acknowledged}
 use Rattle.broker_spec.specs.AnswersInOrder.{answers_at}
-use Rattle.broker_spec.specs.AnswerLaws.{is_unasked}
-use Rattle.broker_spec.specs.EndingLaws.{StandsAt}
+use Rattle.broker_spec.specs.AnswerTheorems.{is_unasked}
+use Rattle.broker_spec.specs.EndingTheorems.{StandsAt}
 use Rattle.broker_spec.specs.declared.command.Command.{Command}
 use Rattle.broker_spec.specs.declared.command.Command.TheVariants as commands
 use Rattle.broker_spec.specs.declared.command.Output.{Output}

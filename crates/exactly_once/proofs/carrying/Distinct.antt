@@ -9,7 +9,7 @@ use Rattle.lists.specs.Lists.In.{here, there}
 use Rattle.lists.proofs.Tests.{none_or, or_none, eq_turn}
 use Rattle.client_base.specs.Keeper.{Own, number_in}
 use Rattle.exactly_once.specs.Carried.{is_qos2, own_qos2_numbers, own_publications, own_publication}
-use Rattle.client_base.specs.OrderLaws.{AreNumbered}
+use Rattle.client_base.specs.OrderTheorems.{AreNumbered}
 use Rattle.exactly_once.specs.Inside.OwnShape as shape
 
 -- ---- numbers
@@ -17,14 +17,14 @@ use Rattle.exactly_once.specs.Inside.OwnShape as shape
 -- only the numbers
 pub numbers_alone : (n : ℕ) (own : List Own) → shape.AreNumberedFrom n own → AreNumbered n own
 numbers_alone n [] h = tt
-numbers_alone n (Own.Unsent k p id ∷ own) h = (h.0, numbers_alone (suc n) own h.1)
+numbers_alone n (Own.Queued k p id ∷ own) h = (h.0, numbers_alone (suc n) own h.1)
 numbers_alone n (Own.Sent k p id ∷ own) h = (h.0, numbers_alone (suc n) own h.1)
 numbers_alone n (Own.Released k p id ∷ own) h = (h.0, numbers_alone (suc n) own h.2)
 numbers_alone n (Own.Done k p ∷ own) h = (h.0, numbers_alone (suc n) own h.1)
 
 -- the first has this number, and the others follow
 pub number_first : (n : ℕ) (o : Own) (own : List Own) → AreNumbered n (o ∷ own) → (number_in o ≡ n) × AreNumbered (suc n) own
-number_first n (Own.Unsent k p id) own h = (h.0, h.1)
+number_first n (Own.Queued k p id) own h = (h.0, h.1)
 number_first n (Own.Sent k p id) own h = (h.0, h.1)
 number_first n (Own.Released k p id) own h = (h.0, h.1)
 number_first n (Own.Done k p) own h = (h.0, h.1)

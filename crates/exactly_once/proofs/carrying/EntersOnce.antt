@@ -14,9 +14,9 @@ use Rattle.broker_spec.specs.Place.{Client, Mark, Place, Past, Limits}
 use Rattle.broker_spec.specs.Received.{is_new, is_exactly_once}
 use Rattle.broker_spec.specs.Entries.{Entry}
 use Rattle.broker_spec.specs.Times.{entries_of}
-use Rattle.broker_spec.specs.OriginLaws.{is_from_publish}
-use Rattle.broker_spec.specs.EndingLaws.{StandsAt}
-use Rattle.broker_spec.specs.TakenLaws.{takes_publication}
+use Rattle.broker_spec.specs.OriginTheorems.{is_from_publish}
+use Rattle.broker_spec.specs.EndingTheorems.{StandsAt}
+use Rattle.broker_spec.specs.TakenTheorems.{takes_publication}
 use Rattle.broker_spec.specs.declared.command.Command.{Command}
 use Rattle.broker_spec.specs.declared.command.Command.TheVariants as commands
 use Rattle.broker_spec.proofs.EntersOnce.{one_if, MadeBelow, none-yet, made-below, count, enters_once}

@@ -15,7 +15,7 @@ use Rattle.client_base.specs.Handled.{discarded, confirmed, packet_handled, hand
 use Rattle.client_base.specs.Handshakes.{own_at_pubrec, is_sent_with, takes_in, pubrec_answered, own_at_puback, own_at_pubcomp}
 use Rattle.exactly_once.specs.Sides.{ClientConnection, Side}
 use Rattle.exactly_once.specs.Carried.{own_publications}
-use Rattle.client_base.specs.OrderLaws.{AreNumbered}
+use Rattle.client_base.specs.OrderTheorems.{AreNumbered}
 use Rattle.std.proofs.lemmas.List.{append-nil}
 use Rattle.exactly_once.proofs.publishing.Answered.{counted_side}
 use Rattle.exactly_once.proofs.carrying.Publications.{IsOfOwn, plain_of, said_puback, said_pubrec, said_pubcomp, said_sent, resent_of, said_after}

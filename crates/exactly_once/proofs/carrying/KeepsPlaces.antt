@@ -4,7 +4,7 @@ use Rattle.packet.specs.declared.packet.Packet.TheVariants as packets
 use Rattle.broker_spec.specs.Connection.{ConnectionName, same_connection}
 use Rattle.broker_spec.specs.Place.{Client, Past, Limits}
 use Rattle.broker_spec.specs.Commands.{place_of, past_of}
-use Rattle.broker_spec.specs.NobodyLaws.{IsSteady}
+use Rattle.broker_spec.specs.NobodyTheorems.{IsSteady}
 use Rattle.broker_spec.specs.declared.command.Command.{Command}
 use Rattle.broker_spec.specs.declared.command.Command.TheVariants as commands
 use Rattle.broker_spec.proofs.MarksOfPlaces.{AreMarked, past_is_marked}
@@ -132,12 +132,12 @@ nothing_said c ps (place ∷ past) = (says_nothing c ps [] place past (none_carr
 -- every story
 pub told_carried : (limits : Limits) → IsSteady limits → (c : Client) (s : Story) → StoryTrace limits c s → IsCarried limits s
 told_carried limits steady c s begins = record { written = tt; places = tt; marked = tt; numbers = (tt, tt) }
-told_carried limits steady c s (begins_at list earlier own none numbers unsent apart) =
+told_carried limits steady c s (begins_at list earlier own none numbers queued apart) =
     record {
       written = tt;
       places = nothing_said c (own_publications (earlier ++ own)) (past_of limits list);
       marked = past_is_marked limits list;
-      numbers = (numbers, numbers_alone (length earlier) own (numbered (length earlier) own unsent));
+      numbers = (numbers, numbers_alone (length earlier) own (numbered (length earlier) own queued));
     }
 told_carried limits steady c s (goes_on {before = r} told happens) =
     events_keep_carried limits r s (told_stories_are_sound limits steady c r told) happens (told_carried limits steady c r told)

@@ -19,7 +19,7 @@ use Rattle.exactly_once.specs.Carried.{own_publication, own_publications}
 use Rattle.exactly_once.specs.Story.{Story, StoryStep}
 use Rattle.exactly_once.specs.StoryCommands.{with_one_counted}
 use Rattle.exactly_once.specs.Story.StoryStep.{takes, others_take, receives, opens_anew, loses, disconnects, publishes_one, subscribes, unsubscribes}
-use Rattle.client_base.specs.OrderLaws.{AreNumbered}
+use Rattle.client_base.specs.OrderTheorems.{AreNumbered}
 use Rattle.exactly_once.proofs.carrying.Publications.{IsOfOwn, AreOfOwn, of_more, carried_is}
 use Rattle.exactly_once.proofs.carrying.Handles.{handles}
 
@@ -32,7 +32,7 @@ said_more keeper p =
   where
     new : Bool → Bool → Own
     new a on =
-        if a then (if on then Own.Sent (next_own_number keeper) p (least_free (ids_in_use keeper)) else Own.Unsent (next_own_number keeper) p (least_free (ids_in_use keeper)))
+        if a then (if on then Own.Sent (next_own_number keeper) p (least_free (ids_in_use keeper)) else Own.Queued (next_own_number keeper) p (least_free (ids_in_use keeper)))
         else Own.Done (next_own_number keeper) p
 
     same : (a on : Bool) → own_publication (new a on) ≡ p

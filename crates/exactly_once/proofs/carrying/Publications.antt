@@ -2,7 +2,7 @@
 use Rattle.std.proofs.Common.{◌≡◌, ◌+◌, ℕ, suc, Bool, true, false, not, ◌&&◌, ◌==◌, if◌then◌else◌, List, [], ◌∷◌, ◌++◌, map, Option, Some, None, refl, ap, ap₂, sym, ◌∙◌, subst, arith, length}
 use Rattle.std.specs.Prelude.{slice_get}
 use Rattle.packet_base.specs.declared.qos.QoS.{QoS}
-use Rattle.packet_base.specs.declared.qos.QoS.TheVariants as qualities
+use Rattle.packet_base.specs.declared.qos.QoS.TheVariants as qos_levels
 use Rattle.packet.specs.Delivery.{delivery_qos}
 use Rattle.packet.specs.declared.packet.Packet.{Packet}
 use Rattle.packet.specs.declared.packet.Packet.TheVariants as packets
@@ -16,7 +16,7 @@ use Rattle.client_base.specs.Written.{plain, written_again, written_first, sent_
 use Rattle.client_base.specs.Handshakes.{own_at_puback, own_at_pubrec, own_at_pubcomp}
 use Rattle.exactly_once.specs.Sides.{ClientConnection}
 use Rattle.exactly_once.specs.Carried.{own_publication, own_publications}
-use Rattle.client_base.specs.OrderLaws.{AreNumbered}
+use Rattle.client_base.specs.OrderTheorems.{AreNumbered}
 use Rattle.std.proofs.lemmas.List.{map-append, length-map}
 
 -- ---- packets
@@ -48,15 +48,15 @@ pub carried_is : (dup : Bool) (id : ℕ) (p : Publication) → publication_of (p
 carried_is dup id p = λ i. record { retain = p.retain; qos = level p.qos i; topic = p.topic; payload = p.payload }
   where
     level : (q : QoS) → delivery_qos (delivery_with q dup id) ≡ q
-    level qualities.AtMostOnce = refl
-    level qualities.AtLeastOnce = refl
-    level qualities.ExactlyOnce = refl
+    level qos_levels.AtMostOnce = refl
+    level qos_levels.AtLeastOnce = refl
+    level qos_levels.ExactlyOnce = refl
 
 -- ---- answers change none of it
 
 pub said_puback : (i : ℕ) (own : List Own) → own_publications (map (own_at_puback i) own) ≡ own_publications own
 said_puback i [] = refl
-said_puback i (Own.Unsent k p id ∷ own) = ap (λ l. p ∷ l) (said_puback i own)
+said_puback i (Own.Queued k p id ∷ own) = ap (λ l. p ∷ l) (said_puback i own)
 said_puback i (Own.Sent k p id ∷ own) = ap₂ (λ q l. q ∷ l) (by ((i == id) && is_qos1 p.qos)) (said_puback i own)
   where
     by : (b : Bool) → own_publication (if b then Own.Done k p else Own.Sent k p id) ≡ p
@@ -67,7 +67,7 @@ said_puback i (Own.Done k p ∷ own) = ap (λ l. p ∷ l) (said_puback i own)
 
 pub said_pubrec : (i : ℕ) (own : List Own) → own_publications (map (own_at_pubrec i) own) ≡ own_publications own
 said_pubrec i [] = refl
-said_pubrec i (Own.Unsent k p id ∷ own) = ap (λ l. p ∷ l) (said_pubrec i own)
+said_pubrec i (Own.Queued k p id ∷ own) = ap (λ l. p ∷ l) (said_pubrec i own)
 said_pubrec i (Own.Sent k p id ∷ own) = ap₂ (λ q l. q ∷ l) (by ((i == id) && not (is_qos1 p.qos))) (said_pubrec i own)
   where
     by : (b : Bool) → own_publication (if b then Own.Released k p id else Own.Sent k p id) ≡ p
@@ -78,7 +78,7 @@ said_pubrec i (Own.Done k p ∷ own) = ap (λ l. p ∷ l) (said_pubrec i own)
 
 pub said_pubcomp : (i : ℕ) (own : List Own) → own_publications (map (own_at_pubcomp i) own) ≡ own_publications own
 said_pubcomp i [] = refl
-said_pubcomp i (Own.Unsent k p id ∷ own) = ap (λ l. p ∷ l) (said_pubcomp i own)
+said_pubcomp i (Own.Queued k p id ∷ own) = ap (λ l. p ∷ l) (said_pubcomp i own)
 said_pubcomp i (Own.Sent k p id ∷ own) = ap (λ l. p ∷ l) (said_pubcomp i own)
 said_pubcomp i (Own.Released k p id ∷ own) = ap₂ (λ q l. q ∷ l) (by (i == id)) (said_pubcomp i own)
   where
@@ -89,7 +89,7 @@ said_pubcomp i (Own.Done k p ∷ own) = ap (λ l. p ∷ l) (said_pubcomp i own)
 
 pub said_sent : (own : List Own) → own_publications (sent_all own) ≡ own_publications own
 said_sent [] = refl
-said_sent (Own.Unsent k p id ∷ own) = ap (λ l. p ∷ l) (said_sent own)
+said_sent (Own.Queued k p id ∷ own) = ap (λ l. p ∷ l) (said_sent own)
 said_sent (Own.Sent k p id ∷ own) = ap (λ l. p ∷ l) (said_sent own)
 said_sent (Own.Released k p id ∷ own) = ap (λ l. p ∷ l) (said_sent own)
 said_sent (Own.Done k p ∷ own) = ap (λ l. p ∷ l) (said_sent own)
@@ -113,19 +113,19 @@ first_of ps n k p qs dup id e stand =
 
 again_of : (ps : List Publication) (n : ℕ) (own : List Own) → AreNumbered n own → StandFrom ps n (own_publications own) → Each (IsOfOwn ps) (written_again own)
 again_of ps n [] h stand = tt
-again_of ps n (Own.Unsent k p id ∷ own) h stand = again_of ps (suc n) own h.1 (behind ps n p (own_publications own) stand)
+again_of ps n (Own.Queued k p id ∷ own) h stand = again_of ps (suc n) own h.1 (behind ps n p (own_publications own) stand)
 again_of ps n (Own.Sent k p id ∷ own) h stand =
     (first_of ps n k p (own_publications own) true id h.0 stand, again_of ps (suc n) own h.1 (behind ps n p (own_publications own) stand))
 again_of ps n (Own.Released k p id ∷ own) h stand = again_of ps (suc n) own h.1 (behind ps n p (own_publications own) stand)
 again_of ps n (Own.Done k p ∷ own) h stand = again_of ps (suc n) own h.1 (behind ps n p (own_publications own) stand)
 
-unsent_of : (ps : List Publication) (n : ℕ) (own : List Own) → AreNumbered n own → StandFrom ps n (own_publications own) → Each (IsOfOwn ps) (written_first own)
-unsent_of ps n [] h stand = tt
-unsent_of ps n (Own.Unsent k p id ∷ own) h stand =
-    (first_of ps n k p (own_publications own) false id h.0 stand, unsent_of ps (suc n) own h.1 (behind ps n p (own_publications own) stand))
-unsent_of ps n (Own.Sent k p id ∷ own) h stand = unsent_of ps (suc n) own h.1 (behind ps n p (own_publications own) stand)
-unsent_of ps n (Own.Released k p id ∷ own) h stand = unsent_of ps (suc n) own h.1 (behind ps n p (own_publications own) stand)
-unsent_of ps n (Own.Done k p ∷ own) h stand = unsent_of ps (suc n) own h.1 (behind ps n p (own_publications own) stand)
+queued_of : (ps : List Publication) (n : ℕ) (own : List Own) → AreNumbered n own → StandFrom ps n (own_publications own) → Each (IsOfOwn ps) (written_first own)
+queued_of ps n [] h stand = tt
+queued_of ps n (Own.Queued k p id ∷ own) h stand =
+    (first_of ps n k p (own_publications own) false id h.0 stand, queued_of ps (suc n) own h.1 (behind ps n p (own_publications own) stand))
+queued_of ps n (Own.Sent k p id ∷ own) h stand = queued_of ps (suc n) own h.1 (behind ps n p (own_publications own) stand)
+queued_of ps n (Own.Released k p id ∷ own) h stand = queued_of ps (suc n) own h.1 (behind ps n p (own_publications own) stand)
+queued_of ps n (Own.Done k p ∷ own) h stand = queued_of ps (suc n) own h.1 (behind ps n p (own_publications own) stand)
 
 releases_of : (ps : List Publication) (ids : List ℕ) → Each (IsOfOwn ps) (map (λ id. plain (packets.Pubrel id)) ids)
 releases_of ps [] = tt
@@ -150,4 +150,4 @@ resent_of keeper numbered =
     each_append (IsOfOwn ps) (map (λ id. plain (packets.Pubrel id)) keeper.releases ++ written_again keeper.own) (written_first keeper.own)
     (each_append (IsOfOwn ps) (map (λ id. plain (packets.Pubrel id)) keeper.releases) (written_again keeper.own) (releases_of ps keeper.releases)
     (again_of ps n keeper.own numbered stand))
-    (unsent_of ps n keeper.own numbered stand)
+    (queued_of ps n keeper.own numbered stand)

@@ -49,14 +49,14 @@ each_flat P f h (x ∷ xs) = each_append P (f x) (flat_map f xs) (h x) (each_fla
 
 -- one entry that starts
 first_right : (P : Output → Type 0) (x : ConnectionName) (n : ℕ) → MayBeSent P x → (e : Entry) → Each P (first_output x n e)
-first_right P x n may (Entry.Started made p id start) = by (start == n)
+first_right P x n may (Entry.Sent made p id start) = by (start == n)
   where
     by : (b : Bool) → Each P (if b then publish_output x false id p ∷ [] else [])
     by true = (may (packets.Publish (publish_for false id p)) refl, tt)
     by false = tt
-first_right P x n may (Entry.Waits made p) = tt
+first_right P x n may (Entry.Queued made p) = tt
 first_right P x n may (Entry.Released made p id start release) = tt
-first_right P x n may (Entry.Finished made p id start release finish) = tt
+first_right P x n may (Entry.Done made p id start release finish) = tt
 
 -- all that start
 pub started_right : (P : Output → Type 0) (x : ConnectionName) (n : ℕ) → MayBeSent P x → (es : List Entry) → Each P (all_started x n es)
@@ -64,14 +64,14 @@ started_right P x n may es = each_flat P (first_output x n) (first_right P x n m
 
 -- one that is sent again
 again_right : (P : Output → Type 0) (x : ConnectionName) (n : ℕ) → MayBeSent P x → (e : Entry) → Each P (repeated_output x n e)
-again_right P x n may (Entry.Started made p id start) = by (start == n)
+again_right P x n may (Entry.Sent made p id start) = by (start == n)
   where
     by : (b : Bool) → Each P (if b then [] else publish_output x true id p ∷ [])
     by true = tt
     by false = (may (packets.Publish (publish_for true id p)) refl, tt)
-again_right P x n may (Entry.Waits made p) = tt
+again_right P x n may (Entry.Queued made p) = tt
 again_right P x n may (Entry.Released made p id start release) = tt
-again_right P x n may (Entry.Finished made p id start release finish) = tt
+again_right P x n may (Entry.Done made p id start release finish) = tt
 
 -- PUBRELs
 releases_right : (P : Output → Type 0) (x : ConnectionName) → MayBeSent P x → (ids : List ℕ) → Each P (map (λ id. Send x (packets.Pubrel id)) ids)

@@ -48,14 +48,14 @@ quiet_sends P quiet x (Close y ∷ answers) h = quiet_sends P quiet x answers h.
 
 -- for the first time
 first_quiet : (x : ConnectionName) (n : ℕ) (e : Entry) → Each IsQuiet (first_output x n e)
-first_quiet x n (Entry.Waits made p) = tt
-first_quiet x n (Entry.Started made p id start) = by (start == n)
+first_quiet x n (Entry.Queued made p) = tt
+first_quiet x n (Entry.Sent made p id start) = by (start == n)
   where
     by : (b : Bool) → Each IsQuiet (if b then publish_output x false id p ∷ [] else [])
     by true = (refl, tt)
     by false = tt
 first_quiet x n (Entry.Released made p id start release) = tt
-first_quiet x n (Entry.Finished made p id start release finish) = tt
+first_quiet x n (Entry.Done made p id start release finish) = tt
 
 -- what starts
 started_quiet : (x : ConnectionName) (n : ℕ) (es : List Entry) → Each IsQuiet (all_started x n es)
@@ -63,14 +63,14 @@ started_quiet x n es = each_flat (first_output x n) es (first_quiet x n)
 
 -- again
 again_quiet : (x : ConnectionName) (n : ℕ) (e : Entry) → Each IsQuiet (repeated_output x n e)
-again_quiet x n (Entry.Waits made p) = tt
-again_quiet x n (Entry.Started made p id start) = by (start == n)
+again_quiet x n (Entry.Queued made p) = tt
+again_quiet x n (Entry.Sent made p id start) = by (start == n)
   where
     by : (b : Bool) → Each IsQuiet (if b then [] else publish_output x true id p ∷ [])
     by true = tt
     by false = (refl, tt)
 again_quiet x n (Entry.Released made p id start release) = tt
-again_quiet x n (Entry.Finished made p id start release finish) = tt
+again_quiet x n (Entry.Done made p id start release finish) = tt
 
 -- each PUBREL
 pubrels_quiet : (x : ConnectionName) (ids : List ℕ) → Each IsQuiet (map (λ id. Send x (packets.Pubrel id)) ids)

@@ -1,7 +1,7 @@
 -- Every event keeps the shape, so every story is sound, and its client accepts a prefix of its
 -- session's entries.
 use Rattle.broker_spec.specs.Place.{Client, Limits}
-use Rattle.broker_spec.specs.NobodyLaws.{IsSteady}
+use Rattle.broker_spec.specs.NobodyTheorems.{IsSteady}
 use Rattle.exactly_once.specs.Story.{Story}
 use Rattle.exactly_once.specs.StoryTrace.{StoryTrace}
 use Rattle.exactly_once.specs.Acceptance.{AcceptedInOrder}

@@ -35,10 +35,10 @@ due_first h good false m f b e = (subst (λ (l : Transit ℕ). FitsTransit h.rec
 -- one that is sent among the first is sent among all
 pub sent_among : (i : ℕ) (old new : List (SenderItem ℕ)) → has_sent i old ≡ true → has_sent i (old ++ new) ≡ true
 sent_among i [] new e = absurd (both_ways false refl e)
-sent_among i (SenderItem.Waits v ∷ old) new e = sent_among i old new e
+sent_among i (SenderItem.Queued v ∷ old) new e = sent_among i old new e
 sent_among i (SenderItem.Sent v id ∷ old) new e = or_then (i == id) (has_sent i old) (has_sent i (old ++ new)) e (sent_among i old new)
 sent_among i (SenderItem.Released v id ∷ old) new e = sent_among i old new e
-sent_among i (SenderItem.Finished v ∷ old) new e = sent_among i old new e
+sent_among i (SenderItem.Done v ∷ old) new e = sent_among i old new e
 
 -- the client's side of its newest connection, this packet counted
 abbrev pub counted_side : Keeper → ClientConnection → Side

@@ -27,7 +27,7 @@ use Rattle.exactly_once.proofs.publishing.Links.{link_by, Reaches, reaches_by, r
 use Rattle.exactly_once.proofs.publishing.Written.{dropped_next}
 use Rattle.exactly_once.proofs.publishing.First.{story_by, after_by, goes_first}
 use Rattle.exactly_once.proofs.publishing.Answered.{counted_side}
-use Rattle.exactly_once.proofs.publishing.Unsent.{starts_unsent}
+use Rattle.exactly_once.proofs.publishing.Queued.{starts_queued}
 use Rattle.exactly_once.proofs.publishing.Resent.{forward_resent}
 use Rattle.exactly_once.proofs.connections.Unhandled.{connack_at_first}
 
@@ -56,7 +56,7 @@ begins_again h cur keeper shape items =
     subst (λ (f : List (Forward ℕ)). Reaches h all (link_by cur true f [])) (sym (forward_resent keeper))
     (reaches_then h h.items all (link_by cur true (sender_resends keeper.releases h.items) []) (link_by cur true (again ++ forward_of_own (written_first keeper.own)) [])
     (restarts_by h cur keeper.releases (shape.releases_apart) known)
-    (λ k e l. starts_unsent keeper.own [] k cur again [] (e ∙ items) tt (λ i g. refl)
+    (λ k e l. starts_queued keeper.own [] k cur again [] (e ∙ items) tt (λ i g. refl)
     (distinct_front (ids_of_own keeper.own) (map id_of_request keeper.requests) (shape.ids_apart))
     (l ∙ ap (λ xs. link_by cur true (sender_resends keeper.releases xs) []) items)))
 

@@ -46,14 +46,14 @@ releases_none y x [] = refl
 releases_none y x (id ∷ ids) = none_both y (Send x (packets.Pubrel id) ∷ []) (map (λ i. Send x (packets.Pubrel i)) ids) (none_one y x (packets.Pubrel id) refl) (releases_none y x ids)
 
 again_none : (y x : ConnectionName) (n : ℕ) (entry : Entry) → NoneSent y (repeated_output x n entry)
-again_none y x n (Entry.Started made p id start) = by (start == n)
+again_none y x n (Entry.Sent made p id start) = by (start == n)
   where
     by : (b : Bool) → NoneSent y (if b then [] else publish_output x true id p ∷ [])
     by true = refl
     by false = none_one y x (packets.Publish (publish_for true id p)) refl
-again_none y x n (Entry.Waits made p) = refl
+again_none y x n (Entry.Queued made p) = refl
 again_none y x n (Entry.Released made p id start release) = refl
-again_none y x n (Entry.Finished made p id start release finish) = refl
+again_none y x n (Entry.Done made p id start release finish) = refl
 
 all_again_none : (y x : ConnectionName) (n : ℕ) (es : List Entry) → NoneSent y (flat_map (repeated_output x n) es)
 all_again_none y x n [] = refl

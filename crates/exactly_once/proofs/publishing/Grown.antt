@@ -52,14 +52,14 @@ releases_later (id ∷ ids) = ((refl, refl), releases_later ids)
 
 again_later : (own : List Own) → Each IsLater (written_again own)
 again_later [] = tt
-again_later (Own.Unsent k p id ∷ own) = again_later own
+again_later (Own.Queued k p id ∷ own) = again_later own
 again_later (Own.Sent k p id ∷ own) = ((refl, refl), again_later own)
 again_later (Own.Released k p id ∷ own) = again_later own
 again_later (Own.Done k p ∷ own) = again_later own
 
 first_later : (own : List Own) → Each IsLater (written_first own)
 first_later [] = tt
-first_later (Own.Unsent k p id ∷ own) = ((refl, refl), first_later own)
+first_later (Own.Queued k p id ∷ own) = ((refl, refl), first_later own)
 first_later (Own.Sent k p id ∷ own) = first_later own
 first_later (Own.Released k p id ∷ own) = first_later own
 first_later (Own.Done k p ∷ own) = first_later own

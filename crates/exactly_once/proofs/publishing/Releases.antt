@@ -12,9 +12,9 @@ released_finished j i [] = by (j == i)
     by : (b : Bool) → false ≡ (not b && false)
     by true = refl
     by false = refl
-released_finished j i (SenderItem.Waits v ∷ items) = released_finished j i items
+released_finished j i (SenderItem.Queued v ∷ items) = released_finished j i items
 released_finished j i (SenderItem.Sent v id ∷ items) = released_finished j i items
-released_finished j i (SenderItem.Finished v ∷ items) = released_finished j i items
+released_finished j i (SenderItem.Done v ∷ items) = released_finished j i items
 released_finished j i (SenderItem.Released v id ∷ items) = by (cases_Bool (i == id)) (cases_Bool (j == i)) (released_finished j i items)
   where
     by : ((i == id) ≡ true) ⊎ ((i == id) ≡ false) → ((j == i) ≡ true) ⊎ ((j == i) ≡ false) → has_released j (map (finishing i) items) ≡ (not (j == i) && has_released j items)
@@ -31,8 +31,8 @@ released_finished j i (SenderItem.Released v id ∷ items) = by (cases_Bool (i =
 -- a PUBREC adds its own
 other_released : (j i : ℕ) (items : List (SenderItem ℕ)) → (j == i) ≡ false → has_released j (map (item_released i) items) ≡ has_released j items
 other_released j i [] f = refl
-other_released j i (SenderItem.Waits v ∷ items) f = other_released j i items f
-other_released j i (SenderItem.Finished v ∷ items) f = other_released j i items f
+other_released j i (SenderItem.Queued v ∷ items) f = other_released j i items f
+other_released j i (SenderItem.Done v ∷ items) f = other_released j i items f
 other_released j i (SenderItem.Released v id ∷ items) f = ap (λ b. (j == id) || b) (other_released j i items f)
 other_released j i (SenderItem.Sent v id ∷ items) f = by (cases_Bool (i == id)) (other_released j i items f)
   where

@@ -27,7 +27,7 @@ not_again p item items e = by (is_qos2 p.qos)
 -- PUBLISHes with DUP 1
 publishes_again : (own : List Own) → forward_of_own (written_again own) ≡ map publishing (sent (items_of_own own))
 publishes_again [] = refl
-publishes_again (Own.Unsent k p id ∷ own) = publishes_again own ∙ ap (map publishing) (not_again p (SenderItem.Waits k) (items_of_own own) refl)
+publishes_again (Own.Queued k p id ∷ own) = publishes_again own ∙ ap (map publishing) (not_again p (SenderItem.Queued k) (items_of_own own) refl)
 publishes_again (Own.Sent k p id ∷ own) = forward_publishes true k id p (written_again own) ∙ by (is_qos2 p.qos) (publishes_again own)
   where
     by : (b : Bool) → forward_of_own (written_again own) ≡ map publishing (sent (items_of_own own))
@@ -35,7 +35,7 @@ publishes_again (Own.Sent k p id ∷ own) = forward_publishes true k id p (writt
     by true ih = ap (λ l. Forward.Publish id k ∷ l) ih
     by false ih = ih
 publishes_again (Own.Released k p id ∷ own) = publishes_again own ∙ ap (map publishing) (not_again p (SenderItem.Released k id) (items_of_own own) refl)
-publishes_again (Own.Done k p ∷ own) = publishes_again own ∙ ap (map publishing) (not_again p (SenderItem.Finished k) (items_of_own own) refl)
+publishes_again (Own.Done k p ∷ own) = publishes_again own ∙ ap (map publishing) (not_again p (SenderItem.Done k) (items_of_own own) refl)
 
 pub forward_resent : (keeper : Keeper) → forward_of_own (resent_written keeper) ≡ sender_resends keeper.releases (items_of_own keeper.own) ++ forward_of_own (written_first keeper.own)
 forward_resent keeper =

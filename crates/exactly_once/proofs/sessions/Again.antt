@@ -77,7 +77,7 @@ pub begins_awaiting : (limits : Limits) (list : List Command) (c : Client) (keep
 begins_awaiting limits list c keeper κ others none before mark apart fresh names new client offline served unasked =
     let past = past_of limits list in
     let u : IsUntouched limits past c κ = fresh.0 new in
-    let told = told_so limits past c κ.name none u.unsent in
+    let told = told_so limits past c κ.name none u.queued in
     let next : slice_get κ.written κ.taken ≡ Some (opening_connect c) = ap (λ (z : ClientConnection). slice_get z.written z.taken) u.is in
     let command : command_of κ.name κ.taken (opening_connect c).packet ≡ commands.Connect κ.name c false = ap (λ n. command_of κ.name n (opening_connect c).packet) new in
     let place : place_of limits past (command_of κ.name κ.taken (opening_connect c).packet) ≡ accepted_at κ.name c =

@@ -15,12 +15,12 @@ use Rattle.client_base.specs.Handled.{packet_handled}
 use Rattle.exactly_once.specs.Sides.{ClientConnection, Side}
 use Rattle.exactly_once.specs.Sends.{put_to}
 use Rattle.exactly_once.specs.StoryCommands.{packet_count, any_named}
-use Rattle.exactly_once.specs.StoryTrace.{StoryTrace, AreUnsent, unserved}
+use Rattle.exactly_once.specs.StoryTrace.{StoryTrace, AreQueued, unserved}
 use Rattle.exactly_once.specs.StoryTrace.StoryTrace.{begins_at, goes_on}
 use Rattle.exactly_once.specs.Story.StoryStep.{opens_anew, loses}
 use Rattle.exactly_once.specs.Inside.Shape.{NamesApart}
 use Rattle.exactly_once.proofs.sessions.Beside.{kept_of, with_connections, none_kept}
-use Rattle.client_base.specs.OrderLaws.{AreNumbered}
+use Rattle.client_base.specs.OrderTheorems.{AreNumbered}
 
 abbrev pub is_zero : ℕ → Bool
 is_zero zero = true
@@ -34,7 +34,7 @@ flags_of [] = []
 -- one of which nothing was taken is as it was opened
 pub record IsUntouched (limits : Limits) (past : Past) (c : Client) (κ : ClientConnection) : Type 0 where
   pub is : κ ≡ new_connection c κ.name
-  pub unsent : put_to limits past κ.name ≡ []
+  pub queued : put_to limits past κ.name ≡ []
   pub uncounted : packet_count κ.name past ≡ 0
 
 abbrev pub AreUntouched : Limits → Past → Client → List ClientConnection → Type 0
@@ -53,7 +53,7 @@ one_more : (limits : Limits) (past : Past) (c : Client) (earlier own : List Own)
     → StoryTrace limits c (with_connections past (waiting c earlier own true) (κ ∷ kept_of (flags_of connections) connections))
 one_more limits past c earlier own κ connections apart u before =
     subst (λ (z : ClientConnection). StoryTrace limits c (with_connections past (waiting c earlier own true) (z ∷ kept_of (flags_of connections) connections))) (sym u.is)
-    (goes_on before.1 (opens_anew κ.name (none_kept (same_connection κ.name) (flags_of connections) connections apart) u.unsent u.uncounted))
+    (goes_on before.1 (opens_anew κ.name (none_kept (same_connection κ.name) (flags_of connections) connections apart) u.queued u.uncounted))
 
 opens_all : (limits : Limits) (past : Past) (c : Client) (earlier own : List Own) → StoryTrace limits c (with_connections past (unserved c earlier own) []) → (connections : List ClientConnection)
     → AreUntouched limits past c connections → NamesApart connections → Opened limits past c earlier own (flags_of connections) connections
@@ -65,16 +65,16 @@ opens_all limits past c earlier own told (κ ∷ connections) fresh apart = by �
     by (suc n) e before = before
 
 -- a session may begin again at the newest connection, whether the client still holds it or not
-pub opens_again : (limits : Limits) (list : List Command) (c : Client) (earlier own : List Own) (κ : ClientConnection) (others : List ClientConnection) (held : Bool) → clean_session_of (past_of limits list) c ≡ None → AreNumbered 0 earlier → AreUnsent (length earlier) own
+pub opens_again : (limits : Limits) (list : List Command) (c : Client) (earlier own : List Own) (κ : ClientConnection) (others : List ClientConnection) (held : Bool) → clean_session_of (past_of limits list) c ≡ None → AreNumbered 0 earlier → AreQueued (length earlier) own
     → IsDistinct (ids_in_use (unserved c earlier own)) → AreUntouched limits (past_of limits list) c (κ ∷ others) → NamesApart (κ ∷ others) → κ.taken ≡ 0
     → StoryTrace limits c (with_connections (past_of limits list) (waiting c earlier own held) (κ ∷ kept_of (flags_of others) others))
-opens_again limits list c earlier own κ others held none numbers unsent apart fresh names new = by held
+opens_again limits list c earlier own κ others held none numbers queued apart fresh names new = by held
   where
     past : Past
     past = past_of limits list
 
     opened : StoryTrace limits c (with_connections past (waiting c earlier own true) (κ ∷ kept_of (flags_of others) others))
-    opened = one_more limits past c earlier own κ others names.0 (fresh.0 new) (opens_all limits past c earlier own (begins_at list earlier own none numbers unsent apart) others fresh.1 names.1)
+    opened = one_more limits past c earlier own κ others names.0 (fresh.0 new) (opens_all limits past c earlier own (begins_at list earlier own none numbers queued apart) others fresh.1 names.1)
 
     by : (b : Bool) → StoryTrace limits c (with_connections past (waiting c earlier own b) (κ ∷ kept_of (flags_of others) others))
     by true = opened

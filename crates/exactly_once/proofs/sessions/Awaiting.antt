@@ -26,7 +26,7 @@ use Rattle.exactly_once.proofs.sessions.Anew.{waiting, session_lost, settles}
 use Rattle.std.proofs.lemmas.List.{append-nil}
 use Rattle.lists.specs.Lists.{Each}
 use Rattle.session_base.specs.Identifiers.{least_free}
-use Rattle.client_base.specs.OrderLaws.{AreNumbered}
+use Rattle.client_base.specs.OrderTheorems.{AreNumbered}
 use Rattle.client_base.proofs.NumbersStay.{AreAllNumbered, joined_numbers}
 
 -- what goes with a client that awaits the CONNACK of its newest connection

@@ -53,7 +53,7 @@ begins_unserved limits list c keeper κ others none mark fresh names new u =
     ap (place_of limits past) command ∙ ap (λ m. let p : Place = record { command = commands.Connect κ.name c false; mark = m } in p) mark in
     subst (λ (k : Keeper). StoryTrace limits c (with_connections (accepted_at κ.name c ∷ past) k (record κ { taken = suc κ.taken } ∷ kept_of (flags_of others) others))) (sym u.is)
     (subst (λ (p : Place). StoryTrace limits c (with_connections (p ∷ past) (waiting c [] keeper.own keeper.is_open) (record κ { taken = suc κ.taken } ∷ kept_of (flags_of others) others))) place
-    (goes_on (opens_again limits list c [] keeper.own κ others keeper.is_open none tt u.unsent u.apart fresh names new) (takes 0 κ (opening_connect c) refl next)))
+    (goes_on (opens_again limits list c [] keeper.own κ others keeper.is_open none tt u.queued u.apart fresh names new) (takes 0 κ (opening_connect c) refl next)))
 
 -- the client is offline, since the newest connection is not confirmed
 offline : (b : Bool) (κ : ClientConnection) (keeper : Keeper) → keeper.is_online ≡ b → κ.confirmed ≡ false → (keeper.is_open ≡ true → κ.confirmed ≡ keeper.is_online) → (keeper.is_online ≡ true → keeper.is_open ≡ true)

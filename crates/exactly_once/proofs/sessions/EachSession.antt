@@ -3,7 +3,7 @@
 use Rattle.std.proofs.Common.{ℕ, [], ◌∷◌, length, refl, ◌∙◌, ap, subst, inl, inr, ◌⊎◌}
 use Rattle.broker_spec.specs.Place.{Client, Limits}
 use Rattle.broker_spec.specs.Sessions.{current_connection, clean_session_of, session_start}
-use Rattle.broker_spec.specs.NobodyLaws.{IsSteady}
+use Rattle.broker_spec.specs.NobodyTheorems.{IsSteady}
 use Rattle.broker_spec.specs.Commands.{place_of, past_from}
 use Rattle.broker_spec.specs.declared.command.Command.TheVariants as commands
 use Rattle.exactly_once.specs.Story.{Story, StoryStep, no_story}
@@ -49,7 +49,7 @@ life_opens limits c =
       keeper = record {
         client = refl;
         held = (refl, refl);
-        unserved = λ e. record { is = refl; unsent = tt; apart = tt };
+        unserved = λ e. record { is = refl; queued = tt; apart = tt };
         silent = λ e. tt;
         numbers = (tt, tt);
         unasked = λ e. refl;

@@ -13,7 +13,7 @@ use Rattle.client_base.specs.Keeper.{Own, Keeper, ids_in_use}
 use Rattle.client_base.specs.Called.{adds_own}
 use Rattle.client_base.specs.Handled.{packet_handled, handled_online, handled_first, lost}
 use Rattle.exactly_once.specs.Sides.{Side}
-use Rattle.exactly_once.specs.StoryTrace.{AreUnsent, unserved}
+use Rattle.exactly_once.specs.StoryTrace.{AreQueued, unserved}
 use Rattle.exactly_once.proofs.publishing.kept.KeepsCalls.{ids_next}
 use Rattle.exactly_once.proofs.subscribing.Given.{one_handled}
 use Rattle.exactly_once.proofs.keeping.Settled.{leaves_online}
@@ -65,13 +65,13 @@ stays_served packet side e = by side.keeper.is_online
 -- ---- never served
 
 lost_unserved : (c : Client) (keeper : Keeper) → IsUnserved c keeper → IsUnserved c (lost keeper)
-lost_unserved c keeper u = record { is = ap lost u.is; unsent = u.unsent; apart = u.apart }
+lost_unserved c keeper u = record { is = ap lost u.is; queued = u.queued; apart = u.apart }
 
 pub unserved_lost : (c : Client) (keeper : Keeper) → (keeper.was_served ≡ false → IsUnserved c keeper) → (lost keeper).was_served ≡ false → IsUnserved c (lost keeper)
 unserved_lost c keeper h e = lost_unserved c keeper (h e)
 
 pub unserved_opened : (c : Client) (keeper : Keeper) → (keeper.was_served ≡ false → IsUnserved c keeper) → keeper.was_served ≡ false → IsUnserved c (record (lost keeper) { is_open = true })
-unserved_opened c keeper h e = let u = h e in record { is = ap (λ (k : Keeper). record (lost k) { is_open = true }) u.is; unsent = u.unsent; apart = u.apart }
+unserved_opened c keeper h e = let u = h e in record { is = ap (λ (k : Keeper). record (lost k) { is_open = true }) u.is; queued = u.queued; apart = u.apart }
 
 -- who is not served after a packet was not before, and the packet ended the connection
 pub unserved_ends : (c : Client) (packet : Packet) (side : Side) → (side.keeper.was_served ≡ false → IsUnserved c side.keeper) → (packet_handled packet side).keeper.was_served ≡ false
@@ -96,19 +96,19 @@ unserved_handled c packet side h e =
     subst (λ (z : Side). IsUnserved c z.keeper) (sym ends.1) (lost_unserved c side.keeper (h ends.0))
 
 -- one more publication
-unsent_more : (n : ℕ) (own : List Own) (p : Publication) (id : ℕ) → AreUnsent n own → AreUnsent n (own ++ Own.Unsent (n + length own) p id ∷ [])
-unsent_more n [] p id h = (omega arith, tt)
-unsent_more n (Own.Unsent k q j ∷ own) p id h =
+queued_more : (n : ℕ) (own : List Own) (p : Publication) (id : ℕ) → AreQueued n own → AreQueued n (own ++ Own.Queued (n + length own) p id ∷ [])
+queued_more n [] p id h = (omega arith, tt)
+queued_more n (Own.Queued k q j ∷ own) p id h =
     let same : suc n + length own ≡ n + suc (length own) = omega arith in
-    (h.0, subst (λ (m : ℕ). AreUnsent (suc n) (own ++ Own.Unsent m p id ∷ [])) same (unsent_more (suc n) own p id h.1))
-unsent_more n (Own.Sent k q j ∷ own) p id h = absurd h
-unsent_more n (Own.Released k q j ∷ own) p id h = absurd h
-unsent_more n (Own.Done k q ∷ own) p id h = absurd h
+    (h.0, subst (λ (m : ℕ). AreQueued (suc n) (own ++ Own.Queued m p id ∷ [])) same (queued_more (suc n) own p id h.1))
+queued_more n (Own.Sent k q j ∷ own) p id h = absurd h
+queued_more n (Own.Released k q j ∷ own) p id h = absurd h
+queued_more n (Own.Done k q ∷ own) p id h = absurd h
 
-one_unsent : (c : Client) (own : List Own) (opened : Bool) (p : Publication) → AreUnsent 0 own → IsDistinct (ids_in_use (unserved c [] own)) → is_answered p.qos ≡ true → IsUnserved c (adds_own p (waiting c [] own opened))
-one_unsent c own opened p unsent apart answered =
-    subst (λ (b : Bool). IsUnserved c (record (waiting c [] own opened) { own = own ++ (if b then Own.Unsent (0 + length own) p id else Own.Done (0 + length own) p) ∷ [] })) (sym answered)
-    (record { is = refl; unsent = unsent_more 0 own p id unsent; apart = ids_next (unserved c [] own) (Own.Unsent (0 + length own) p id) apart (inl refl) })
+one_queued : (c : Client) (own : List Own) (opened : Bool) (p : Publication) → AreQueued 0 own → IsDistinct (ids_in_use (unserved c [] own)) → is_answered p.qos ≡ true → IsUnserved c (adds_own p (waiting c [] own opened))
+one_queued c own opened p queued apart answered =
+    subst (λ (b : Bool). IsUnserved c (record (waiting c [] own opened) { own = own ++ (if b then Own.Queued (0 + length own) p id else Own.Done (0 + length own) p) ∷ [] })) (sym answered)
+    (record { is = refl; queued = queued_more 0 own p id queued; apart = ids_next (unserved c [] own) (Own.Queued (0 + length own) p id) apart (inl refl) })
   where
     id : ℕ
     id = least_free (ids_in_use (unserved c [] own))
@@ -121,5 +121,5 @@ unserved_publishes c keeper p needs h e = by (is_answered p.qos) refl
     u = h e
 
     by : (b : Bool) → is_answered p.qos ≡ b → IsUnserved c (adds_own p keeper)
-    by true f = subst (λ (k : Keeper). IsUnserved c (adds_own p k)) (sym u.is) (one_unsent c keeper.own keeper.is_open p u.unsent u.apart f)
+    by true f = subst (λ (k : Keeper). IsUnserved c (adds_own p k)) (sym u.is) (one_queued c keeper.own keeper.is_open p u.queued u.apart f)
     by false f = absurd (both_ways keeper.is_online (ap (λ (k : Keeper). k.is_online) u.is) (needs f))

@@ -4,7 +4,7 @@ use Rattle.std.specs.Prelude.{◌==◌}
 use Rattle.lists.proofs.Tests.{eq_same, eq_is}
 use Rattle.broker_spec.specs.Place.{Client, Past, Limits}
 use Rattle.broker_spec.specs.Sessions.{session_start}
-use Rattle.broker_spec.specs.NobodyLaws.{IsSteady}
+use Rattle.broker_spec.specs.NobodyTheorems.{IsSteady}
 use Rattle.broker_spec.specs.Times.{entries_of}
 use Rattle.client_base.specs.Keeper.{Keeper}
 use Rattle.exactly_once.specs.Sides.{ClientConnection}

@@ -13,7 +13,7 @@ use Rattle.exactly_once.specs.Sides.{ClientConnection}
 use Rattle.exactly_once.specs.Sends.{put_to}
 use Rattle.exactly_once.specs.Story.{Story}
 use Rattle.exactly_once.specs.StoryCommands.{packet_count}
-use Rattle.exactly_once.specs.StoryTrace.{AreUnsent, unserved}
+use Rattle.exactly_once.specs.StoryTrace.{AreQueued, unserved}
 use Rattle.client_base.specs.Connected.{opening_connect}
 use Rattle.client_base.proofs.NumbersStay.{AreAllNumbered}
 use Rattle.exactly_once.specs.InStep.{has_begun, opened_in}
@@ -61,7 +61,7 @@ IsHeld keeper (κ ∷ connections) = (keeper.is_open ≡ true → κ.confirmed �
 -- one that was never served has only what it did not send
 pub record IsUnserved (c : Client) (keeper : Keeper) : Type 0 where
   pub is : keeper ≡ waiting c [] keeper.own keeper.is_open
-  pub unsent : AreUnsent 0 keeper.own
+  pub queued : AreQueued 0 keeper.own
   pub apart : IsDistinct (ids_in_use (unserved c [] keeper.own))
 
 -- of its connections

@@ -34,7 +34,7 @@ life_goes limits c s t life (opens_anew x fresh none uncounted) =
       session = life.session;
       connections = record {
         names = (fresh, life.connections.names);
-        untouched = (λ new. record { is = ap (λ d. new_connection d x) life.keeper.client; unsent = none; uncounted = uncounted }, life.connections.untouched);
+        untouched = (λ new. record { is = ap (λ d. new_connection d x) life.keeper.client; queued = none; uncounted = uncounted }, life.connections.untouched);
         shut = (λ e. record { unconfirmed = refl; nothing = refl; unwelcome = subst NoneWelcome (sym none) tt }, life.connections.shut);
         nobody = nobody_opened s.past c s.connections (new_connection s.keeper.client x) uncounted life.connections.nobody;
         counted = (record { counted = uncounted; within = omega arith }, life.connections.counted);

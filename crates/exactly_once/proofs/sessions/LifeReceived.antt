@@ -30,7 +30,7 @@ held_settled side others (inr h) = (λ e. absurd (both_ways side.keeper.is_open 
 
 -- it was sent, so a packet of the connection was taken
 was_taken : (limits : Limits) (past : Past) (c : Client) (κ : ClientConnection) (packet : Packet) → (κ.taken ≡ 0 → IsUntouched limits past c κ) → slice_get (put_to limits past κ.name) κ.handled ≡ Some packet → κ.taken ≡ 0 → ⊥
-was_taken limits past c κ packet h next new = let e : slice_get [] κ.handled ≡ Some packet = sym (ap (λ (l : List Packet). slice_get l κ.handled) (h new).unsent) ∙ next in cc
+was_taken limits past c κ packet h next new = let e : slice_get [] κ.handled ≡ Some packet = sym (ap (λ (l : List Packet). slice_get l κ.handled) (h new).queued) ∙ next in cc
 
 shut_handled : (limits : Limits) (past : Past) (c : Client) (keeper : Keeper) (κ : ClientConnection) (packet : Packet) → keeper.is_open ≡ true → (keeper.is_open ≡ true → κ.confirmed ≡ keeper.is_online)
     → slice_get (put_to limits past κ.name) κ.handled ≡ Some packet → IsShutUnopened limits past c κ → IsShutUnopened limits past c (packet_handled packet (let side : Side = record { keeper = keeper; connection = κ } in side)).connection

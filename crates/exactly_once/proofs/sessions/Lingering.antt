@@ -7,7 +7,7 @@ use Rattle.lists.proofs.Tests.{or_right}
 use Rattle.broker_spec.specs.Connection.{ConnectionName}
 use Rattle.broker_spec.specs.Place.{Client, Place, Past, Limits}
 use Rattle.broker_spec.specs.Sessions.{accepts, clean_session_of, begins}
-use Rattle.broker_spec.specs.NobodyLaws.{IsSteady}
+use Rattle.broker_spec.specs.NobodyTheorems.{IsSteady}
 use Rattle.broker_spec.specs.AnswersInOrder.{answers_at}
 use Rattle.client_base.specs.Keeper.{Keeper}
 use Rattle.exactly_once.specs.Sides.{ClientConnection}

@@ -4,9 +4,9 @@ use Rattle.std.proofs.Common.{◌≡◌, ◌<◌, ◌≤◌, ℕ, Bool, List, []
 use Rattle.lists.specs.Lists.{Each, IsPrefixOf}
 use Rattle.lists.proofs.OfEach.{each_append, each_then}
 use Rattle.broker_spec.specs.Place.{Client, Past, Limits}
-use Rattle.broker_spec.specs.NobodyLaws.{IsSteady}
+use Rattle.broker_spec.specs.NobodyTheorems.{IsSteady}
 use Rattle.client_base.specs.Keeper.{Own, Keeper, all_own, next_own_number}
-use Rattle.client_base.specs.OrderLaws.{AreNumbered}
+use Rattle.client_base.specs.OrderTheorems.{AreNumbered}
 use Rattle.std.proofs.lemmas.List.{append-nil}
 use Rattle.exactly_once.specs.Sides.{ClientConnection}
 use Rattle.exactly_once.specs.Story.{Story}

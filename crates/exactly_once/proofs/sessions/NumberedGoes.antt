@@ -8,7 +8,7 @@ use Rattle.lists.specs.Lists.{Each}
 use Rattle.lists.proofs.OfEach.{each_then}
 use Rattle.broker_spec.specs.Place.{Client, Place, Past, Limits}
 use Rattle.broker_spec.specs.Sessions.{begins}
-use Rattle.broker_spec.specs.NobodyLaws.{IsSteady}
+use Rattle.broker_spec.specs.NobodyTheorems.{IsSteady}
 use Rattle.broker_spec.specs.Received.{is_new}
 use Rattle.broker_spec.specs.Commands.{place_of}
 use Rattle.client_base.specs.Keeper.{Keeper, next_own_number}

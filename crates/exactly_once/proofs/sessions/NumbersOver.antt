@@ -64,7 +64,7 @@ over_same limits c s t life none (others_take command other unnamed) e =
     ap (λ o. new_numbers s.connections s.past ++ more_by (is_new command (mark_of limits s.past command)) o) (none_carried s.connections command s.past unnamed)
     ∙ ap (λ l. new_numbers s.connections s.past ++ l) (none_more (is_new command (mark_of limits s.past command))) ∙ append-nil (new_numbers s.connections s.past)
 over_same limits c s t life none (receives κ others packet are opened next) e = e
-over_same limits c s t life none (opens_anew x fresh unsent uncounted) e = e
+over_same limits c s t life none (opens_anew x fresh queued uncounted) e = e
 over_same limits c s t life none loses e = e
 over_same limits c s t life none disconnects e = e
 over_same limits c s t life none (publishes_one p needs) e = e
@@ -120,7 +120,7 @@ says_over limits c s t life none carried (takes i κ w stands next) =
         (nobody_current s.past c κ.name none) (each_at (IsOfOwn ps) κ.taken κ.written w next (each_there (λ (μ : ClientConnection). Each (IsOfOwn ps) μ.written) i s.connections κ stands carried.written)))
 says_over limits c s t life none carried (others_take command other unnamed) = tt
 says_over limits c s t life none carried (receives κ others packet are opened next) = tt
-says_over limits c s t life none carried (opens_anew x fresh unsent uncounted) = tt
+says_over limits c s t life none carried (opens_anew x fresh queued uncounted) = tt
 says_over limits c s t life none carried loses = tt
 says_over limits c s t life none carried disconnects = tt
 says_over limits c s t life none carried (publishes_one p needs) = tt

@@ -31,7 +31,7 @@ pub untouched_other : (limits : Limits) (place : Place) (past : Past) (c : Clien
 untouched_other limits place past c κ other u =
     record {
       is = u.is;
-      unsent = put_more limits place past κ.name ∙ ap₂ (λ a b. a ++ b) u.unsent (place_nothing limits place past κ.name other u.uncounted);
+      queued = put_more limits place past κ.name ∙ ap₂ (λ a b. a ++ b) u.queued (place_nothing limits place past κ.name other u.uncounted);
       uncounted = ap (λ b. if b then suc (packet_count κ.name past) else packet_count κ.name past) other ∙ u.uncounted;
     }
 
@@ -82,7 +82,7 @@ shut_connect limits past c κ n mark u e = by mark e
         record {
           unconfirmed = ap (λ (z : ClientConnection). z.confirmed) u.is;
           nothing = ap (λ (z : ClientConnection). z.accepted) u.is;
-          unwelcome = more_unwelcome limits (at_connect κ.name c false m) past κ.name (subst NoneWelcome (sym u.unsent) tt) h;
+          unwelcome = more_unwelcome limits (at_connect κ.name c false m) past κ.name (subst NoneWelcome (sym u.queued) tt) h;
         }
 
     full : NoneWelcome (sends_to κ.name (answers_at limits (at_connect κ.name c false Mark.Full) past))

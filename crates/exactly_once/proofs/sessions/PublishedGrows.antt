@@ -12,7 +12,7 @@ use Rattle.lists.specs.Lists.{IsPrefixOf, has_id}
 use Rattle.lists.proofs.Prefixes.{prefix_length}
 use Rattle.broker_spec.specs.Place.{Limits}
 use Rattle.client_base.specs.Keeper.{Own, Keeper, all_own, next_own_number}
-use Rattle.client_base.specs.OrderLaws.{AreNumbered}
+use Rattle.client_base.specs.OrderTheorems.{AreNumbered}
 use Rattle.client_base.specs.Written.{plain, writing}
 use Rattle.client_base.specs.Handled.{discarded, packet_handled, handled_online, handled_first}
 use Rattle.client_base.specs.Handshakes.{own_at_pubrec, is_sent_with, takes_in, pubrec_answered}

@@ -5,7 +5,7 @@ use Rattle.lists.specs.Lists.{has_id, IsDistinct, IsPrefixOf, Each}
 use Rattle.lists.proofs.OfEach.{each_then, each_left}
 use Rattle.lists.proofs.Tests.{none_or}
 use Rattle.client_base.specs.Keeper.{Own, number_in}
-use Rattle.client_base.specs.OrderLaws.{AreNumbered}
+use Rattle.client_base.specs.OrderTheorems.{AreNumbered}
 use Rattle.exactly_once.specs.Carried.{is_qos2, own_qos2_numbers, own_publication}
 use Rattle.exactly_once.specs.Lives.{NumbersRise}
 use Rattle.exactly_once.proofs.carrying.Distinct.{number_first}

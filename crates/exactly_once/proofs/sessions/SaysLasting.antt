@@ -10,7 +10,7 @@ use Rattle.broker_spec.specs.Sessions.{current_connection}
 use Rattle.broker_spec.specs.Received.{is_new}
 use Rattle.broker_spec.specs.Marks.{mark_of}
 use Rattle.broker_spec.specs.Commands.{place_of}
-use Rattle.broker_spec.specs.NobodyLaws.{IsSteady}
+use Rattle.broker_spec.specs.NobodyTheorems.{IsSteady}
 use Rattle.broker_spec.specs.declared.command.Command.{Command}
 use Rattle.session_base.specs.declared.publication.Publication.{Publication}
 use Rattle.client_base.specs.Keeper.{Written, Keeper}

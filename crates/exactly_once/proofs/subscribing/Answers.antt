@@ -72,7 +72,7 @@ pub entries_answered : (limits : Limits) (s : Story) (y : ConnectionName) (packe
 entries_answered limits s y packet e copies =
     let there = session_there s.past s.keeper.client y e in
     entries_next limits (at_own s y packet) s.past s.keeper.client there.0 refl (stays_on y packet (Mark.Handled s.keeper.client) (current_connection s.past s.keeper.client) refl) there.1
-    ∙ ap (λ ps. started (window_at limits (at_own s y packet ∷ s.past)) (length s.past) (current_connection s.past s.keeper.client) (answered s limits y packet ++ map (Entry.Waits (length s.past)) (queued ps))) copies
+    ∙ ap (λ ps. started (window_at limits (at_own s y packet ∷ s.past)) (length s.past) (current_connection s.past s.keeper.client) (answered s limits y packet ++ map (Entry.Queued (length s.past)) (queued ps))) copies
 
 -- what the place does to them
 pub answers_on : (limits : Limits) (s : Story) (y : ConnectionName) (packet : Packet) (more : List (Forward Publication)) → current_connection s.past s.keeper.client ≡ Some y

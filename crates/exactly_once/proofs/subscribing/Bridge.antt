@@ -2,7 +2,7 @@
 use Rattle.std.proofs.Common.{◌≡◌, ◌≤◌, ℕ, Bool, true, false, ◌==◌, nat_lt, if◌then◌else◌, List, [], ◌∷◌, ◌++◌, length, map, take, drop, refl, ap, sym, ◌∙◌, ◌⊎◌, inl, inr, arith}
 use Rattle.std.proofs.lemmas.Bool.{both_ways, cases_Bool}
 use Rattle.packet_base.specs.declared.qos.QoS.{QoS}
-use Rattle.packet_base.specs.declared.qos.QoS.TheVariants as qualities
+use Rattle.packet_base.specs.declared.qos.QoS.TheVariants as qos_levels
 use Rattle.session_base.specs.declared.publication.Publication.{Publication}
 use Rattle.session_base.specs.Publication.{is_answered}
 use Rattle.session_base.specs.Identifiers.{least_free}
@@ -26,9 +26,9 @@ use Rattle.exactly_once.proofs.Sent.{forward_publish, sends_publish}
 
 -- QoS 0 is not of the handshake
 none_two : (q : QoS) → is_answered q ≡ false → is_qos2 q ≡ false
-none_two qualities.AtMostOnce e = refl
-none_two qualities.AtLeastOnce e = absurd (both_ways true e refl)
-none_two qualities.ExactlyOnce e = absurd (both_ways true e refl)
+none_two qos_levels.AtMostOnce e = refl
+none_two qos_levels.AtLeastOnce e = absurd (both_ways true e refl)
+none_two qos_levels.ExactlyOnce e = absurd (both_ways true e refl)
 
 -- a full window
 shut : (k w : ℕ) → w ≤ k → nat_lt k w ≡ false
@@ -39,7 +39,7 @@ beyond : (k w : ℕ) → nat_lt k w ≡ false → w ≤ k
 beyond k w e = grind (arith, e)
 
 -- nothing starts in a full window
-rows_full : (w n : ℕ) (ids : List ℕ) (ps : List Publication) → w ≤ length ids → rows_started w ids (map (Entry.Waits n) ps) ≡ []
+rows_full : (w n : ℕ) (ids : List ℕ) (ps : List Publication) → w ≤ length ids → rows_started w ids (map (Entry.Queued n) ps) ≡ []
 rows_full w n ids [] h = refl
 rows_full w n ids (p ∷ ps) h = rw (shut (length ids) w h) refl
 
@@ -54,15 +54,15 @@ same_place n = grind arith
 
 -- what is handed out of the place's own entries is what starts of them
 pub forward_handed : (x : ConnectionName) (w n : ℕ) (ids : List ℕ) (copies : List Publication)
-    → forward_of (sends_to x (copy_outputs x n copies (start_all w n ids (map (Entry.Waits n) (queued copies))))) ≡ map publishing (rows_started w ids (map (Entry.Waits n) (queued copies)))
+    → forward_of (sends_to x (copy_outputs x n copies (start_all w n ids (map (Entry.Queued n) (queued copies))))) ≡ map publishing (rows_started w ids (map (Entry.Queued n) (queued copies)))
 forward_handed x w n ids [] = refl
 forward_handed x w n ids (p ∷ copies) = by (cases_Bool (is_answered p.qos)) (forward_handed x w n ids copies) (forward_handed x w n (least_free ids ∷ ids) copies)
   where
     rest : List ℕ → List Entry
-    rest others = start_all w n others (map (Entry.Waits n) (queued copies))
+    rest others = start_all w n others (map (Entry.Queued n) (queued copies))
 
     rows : List ℕ → List (ℕ × Publication)
-    rows others = rows_started w others (map (Entry.Waits n) (queued copies))
+    rows others = rows_started w others (map (Entry.Queued n) (queued copies))
 
     sent : List Entry → List (Forward Publication)
     sent es = forward_of (sends_to x (copy_outputs x n copies es))
@@ -74,8 +74,8 @@ forward_handed x w n ids (p ∷ copies) = by (cases_Bool (is_answered p.qos)) (f
     starts false e = e
 
     room : (b : Bool) → nat_lt (length ids) w ≡ b → sent (rest ids) ≡ map publishing (rows ids) → sent (rest (least_free ids ∷ ids)) ≡ map publishing (rows (least_free ids ∷ ids))
-        → forward_of (sends_to x (all_started x n (take 1 (if b then Entry.Started n p (least_free ids) n ∷ rest (least_free ids ∷ ids) else Entry.Waits n p ∷ map (Entry.Waits n) (queued copies)))
-        ++ copy_outputs x n copies (drop 1 (if b then Entry.Started n p (least_free ids) n ∷ rest (least_free ids ∷ ids) else Entry.Waits n p ∷ map (Entry.Waits n) (queued copies)))))
+        → forward_of (sends_to x (all_started x n (take 1 (if b then Entry.Sent n p (least_free ids) n ∷ rest (least_free ids ∷ ids) else Entry.Queued n p ∷ map (Entry.Queued n) (queued copies)))
+        ++ copy_outputs x n copies (drop 1 (if b then Entry.Sent n p (least_free ids) n ∷ rest (least_free ids ∷ ids) else Entry.Queued n p ∷ map (Entry.Queued n) (queued copies)))))
         ≡ map publishing (if b then (if is_qos2 p.qos then (least_free ids, p) ∷ rows (least_free ids ∷ ids) else rows (least_free ids ∷ ids)) else [])
     room true b shut_rest open_rest =
         rw (same_place n) (one_sent x false (least_free ids) p (copy_outputs x n copies (rest (least_free ids ∷ ids))) ∙ starts (is_qos2 p.qos) open_rest)
@@ -83,7 +83,7 @@ forward_handed x w n ids (p ∷ copies) = by (cases_Bool (is_answered p.qos)) (f
         ap sent (sym (starts_full w n ids (queued copies) (beyond (length ids) w b))) ∙ shut_rest ∙ ap (map publishing) (rows_full w n ids (queued copies) (beyond (length ids) w b))
 
     by : (is_answered p.qos ≡ true) ⊎ (is_answered p.qos ≡ false) → sent (rest ids) ≡ map publishing (rows ids) → sent (rest (least_free ids ∷ ids)) ≡ map publishing (rows (least_free ids ∷ ids))
-        → forward_of (sends_to x (copy_outputs x n (p ∷ copies) (start_all w n ids (map (Entry.Waits n) (queued (p ∷ copies)))))) ≡ map publishing (rows_started w ids (map (Entry.Waits n) (queued (p ∷ copies))))
+        → forward_of (sends_to x (copy_outputs x n (p ∷ copies) (start_all w n ids (map (Entry.Queued n) (queued (p ∷ copies)))))) ≡ map publishing (rows_started w ids (map (Entry.Queued n) (queued (p ∷ copies))))
     by (inl e) f g = rw e (room (nat_lt (length ids) w) refl f g)
     by (inr e) f g = rw e (one_sent x false 0 p (copy_outputs x n copies (rest ids)) ∙ rw (none_two p.qos e) f)
 
@@ -91,18 +91,18 @@ forward_handed x w n ids (p ∷ copies) = by (cases_Bool (is_answered p.qos)) (f
 
 -- what waited below does not start, since the window is full
 pub rows_quiet : (w n : ℕ) (ids : List ℕ) (es : List Entry) (ps : List Publication) → (waiting_of es ≡ []) ⊎ (w ≤ length (busy_from ids es))
-    → rows_started w ids (es ++ map (Entry.Waits n) ps) ≡ rows_started w (busy_from ids es) (map (Entry.Waits n) ps)
+    → rows_started w ids (es ++ map (Entry.Queued n) ps) ≡ rows_started w (busy_from ids es) (map (Entry.Queued n) ps)
 rows_quiet w n ids [] ps quiet = refl
-rows_quiet w n ids (Entry.Waits made p ∷ es) ps (inl e) = absurd (cc)
-rows_quiet w n ids (Entry.Waits made p ∷ es) ps (inr full) = rw (shut (length ids) w full) (sym (rows_full w n ids ps full))
-rows_quiet w n ids (Entry.Started made p id start ∷ es) ps quiet = rows_quiet w n (id ∷ ids) es ps quiet
+rows_quiet w n ids (Entry.Queued made p ∷ es) ps (inl e) = absurd (cc)
+rows_quiet w n ids (Entry.Queued made p ∷ es) ps (inr full) = rw (shut (length ids) w full) (sym (rows_full w n ids ps full))
+rows_quiet w n ids (Entry.Sent made p id start ∷ es) ps quiet = rows_quiet w n (id ∷ ids) es ps quiet
 rows_quiet w n ids (Entry.Released made p id start release ∷ es) ps quiet = rows_quiet w n (id ∷ ids) es ps quiet
-rows_quiet w n ids (Entry.Finished made p id start release finish ∷ es) ps quiet = rows_quiet w n ids es ps quiet
+rows_quiet w n ids (Entry.Done made p id start release finish ∷ es) ps quiet = rows_quiet w n ids es ps quiet
 
 -- the bridge: what is sent of the place's copies is what starts of all entries
 pub forward_made : (x : ConnectionName) (w n : ℕ) (es : List Entry) (copies : List Publication) → Sound n es → QuietEntries w es
-    → forward_of (sends_to x (copy_outputs x n copies (made_at n (start_all w n [] (es ++ map (Entry.Waits n) (queued copies))))))
-    ≡ map publishing (rows_started w [] (es ++ map (Entry.Waits n) (queued copies)))
+    → forward_of (sends_to x (copy_outputs x n copies (made_at n (start_all w n [] (es ++ map (Entry.Queued n) (queued copies))))))
+    ≡ map publishing (rows_started w [] (es ++ map (Entry.Queued n) (queued copies)))
 forward_made x w n es copies s quiet =
     ap (λ (l : List Entry). forward_of (sends_to x (copy_outputs x n copies l))) (made_here w n [] es (queued copies) s.below s.in_order (by quiet))
     ∙ forward_handed x w n (busy_from [] es) copies

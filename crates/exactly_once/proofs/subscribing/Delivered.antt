@@ -22,10 +22,10 @@ use Rattle.exactly_once.proofs.subscribing.Adding.{rows_at}
 -- what the copies for a client are, read as the handshake
 pub deliveries_sent : (limits : Limits) (place : Place) (past : Past) (c : Client) (x : ConnectionName) → window_at limits (place ∷ past) ≡ window_at limits past
     → entries_of limits (place ∷ past) c
-    ≡ started (window_at limits (place ∷ past)) (length past) (current_connection past c) (entries_of limits past c ++ map (Entry.Waits (length past)) (queued (copies_at place past c)))
+    ≡ started (window_at limits (place ∷ past)) (length past) (current_connection past c) (entries_of limits past c ++ map (Entry.Queued (length past)) (queued (copies_at place past c)))
     → forward_of (sends_to x (deliveries_to limits place past c))
     ≡ (if is_current (current_connection past c) x
-    then map publishing (rows_at (window_at limits (place ∷ past)) (current_connection past c) (entries_of limits past c ++ map (Entry.Waits (length past)) (queued (copies_at place past c))))
+    then map publishing (rows_at (window_at limits (place ∷ past)) (current_connection past c) (entries_of limits past c ++ map (Entry.Queued (length past)) (queued (copies_at place past c))))
     else [])
 deliveries_sent limits place past c x same entries = by (current_connection past c) refl
   where
@@ -33,7 +33,7 @@ deliveries_sent limits place past c x same entries = by (current_connection past
     n = length past
 
     all : List Entry
-    all = entries_of limits past c ++ map (Entry.Waits (length past)) (queued (copies_at place past c))
+    all = entries_of limits past c ++ map (Entry.Queued (length past)) (queued (copies_at place past c))
 
     w : ℕ
     w = window_at limits (place ∷ past)

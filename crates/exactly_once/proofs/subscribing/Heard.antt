@@ -40,10 +40,10 @@ hears_view h (Some (f, false)) m b e st = absurd (never_ahead h.transit f m b e 
 -- what is sent of the first ones is sent of all
 sent_front : (i : ℕ) (old new : List (SenderItem Publication)) → has_sent i old ≡ true → has_sent i (old ++ new) ≡ true
 sent_front i [] new e = absurd (both_ways false refl e)
-sent_front i (SenderItem.Waits v ∷ old) new e = sent_front i old new e
+sent_front i (SenderItem.Queued v ∷ old) new e = sent_front i old new e
 sent_front i (SenderItem.Sent v id ∷ old) new e = or_then (i == id) (has_sent i old) (has_sent i (old ++ new)) e (sent_front i old new)
 sent_front i (SenderItem.Released v id ∷ old) new e = sent_front i old new e
-sent_front i (SenderItem.Finished v ∷ old) new e = sent_front i old new e
+sent_front i (SenderItem.Done v ∷ old) new e = sent_front i old new e
 
 -- a PUBREC is of a sent item
 pub pubrec_due : (h : Handshake Publication) (v : View) (i : ℕ) (b : List Backward) → IsGood h → h.transit ≡ link_as v (Backward.Pubrec i ∷ b) → Stands h.transit (Backward.Pubrec i ∷ b) → has_sent i h.items ≡ true

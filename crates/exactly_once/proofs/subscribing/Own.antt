@@ -14,7 +14,7 @@ use Rattle.broker_spec.specs.Entries.{copies_at}
 use Rattle.broker_spec.specs.Times.{answered_by, entries_of}
 use Rattle.broker_spec.specs.Sends.{deliveries_to}
 use Rattle.broker_spec.specs.AnswersInOrder.{answers_at}
-use Rattle.broker_spec.specs.NobodyLaws.{IsSteady}
+use Rattle.broker_spec.specs.NobodyTheorems.{IsSteady}
 use Rattle.broker_spec.specs.declared.command.Command.TheVariants as commands
 use Rattle.exactly_once.specs.Handshake.{Backward}
 use Rattle.exactly_once.specs.Sends.{sends_to}

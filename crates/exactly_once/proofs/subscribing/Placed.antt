@@ -24,10 +24,10 @@ use Rattle.exactly_once.proofs.subscribing.Views.{View, view, link_as, link_is, 
 pub record GoesOn (limits : Limits) (s : Story) (place : Place) (es : List Entry) (ps : List Publication) (more : List (Forward Publication)) : Type 0 where
   pub current : current_connection (place ∷ s.past) s.keeper.client ≡ current_connection s.past s.keeper.client
   pub entries : entries_of limits (place ∷ s.past) s.keeper.client
-      ≡ started (window_at limits (place ∷ s.past)) (length s.past) (current_connection s.past s.keeper.client) (es ++ map (Entry.Waits (length s.past)) ps)
+      ≡ started (window_at limits (place ∷ s.past)) (length s.past) (current_connection s.past s.keeper.client) (es ++ map (Entry.Queued (length s.past)) ps)
   pub sound : Sound (suc (length s.past)) es
   pub sends : SendsAt limits place s.past (current_connection s.past s.keeper.client) s.connections
-      (more ++ map publishing (rows_at (window_at limits (place ∷ s.past)) (current_connection s.past s.keeper.client) (es ++ map (Entry.Waits (length s.past)) ps)))
+      (more ++ map publishing (rows_at (window_at limits (place ∷ s.past)) (current_connection s.past s.keeper.client) (es ++ map (Entry.Queued (length s.past)) ps)))
 
 -- the story with the place, and with these connections
 abbrev pub placed : Story → Place → List ClientConnection → Story
@@ -55,7 +55,7 @@ place_goes limits s place connections es ps more k shape g same accepted run ite
     current = current_connection s.past s.keeper.client
 
     rows : List (ℕ × Publication)
-    rows = rows_at (window_at limits (place ∷ s.past)) current (es ++ map (Entry.Waits (length s.past)) ps)
+    rows = rows_at (window_at limits (place ∷ s.past)) current (es ++ map (Entry.Queued (length s.past)) ps)
 
     b : List Backward
     b = left_behind current connections

@@ -64,9 +64,9 @@ plain_on limits s place p = by (clean_session_of s.past s.keeper.client) refl
 
     by : (session : Option Bool) → clean_session_of s.past s.keeper.client ≡ session → (ps : List Publication) × GoesOn limits s place es ps []
     by (Some clean) e =
-        let entries : entries_of limits (place ∷ s.past) c ≡ started w (length s.past) current (es ++ map (Entry.Waits (length s.past)) (queued (copies_at place s.past c))) =
+        let entries : entries_of limits (place ∷ s.past) c ≡ started w (length s.past) current (es ++ map (Entry.Queued (length s.past)) (queued (copies_at place s.past c))) =
         entries_next limits place s.past c clean p.opens p.goes e
-        ∙ ap (λ (l : List Entry). started w (length s.past) current (l ++ map (Entry.Waits (length s.past)) (queued (copies_at place s.past c)))) p.answers in (
+        ∙ ap (λ (l : List Entry). started w (length s.past) current (l ++ map (Entry.Queued (length s.past)) (queued (copies_at place s.past c)))) p.answers in (
           queued (copies_at place s.past c),
           record {
             current = current_same place s.past c p.opens p.goes;

@@ -11,7 +11,7 @@ use Rattle.broker_spec.specs.Sessions.{current_connection}
 use Rattle.broker_spec.specs.Entries.{Entry}
 use Rattle.broker_spec.specs.Readings.{released_at, released_below}
 use Rattle.broker_spec.specs.Times.{at_pubrec, started, window_at, entries_of}
-use Rattle.broker_spec.specs.NobodyLaws.{IsSteady}
+use Rattle.broker_spec.specs.NobodyTheorems.{IsSteady}
 use Rattle.broker_spec.specs.declared.command.Output.TheVariants.{Send}
 use Rattle.broker_base.proofs.ConnectionsOfSessions.{same_turned}
 use Rattle.broker_spec.proofs.NothingWaits.{IsFull, full-at}

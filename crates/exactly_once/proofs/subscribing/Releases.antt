@@ -28,22 +28,22 @@ more_by id false item items f e = e
 
 -- an entry more in front
 has_more : (id : ℕ) (e : Entry) (es : List Entry) → has_released id (items_of_entries es) ≡ true → has_released id (items_of_entries (e ∷ es)) ≡ true
-has_more id (Entry.Waits made p) es h = more_by id (is_qos2 p.qos) (SenderItem.Waits p) (items_of_entries es) (λ e. e) h
-has_more id (Entry.Started made p i start) es h = more_by id (is_qos2 p.qos) (SenderItem.Sent p i) (items_of_entries es) (λ e. e) h
+has_more id (Entry.Queued made p) es h = more_by id (is_qos2 p.qos) (SenderItem.Queued p) (items_of_entries es) (λ e. e) h
+has_more id (Entry.Sent made p i start) es h = more_by id (is_qos2 p.qos) (SenderItem.Sent p i) (items_of_entries es) (λ e. e) h
 has_more id (Entry.Released made p i start release) es h = more_by id (is_qos2 p.qos) (SenderItem.Released p i) (items_of_entries es) (or_right (id == i) (has_released id (items_of_entries es))) h
-has_more id (Entry.Finished made p i start release finish) es h = more_by id (is_qos2 p.qos) (SenderItem.Finished p) (items_of_entries es) (λ e. e) h
+has_more id (Entry.Done made p i start release finish) es h = more_by id (is_qos2 p.qos) (SenderItem.Done p) (items_of_entries es) (λ e. e) h
 
 -- those of one place
 released_here : (t : ℕ) (es : List Entry) → AreKept es → Each (λ id. has_released id (items_of_entries es) ≡ true) (released_at t es)
 released_here t [] h = tt
-released_here t (Entry.Waits made p ∷ es) h =
-    each_then (λ id. has_released id (items_of_entries es) ≡ true) (λ id. has_released id (items_of_entries (Entry.Waits made p ∷ es)) ≡ true) (released_at t es) (λ id. has_more id (Entry.Waits made p) es) (released_here t es h.1)
-released_here t (Entry.Started made p i start ∷ es) h =
-    each_then (λ id. has_released id (items_of_entries es) ≡ true) (λ id. has_released id (items_of_entries (Entry.Started made p i start ∷ es)) ≡ true) (released_at t es)
-    (λ id. has_more id (Entry.Started made p i start) es) (released_here t es h.1)
-released_here t (Entry.Finished made p i start release finish ∷ es) h =
-    each_then (λ id. has_released id (items_of_entries es) ≡ true) (λ id. has_released id (items_of_entries (Entry.Finished made p i start release finish ∷ es)) ≡ true) (released_at t es)
-    (λ id. has_more id (Entry.Finished made p i start release finish) es) (released_here t es h.1)
+released_here t (Entry.Queued made p ∷ es) h =
+    each_then (λ id. has_released id (items_of_entries es) ≡ true) (λ id. has_released id (items_of_entries (Entry.Queued made p ∷ es)) ≡ true) (released_at t es) (λ id. has_more id (Entry.Queued made p) es) (released_here t es h.1)
+released_here t (Entry.Sent made p i start ∷ es) h =
+    each_then (λ id. has_released id (items_of_entries es) ≡ true) (λ id. has_released id (items_of_entries (Entry.Sent made p i start ∷ es)) ≡ true) (released_at t es)
+    (λ id. has_more id (Entry.Sent made p i start) es) (released_here t es h.1)
+released_here t (Entry.Done made p i start release finish ∷ es) h =
+    each_then (λ id. has_released id (items_of_entries es) ≡ true) (λ id. has_released id (items_of_entries (Entry.Done made p i start release finish ∷ es)) ≡ true) (released_at t es)
+    (λ id. has_more id (Entry.Done made p i start release finish) es) (released_here t es h.1)
 released_here t (Entry.Released made p i start release ∷ es) h =
     by (release == t)
     (each_then (λ id. has_released id (items_of_entries es) ≡ true) (λ id. has_released id (items_of_entries (Entry.Released made p i start release ∷ es)) ≡ true) (released_at t es)

@@ -41,15 +41,15 @@ earlier start n h = grind arith
 -- what starts now is not sent again
 again_of : (x : ConnectionName) (w n : ℕ) (ids : List ℕ) (es : List Entry) → flat_map (repeated_output x n) (start_all w n ids es) ≡ flat_map (repeated_output x n) es
 again_of x w n ids [] = refl
-again_of x w n ids (Entry.Waits made p ∷ es) = by (nat_lt (length ids) w) (again_of x w n (least_free ids ∷ ids) es)
+again_of x w n ids (Entry.Queued made p ∷ es) = by (nat_lt (length ids) w) (again_of x w n (least_free ids ∷ ids) es)
   where
     by : (b : Bool) → flat_map (repeated_output x n) (start_all w n (least_free ids ∷ ids) es) ≡ flat_map (repeated_output x n) es
-        → flat_map (repeated_output x n) (if b then Entry.Started made p (least_free ids) n ∷ start_all w n (least_free ids ∷ ids) es else Entry.Waits made p ∷ es) ≡ flat_map (repeated_output x n) es
+        → flat_map (repeated_output x n) (if b then Entry.Sent made p (least_free ids) n ∷ start_all w n (least_free ids ∷ ids) es else Entry.Queued made p ∷ es) ≡ flat_map (repeated_output x n) es
     by true e = rw (eq_same n) e
     by false e = refl
-again_of x w n ids (Entry.Started made p id start ∷ es) = ap (λ l. repeated_output x n (Entry.Started made p id start) ++ l) (again_of x w n (id ∷ ids) es)
+again_of x w n ids (Entry.Sent made p id start ∷ es) = ap (λ l. repeated_output x n (Entry.Sent made p id start) ++ l) (again_of x w n (id ∷ ids) es)
 again_of x w n ids (Entry.Released made p id start release ∷ es) = again_of x w n (id ∷ ids) es
-again_of x w n ids (Entry.Finished made p id start release finish ∷ es) = again_of x w n ids es
+again_of x w n ids (Entry.Done made p id start release finish ∷ es) = again_of x w n ids es
 
 -- what is no sent item is skipped
 skip : (b : Bool) (item : SenderItem Publication) (items : List (SenderItem Publication)) → sent (item ∷ items) ≡ sent items → sent items ≡ sent (if b then item ∷ items else items)
@@ -59,8 +59,8 @@ skip false item items e = refl
 -- what was sent before is sent again
 pub forward_again : (x : ConnectionName) (n : ℕ) (es : List Entry) → StartedBefore n es → forward_of (sends_to x (flat_map (repeated_output x n) es)) ≡ map publishing (sent (items_of_entries es))
 forward_again x n [] h = refl
-forward_again x n (Entry.Waits made p ∷ es) h = forward_again x n es h ∙ ap (map publishing) (skip (is_qos2 p.qos) (SenderItem.Waits p) (items_of_entries es) refl)
-forward_again x n (Entry.Started made p id start ∷ es) h =
+forward_again x n (Entry.Queued made p ∷ es) h = forward_again x n es h ∙ ap (map publishing) (skip (is_qos2 p.qos) (SenderItem.Queued p) (items_of_entries es) refl)
+forward_again x n (Entry.Sent made p id start ∷ es) h =
     rw (earlier start n h.0)
     (ap forward_of (sends_publish x true id p (flat_map (repeated_output x n) es))
     ∙ forward_publish true id p (sends_to x (flat_map (repeated_output x n) es))
@@ -72,17 +72,17 @@ forward_again x n (Entry.Started made p id start ∷ es) h =
     by true e = ap (λ l. Forward.Publish id p ∷ l) e
     by false e = e
 forward_again x n (Entry.Released made p id start release ∷ es) h = forward_again x n es h ∙ ap (map publishing) (skip (is_qos2 p.qos) (SenderItem.Released p id) (items_of_entries es) refl)
-forward_again x n (Entry.Finished made p id start release finish ∷ es) h = forward_again x n es h ∙ ap (map publishing) (skip (is_qos2 p.qos) (SenderItem.Finished p) (items_of_entries es) refl)
+forward_again x n (Entry.Done made p id start release finish ∷ es) h = forward_again x n es h ∙ ap (map publishing) (skip (is_qos2 p.qos) (SenderItem.Done p) (items_of_entries es) refl)
 
 -- ---- all of it
 
 -- none started at a place after
 pub none_here : (n : ℕ) (es : List Entry) → StartedBefore n es → NoneStartedAt n es
 none_here n [] h = tt
-none_here n (Entry.Waits made p ∷ es) h = none_here n es h
-none_here n (Entry.Started made p id start ∷ es) h = (earlier start n h.0, none_here n es h.1)
+none_here n (Entry.Queued made p ∷ es) h = none_here n es h
+none_here n (Entry.Sent made p id start ∷ es) h = (earlier start n h.0, none_here n es h.1)
 none_here n (Entry.Released made p id start release ∷ es) h = none_here n es h
-none_here n (Entry.Finished made p id start release finish ∷ es) h = none_here n es h
+none_here n (Entry.Done made p id start release finish ∷ es) h = none_here n es h
 
 -- what is sent again, then what starts
 pub forward_resent : (x : ConnectionName) (w n : ℕ) (es : List Entry) → StartedBefore n es

@@ -56,7 +56,7 @@ no_pubrels (id ∷ ids) = no_pubrels ids
 -- nor is what is sent again
 none_again : (own : List Own) → backward_of (written_again own) ≡ []
 none_again [] = refl
-none_again (Own.Unsent k p id ∷ own) = none_again own
+none_again (Own.Queued k p id ∷ own) = none_again own
 none_again (Own.Sent k p id ∷ own) = none_again own
 none_again (Own.Released k p id ∷ own) = none_again own
 none_again (Own.Done k p ∷ own) = none_again own
@@ -64,7 +64,7 @@ none_again (Own.Done k p ∷ own) = none_again own
 -- or for the first time
 none_first : (own : List Own) → backward_of (written_first own) ≡ []
 none_first [] = refl
-none_first (Own.Unsent k p id ∷ own) = none_first own
+none_first (Own.Queued k p id ∷ own) = none_first own
 none_first (Own.Sent k p id ∷ own) = none_first own
 none_first (Own.Released k p id ∷ own) = none_first own
 none_first (Own.Done k p ∷ own) = none_first own

@@ -28,14 +28,14 @@ two_item publication item items = if is_qos2 publication.qos then item ∷ items
 
 -- the QoS 2 entries of a session, as items of the handshake
 abbrev pub items_of_entries : List Entry → List (SenderItem Publication)
-items_of_entries (Entry.Waits made publication ∷ entries) =
-    two_item publication (SenderItem.Waits publication) (items_of_entries entries)
-items_of_entries (Entry.Started made publication id start ∷ entries) =
+items_of_entries (Entry.Queued made publication ∷ entries) =
+    two_item publication (SenderItem.Queued publication) (items_of_entries entries)
+items_of_entries (Entry.Sent made publication id start ∷ entries) =
     two_item publication (SenderItem.Sent publication id) (items_of_entries entries)
 items_of_entries (Entry.Released made publication id start release ∷ entries) =
     two_item publication (SenderItem.Released publication id) (items_of_entries entries)
-items_of_entries (Entry.Finished made publication id start release finish ∷ entries) =
-    two_item publication (SenderItem.Finished publication) (items_of_entries entries)
+items_of_entries (Entry.Done made publication id start release finish ∷ entries) =
+    two_item publication (SenderItem.Done publication) (items_of_entries entries)
 items_of_entries [] = []
 
 -- the PUBLISH before these packets, if it has QoS 2

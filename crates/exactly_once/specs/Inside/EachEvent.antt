@@ -1,6 +1,6 @@
 -- What is left to show for each event of a story.
 use Rattle.broker_spec.specs.Place.{Limits}
-use Rattle.broker_spec.specs.NobodyLaws.{IsSteady}
+use Rattle.broker_spec.specs.NobodyTheorems.{IsSteady}
 use Rattle.exactly_once.specs.Story.{Story, StoryStep}
 use Rattle.exactly_once.specs.Inside.Projections.{as_publisher, GoesTo}
 use Rattle.exactly_once.specs.Inside.AsSubscriber.{as_subscriber}

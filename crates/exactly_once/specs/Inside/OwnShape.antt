@@ -8,7 +8,7 @@ use Rattle.exactly_once.specs.Inside.Projections.{items_of_own}
 
 -- each has the number of how many come before it, counted from this one on
 abbrev pub AreNumberedFrom : ℕ → List Own → Type 0
-AreNumberedFrom next (Own.Unsent number publication id ∷ own) =
+AreNumberedFrom next (Own.Queued number publication id ∷ own) =
     (number ≡ next) × AreNumberedFrom (suc next) own
 AreNumberedFrom next (Own.Sent number publication id ∷ own) =
     (number ≡ next) × AreNumberedFrom (suc next) own
@@ -19,10 +19,10 @@ AreNumberedFrom next (Own.Done number publication ∷ own) =
 AreNumberedFrom next [] = Unit {0}
 
 -- whether each of these publications was sent
-abbrev pub none_unsent : List Own → Bool
-none_unsent (Own.Unsent number publication id ∷ own) = false
-none_unsent (_ ∷ own) = none_unsent own
-none_unsent [] = true
+abbrev pub none_queued : List Own → Bool
+none_queued (Own.Queued number publication id ∷ own) = false
+none_queued (_ ∷ own) = none_queued own
+none_queued [] = true
 
 -- the client's identifiers, numbers and releases fit its publications
 pub record OwnInShape (keeper : Keeper) : Type 0 where
@@ -31,4 +31,4 @@ pub record OwnInShape (keeper : Keeper) : Type 0 where
   pub releases_apart : IsDistinct keeper.releases
   pub releases_are : (id : ℕ) →
       has_id id keeper.releases ≡ has_released id (items_of_own keeper.own)
-  pub online_sent : keeper.is_online ≡ true → none_unsent keeper.own ≡ true
+  pub online_sent : keeper.is_online ≡ true → none_queued keeper.own ≡ true

@@ -42,14 +42,14 @@ own_item publication item items = if is_qos2 publication.qos then item ∷ items
 
 -- the client's QoS 2 publications, as items of the handshake
 abbrev pub items_of_own : List Own → List (SenderItem ℕ)
-items_of_own (Own.Unsent number publication id ∷ own) =
-    own_item publication (SenderItem.Waits number) (items_of_own own)
+items_of_own (Own.Queued number publication id ∷ own) =
+    own_item publication (SenderItem.Queued number) (items_of_own own)
 items_of_own (Own.Sent number publication id ∷ own) =
     own_item publication (SenderItem.Sent number id) (items_of_own own)
 items_of_own (Own.Released number publication id ∷ own) =
     own_item publication (SenderItem.Released number id) (items_of_own own)
 items_of_own (Own.Done number publication ∷ own) =
-    own_item publication (SenderItem.Finished number) (items_of_own own)
+    own_item publication (SenderItem.Done number) (items_of_own own)
 items_of_own [] = []
 
 -- the PUBLISH before these packets, if it has QoS 2 and a number

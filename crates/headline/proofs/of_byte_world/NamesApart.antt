@@ -28,9 +28,9 @@ use Rattle.headline.proofs.of_node_moves.LossyReads.{losses_read_in_order}
 use Rattle.headline.proofs.of_node_moves.Views.{some_none}
 use Rattle.headline.specs.byte_world.Apart.{HasName, NamesStayApart}
 use Rattle.headline.specs.node_group.Group.{Group, group_after_outcome, moment_of_nodes, opening_cores, with_record}
-use Rattle.headline.specs.node_group.Putting.{recorded_in as recorded_exactly}
+use Rattle.headline.specs.node_group.Proposals.{recorded_in as recorded_exactly}
 use Rattle.headline.specs.node_group.Steps.{GroupStep, GroupTrace, groups_on_trace, with_messages, put_in_step}
-use Rattle.headline.specs.node_group.Losing.{WereSent, all_given, put_in_move, put_in_run, recorded_by, recorded_in}
+use Rattle.headline.specs.node_group.Losses.{WereSent, all_given, put_in_move, put_in_run, recorded_by, recorded_in}
 use Rattle.headline.specs.node_group.Steps.GroupStep.{node_acts, node_loses, master_assigns as assigns, master_hears as hears_master, assigns_unheard, answers_unheard}
 use Rattle.headline.specs.node_group.Steps.GroupTrace.{opened, then_went}
 use Rattle.headline.proofs.of_node_group.GroupsHaveMoments.{goes_on as step_goes_on, groups_have_moments}

@@ -6,10 +6,10 @@ use Rattle.lists.specs.Lists.{In}
 use Rattle.ballot_base.specs.Protocol.Input.{Receives, Proposes, Ticks}
 use Rattle.broker_spec.specs.Connection.{ConnectionName}
 use Rattle.world_base.specs.declared.node_core.item.Item.TheVariants.{Peer, Tick, Opened, Bytes, Ended, Expel, Cut, Crash}
-use Rattle.ballot_base.specs.Cutting.{can_cut}
+use Rattle.ballot_base.specs.Compaction.{can_cut}
 use Rattle.world_base.specs.node_core.Core.{CoreState, StepOutcome, rules}
-use Rattle.world_base.specs.node_core.Handing.{listed_at}
-use Rattle.world_base.specs.node_core.Reading.{open_at}
+use Rattle.world_base.specs.node_core.PortOutput.{listed_at}
+use Rattle.world_base.specs.node_core.PacketInput.{open_at}
 use Rattle.headline.specs.node_moves.Ends.{came_on, piece_on}
 use Rattle.headline.specs.node_moves.RunProposals.{bytes_on}
 use Rattle.headline.specs.node_moves.Moves.{NodeCall, NodeMove, MoveTrace, done}
@@ -20,7 +20,7 @@ use Rattle.headline.proofs.of_node_moves.PartsOfMoves.{BeginsWith, IsBare, Part,
 use Rattle.headline.proofs.of_node_moves.PartsOfMoves.Part.{heard, bytes_in, bytes_out}
 use Rattle.headline.proofs.of_node_moves.StepsMove.{node_calls_begin}
 use Rattle.headline.specs.node_group.Group.{Group, group_after_outcome, replica_of, with_record}
-use Rattle.headline.specs.node_group.Putting.{recorded_by, recorded_in}
+use Rattle.headline.specs.node_group.Proposals.{recorded_by, recorded_in}
 use Rattle.agreement.specs.cut_logs.World.{recorded}
 use Rattle.broker_spec.specs.declared.command.Command.{Command}
 use Rattle.headline.specs.node_group.Steps.{AllWasSent, WasSent, all_given}

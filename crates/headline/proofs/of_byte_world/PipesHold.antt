@@ -19,8 +19,8 @@ use Rattle.world_base.specs.declared.node_core.item.Item.TheVariants.{Peer, Tick
 use Rattle.world_base.specs.declared.node_core.Port.{Port}
 use Rattle.world_base.specs.node_connections.Connections.{is_at, is_open_at}
 use Rattle.world_base.specs.node_core.Core.{CoreState}
-use Rattle.world_base.specs.node_core.Handing.{listed_at}
-use Rattle.world_base.specs.node_core.Reading.{open_at}
+use Rattle.world_base.specs.node_core.PortOutput.{listed_at}
+use Rattle.world_base.specs.node_core.PacketInput.{open_at}
 use Rattle.headline.specs.node_moves.Ends.{IsGiven, piece_on}
 use Rattle.headline.specs.node_moves.Moves.{NodeCall}
 use Rattle.headline.specs.node_moves.Moves.NodeCall.{takes, hands_out}

@@ -23,17 +23,17 @@ use Rattle.lists.specs.Lists.In.{here, there}
 use Rattle.lists.proofs.OfEach.{each_append, each_then}
 use Rattle.world_base.specs.declared.node_core.Connection.{Connection}
 use Rattle.world_base.specs.declared.node_core.item.Item.{Item}
-use Rattle.ballot_base.specs.Cutting.{can_cut}
+use Rattle.ballot_base.specs.Compaction.{can_cut}
 use Rattle.world_base.specs.declared.node_core.item.Item.TheVariants.{Peer, Tick, Opened, Bytes, Ended, Expel, Cut, Crash}
 use Rattle.world_base.specs.declared.node_core.Port.{Port}
 use Rattle.world_base.specs.node_connections.Connections.{fresh, is_at, awaits_first_packet, is_listed, is_open_at, is_open_named, is_proposed}
 use Rattle.world_base.specs.node_connections.ConnectionChanges.{noted_proposed, changed_where, closed_connection, failing, nothing_pending, with_unread, left_with, max_pending, with_queued, putting}
 use Rattle.world_base.specs.node_core.Core.{CoreState, StepOutcome, serves}
-use Rattle.world_base.specs.node_core.Handing.{hands_over, left_by, listed_at}
+use Rattle.world_base.specs.node_core.PortOutput.{hands_over, left_by, listed_at}
 use Rattle.world_base.specs.node_core.KeepAlive.{ends_if, ends_silent}
 use Rattle.world_base.specs.node_connections.Silent.{lowest_silent}
-use Rattle.world_base.specs.node_core.Reading.{takes_first_packet, changes, port_closed, loses, loses_open, open_at, reads, reads_next, reads_of, proposes_packet, unread_of}
-use Rattle.world_base.specs.node_connections.Refusing.{connect_refused}
+use Rattle.world_base.specs.node_core.PacketInput.{takes_first_packet, changes, port_closed, loses, loses_open, open_at, reads, reads_next, reads_of, proposes_packet, unread_of}
+use Rattle.world_base.specs.node_connections.Refusals.{connect_refused}
 use Rattle.world_base.specs.node_core.Step.{acts_on, next_name, with_next_connection, does_item, cuts, with_cut}
 use Rattle.world_base.specs.node_core.Effects.{changes_named, drives, has_room, outcome_of_input, proposes, without_messages, repeated, with_effect}
 use Rattle.headline.specs.node_moves.Moves.{NodeCall, done}

@@ -22,20 +22,20 @@ use Rattle.world_base.specs.declared.node_core.Port.{Port}
 use Rattle.world_base.specs.node_connections.Connections.{has_failed, is_at}
 use Rattle.world_base.specs.node_connections.ConnectionChanges.{noted_proposed, closed_connection, failing, with_unread, left_with, with_queued}
 use Rattle.world_base.specs.node_core.Core.{CoreState}
-use Rattle.world_base.specs.node_core.Failing.{closes_failed}
+use Rattle.world_base.specs.node_core.FailedConnections.{closes_failed}
 use Rattle.world_base.specs.node_core.Lossy.{Account, HandlesAll, Drives, Repeated, Performs, TakesCommand, Then, without_effects}
 use Rattle.world_base.specs.node_core.LossyProposals.{Declines, ProposesCommand}
 use Rattle.world_base.specs.node_core.LossyProposals.Declines.{no_room, forgets, stops}
 use Rattle.world_base.specs.node_core.Lossy.HandlesAll.{nothing, does, sends, loses}
 use Rattle.world_base.specs.node_core.LossyStep.{ActsOn, HoldsBytes, ReportsAllFailed, AcceptsConnection, ReadsPackets, RunsOn, DoesItem}
 use Rattle.world_base.specs.node_core.LossyEndings.{EndsConnection, EndsSilent, ReportsFailed}
-use Rattle.world_base.specs.node_core.LossyReading.{TakesOr, TakesFirstPacket, ClosesConnection, ReadsNext, Shuts}
+use Rattle.world_base.specs.node_core.LossyPacketInput.{TakesOr, TakesFirstPacket, ClosesConnection, ReadsNext, Shuts}
 use Rattle.world_base.specs.node_core.LossyEndings.EndsConnection.{none_open, unproposed, proposed}
 use Rattle.world_base.specs.node_core.LossyEndings.EndsSilent.{none_silent, ends_one}
 use Rattle.world_base.specs.node_core.LossyEndings.ReportsFailed.{none_failed, tells_one}
-use Rattle.world_base.specs.node_core.LossyReading.ReadsNext.{waits, first, later, refuses, ends}
-use Rattle.world_base.specs.node_core.Reading.{changes, open_at, unread_of}
-use Rattle.world_base.specs.node_connections.Refusing.{connect_refused}
+use Rattle.world_base.specs.node_core.LossyPacketInput.ReadsNext.{waits, first, later, refuses, ends}
+use Rattle.world_base.specs.node_core.PacketInput.{changes, open_at, unread_of}
+use Rattle.world_base.specs.node_connections.Refusals.{connect_refused}
 use Rattle.world_base.specs.node_core.Step.{with_next_connection}
 use Rattle.headline.proofs.of_node_moves.EachKept.{each_settled}
 use Rattle.headline.proofs.of_node_moves.Kept.{failing_over, left_true, live}

@@ -19,7 +19,7 @@ use Rattle.world_base.specs.declared.node_core.Connection.{Connection as NodesEn
 use Rattle.world_base.specs.declared.node_core.item.Item.TheVariants.{Opened}
 use Rattle.world_base.specs.declared.node_core.Port.{Port}
 use Rattle.world_base.specs.node_core.Core.{CoreState}
-use Rattle.world_base.specs.node_core.Handing.{listed_at}
+use Rattle.world_base.specs.node_core.PortOutput.{listed_at}
 use Rattle.world_base.specs.node_core.Step.{next_name}
 use Rattle.headline.specs.node_moves.Ends.{IsGiven, Precedes}
 use Rattle.headline.specs.node_moves.Moves.NodeCall.{takes}

@@ -8,7 +8,7 @@ use Rattle.broker_spec.specs.declared.command.Command.TheVariants as commands
 use Rattle.world_base.specs.node_connections.ConnectionChanges.{noted_proposed, closed_connection, failing, left_with}
 use Rattle.world_base.specs.node_core.Core.{CoreState, StepOutcome, rules}
 use Rattle.world_base.specs.node_core.Lossy.{Account, TakesCommand}
-use Rattle.world_base.specs.node_core.Reading.{changes}
+use Rattle.world_base.specs.node_core.PacketInput.{changes}
 use Rattle.headline.specs.node_moves.LossyMoves.{NodeMoveOrLost}
 use Rattle.headline.specs.node_moves.LossyParts.{hears_in}
 use Rattle.headline.specs.node_moves.LossyMoves.NodeMoveOrLost.{exactly, hears_losing, first_losing, later_losing, tells_losing, expels_losing, forgets, halts, fails, unheard, drops}

@@ -30,9 +30,9 @@ use Rattle.headline.specs.node_group.Group.{Group, group_after_outcome, moment_o
 use Rattle.headline.specs.node_group.Steps.{GroupStep, GroupTrace, all_proposed, after_assign, groups_on_trace, put_in_run, put_in_step}
 use Rattle.headline.specs.node_group.Steps.GroupStep.{node_acts, node_loses, master_assigns, master_hears, assigns_unheard, answers_unheard}
 use Rattle.headline.specs.node_group.Steps.GroupTrace.{opened, then_went}
-use Rattle.headline.specs.node_group.Losing.{WereSent}
-use Rattle.headline.specs.node_group.Losing.{all_given as given_losing, put_in_run as put_losing}
-use Rattle.headline.specs.node_group.Putting.{recorded_in}
+use Rattle.headline.specs.node_group.Losses.{WereSent}
+use Rattle.headline.specs.node_group.Losses.{all_given as given_losing, put_in_run as put_losing}
+use Rattle.headline.specs.node_group.Proposals.{recorded_in}
 use Rattle.headline.specs.node_group.Order.{packet_commands}
 use Rattle.headline.specs.node_group.GroupMoments.{HasMoments}
 use Rattle.headline.proofs.of_node_group.GroupsHaveMoments.{goes_on, groups_have_moments, seen_still}
@@ -55,7 +55,7 @@ nodes_stay : {x : ConnectionName} {written : List Packet} {later : List ℕ} (g 
     (xs ys : List Command) → h.nodes ≡ g.nodes → ((z : Moment State Command Output) → In z moments → In z more) → IsPrefixOf xs ys
     → Stands x written later g moments put sent xs → Stands x written later h more put sent ys
 nodes_stay g h moments more xs ys same kept grown (inl u) =
-    inl (record { nowhere = λ n core at. u.nowhere n core (ap (λ l. slice_get l n) (sym same) ∙ at); unsaid = u.unsaid; piped = u.piped; unsent = u.unsent })
+    inl (record { nowhere = λ n core at. u.nowhere n core (ap (λ l. slice_get l n) (sym same) ∙ at); unsaid = u.unsaid; piped = u.piped; queued = u.queued })
 nodes_stay g h moments more xs ys same kept grown (inr held) =
     inr (record {
       n = held.n;
@@ -145,7 +145,7 @@ carried_at_first nodes config can =
             nowhere = λ n core at. ap (find (named x)) (each_got (λ (c : CoreState). c.connections ≡ []) (opening_cores nodes config) n core (no_connections nodes config) at);
             unsaid = refl;
             piped = record { rest = written; is = refl; joined = joined; sound = refl };
-            unsent = refl;
+            queued = refl;
           });
     }
 
@@ -183,7 +183,7 @@ carried : (x : ConnectionName) (written : List Packet) (later : List ℕ) (g : G
 carried x written later g moments put sent agreed said (inl u) =
     record {
       up = prefix_then (subst (IsPrefixOf (packet_commands x agreed)) u.unsaid said) (record { rest = packet_commands_from x 0 written; is = refl });
-      down = record { rest = answers_to x agreed; is = ap (λ l. l ++ answers_to x agreed) (sym u.unsent) };
+      down = record { rest = answers_to x agreed; is = ap (λ l. l ++ answers_to x agreed) (sym u.queued) };
     }
 carried x written later g moments put sent agreed said (inr held) =
     let front = front_of x held.core written held.read later held.end in

@@ -14,7 +14,7 @@ use Rattle.exactly_once.specs.StoryCommands.{is_packet_of}
 use Rattle.world_base.specs.declared.node_core.Port.{Port}
 use Rattle.world_base.specs.declared.node_core.Connection.{Connection}
 use Rattle.world_base.specs.node_core.Core.{CoreState, StepOutcome, serves}
-use Rattle.world_base.specs.node_core.Reading.{open_at}
+use Rattle.world_base.specs.node_core.PacketInput.{open_at}
 use Rattle.headline.specs.node_moves.Closed.{exact_refusal}
 use Rattle.headline.specs.node_moves.Ends.{IsEnd, IsGiven, IsOrderly, open_named, piece_on}
 use Rattle.headline.specs.node_moves.Ends.{came_on as exactly_came, move_proposal as exactly_proposed}
@@ -30,7 +30,7 @@ use Rattle.headline.proofs.of_node_moves.ReadsInOrder.{found_given, found_open}
 use Rattle.headline.proofs.of_node_moves.Views.{some_none}
 use Rattle.broker_spec.proofs.ConnectionNames.{same_name}
 use Rattle.headline.specs.node_group.Steps.{commands_put as exactly_put}
-use Rattle.headline.specs.node_group.Losing.{commands_put}
+use Rattle.headline.specs.node_group.Losses.{commands_put}
 use Rattle.headline.specs.node_group.Order.{packet_commands}
 
 -- ---- no open connection

@@ -11,7 +11,7 @@ use Rattle.world_base.specs.declared.node_core.Connection.{Connection}
 use Rattle.world_base.specs.node_connections.Connections.{fresh, is_at, is_listed}
 use Rattle.world_base.specs.node_connections.ConnectionChanges.{changed_where, closed_connection, nothing_pending}
 use Rattle.world_base.specs.node_core.Core.{CoreState, StepOutcome, serves}
-use Rattle.world_base.specs.node_core.Handing.{hands_over, left_by}
+use Rattle.world_base.specs.node_core.PortOutput.{hands_over, left_by}
 use Rattle.world_base.specs.node_core.Step.{next_name, with_next_connection, settled}
 use Rattle.headline.specs.node_moves.Closed.{listed_named}
 use Rattle.headline.specs.node_moves.Ends.{IsOrderly}

@@ -17,9 +17,9 @@ use Rattle.headline.specs.node_group.Group.{Group, group_after_outcome, moment_o
 use Rattle.headline.specs.node_group.Steps.{GroupStep, all_given, all_proposed, after_assign, groups_on_trace, put_in_step}
 use Rattle.headline.specs.node_group.Steps.GroupStep.{node_acts, node_loses, master_assigns as assigns, master_hears as hears_master, assigns_unheard, answers_unheard}
 use Rattle.headline.specs.node_group.Steps.GroupTrace.{opened, then_went}
-use Rattle.headline.specs.node_group.Losing.{WereSent}
-use Rattle.headline.specs.node_group.Losing.{all_given as given_losing, put_in_run as put_losing}
-use Rattle.headline.specs.node_group.Putting.{recorded_in}
+use Rattle.headline.specs.node_group.Losses.{WereSent}
+use Rattle.headline.specs.node_group.Losses.{all_given as given_losing, put_in_run as put_losing}
+use Rattle.headline.specs.node_group.Proposals.{recorded_in}
 use Rattle.headline.specs.node_group.GroupMoments.{GroupsHaveMoments, packets_in}
 use Rattle.headline.proofs.of_node_group.LosingNone.{frozen_losing, losing_none, same_given, same_put, same_recorded, sent_losing}
 use Rattle.headline.proofs.of_node_group.MovesHappen.{Further, by_event}

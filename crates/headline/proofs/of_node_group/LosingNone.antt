@@ -5,7 +5,7 @@ use Rattle.broker_spec.specs.Connection.{ConnectionName}
 use Rattle.world_base.specs.node_core.Core.{CoreState, StepOutcome}
 use Rattle.headline.specs.node_moves.Ends.{came_on}
 use Rattle.headline.specs.node_moves.RunProposals.{bytes_on}
-use Rattle.headline.specs.node_moves.Hearing.{HearsAtFirst, IsCalm}
+use Rattle.headline.specs.node_moves.Receipts.{HearsAtFirst, IsCalm}
 use Rattle.headline.specs.node_moves.LossyParts.{inputs_of}
 use Rattle.headline.specs.node_moves.LossyRuns.{AllFreeze, CutsThaw, MoveTraceOrLost, all_inputs}
 use Rattle.headline.specs.node_moves.LossyRuns.{HearsAtFirst as FirstLosing, HearsNothing as CalmLosing, bytes_on as bytes_losing}
@@ -17,9 +17,9 @@ use Rattle.headline.specs.node_moves.Moves.MoveTrace.{rests, goes_on}
 use Rattle.headline.specs.node_moves.Puts.{move_effects}
 use Rattle.headline.specs.node_group.Group.{Group}
 use Rattle.headline.specs.node_group.Steps.{AllWasSent, WasSent, all_given, put_in_move, put_in_run}
-use Rattle.headline.specs.node_group.Losing.{WereSent}
-use Rattle.headline.specs.node_group.Losing.{all_given as given_losing, put_in_run as put_losing, recorded_in as recorded_losing}
-use Rattle.headline.specs.node_group.Putting.{recorded_by, recorded_in}
+use Rattle.headline.specs.node_group.Losses.{WereSent}
+use Rattle.headline.specs.node_group.Losses.{all_given as given_losing, put_in_run as put_losing, recorded_in as recorded_losing}
+use Rattle.headline.specs.node_group.Proposals.{recorded_by, recorded_in}
 
 abbrev pub losing_none : {core : CoreState} {outcome : StepOutcome} → MoveTrace core outcome → MoveTraceOrLost core outcome
 losing_none rests = rests_losing

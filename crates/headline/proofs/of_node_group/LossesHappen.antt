@@ -7,8 +7,8 @@ use Rattle.ballot_base.specs.Losses.{Loses, Thinned}
 use Rattle.ballot_base.specs.Protocol.{Input}
 use Rattle.ballot_base.specs.Protocol.Input.{Proposes}
 use Rattle.ballot_base.specs.Replica.{CountedReplica, ReplicaState, is_active}
-use Rattle.ballot_base.specs.Sending.{Outcome, nothing_done}
-use Rattle.ballot_base.specs.Serving.{added, max_places, proposed}
+use Rattle.ballot_base.specs.StepOutcome.{Outcome, nothing_done}
+use Rattle.ballot_base.specs.Service.{added, max_places, proposed}
 use Rattle.ballot_base.proofs.StepRows.{proposed-adds}
 use Rattle.broker_base.specs.State.{State}
 use Rattle.broker_spec.specs.declared.command.Command.{Command}
@@ -19,7 +19,7 @@ use Rattle.agreement.specs.cut_logs.World.{messages, outputs}
 use Rattle.world_base.specs.node_connections.ConnectionChanges.{noted_proposed, closed_connection, failing, left_with}
 use Rattle.world_base.specs.node_core.Core.{CoreState, StepOutcome, rules, serves}
 use Rattle.world_base.specs.node_core.Lossy.{Account, Drives, TakesCommand}
-use Rattle.world_base.specs.node_core.Reading.{changes}
+use Rattle.world_base.specs.node_core.PacketInput.{changes}
 use Rattle.world_base.specs.node_core.Effects.{has_room, outcome_of_input}
 use Rattle.headline.specs.node_moves.LossyMoves.{NodeMoveOrLost, outcome_in}
 use Rattle.headline.specs.node_moves.LossyParts.{move_effects, inputs_in}
@@ -29,7 +29,7 @@ use Rattle.headline.specs.node_moves.Moves.{is_proposal}
 use Rattle.headline.proofs.of_node_moves.LossyOutputs.{delivers_replica}
 use Rattle.headline.specs.node_group.Group.{Group, group_after_outcome, moment_of_nodes, replica_of, with_record}
 use Rattle.headline.specs.node_group.Steps.{InputWasSent, with_messages}
-use Rattle.headline.specs.node_group.Losing.{WereSent, put_in_move, recorded_by}
+use Rattle.headline.specs.node_group.Losses.{WereSent, put_in_move, recorded_by}
 use Rattle.headline.proofs.of_node_group.LosingNone.{sent_by}
 use Rattle.headline.proofs.of_node_group.MovesHappen.{Once, changed_state, heard_as_running, heard_as_stopped, may_take, moves_happen, no_step, none_put, one_step, one_stop, happens_without_messages, room_is, state_of}
 use Rattle.headline.proofs.of_node_group.Packets.{AreTaken, none_taken, proposal_taken}

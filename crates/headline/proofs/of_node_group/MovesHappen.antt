@@ -4,7 +4,7 @@ use Rattle.std.proofs.lemmas.List.{append-nil, length-take-le}
 use Rattle.lists.specs.Lists.{In, IsPrefixOf}
 use Rattle.lists.proofs.Prefixes.{prefix_length}
 use Rattle.lists.proofs.Tests.{eq_same}
-use Rattle.agreement.specs.whole_logs.Applying.{outputs_between}
+use Rattle.agreement.specs.whole_logs.Application.{outputs_between}
 use Rattle.lists.specs.Lists.In.{there}
 use Rattle.ballot_base.specs.declared.config.Config.{Config}
 use Rattle.ballot_base.specs.Logs.{places}
@@ -13,8 +13,8 @@ use Rattle.ballot_base.specs.declared.message.Message.{Message}
 use Rattle.ballot_base.specs.Protocol.{Input, replica_step}
 use Rattle.ballot_base.specs.Protocol.Input.{Receives, Proposes, Ticks}
 use Rattle.ballot_base.specs.Replica.{CountedReplica, ReplicaState}
-use Rattle.ballot_base.specs.Sending.{Outcome, nothing_done}
-use Rattle.ballot_base.specs.Serving.{max_places, proposed}
+use Rattle.ballot_base.specs.StepOutcome.{Outcome, nothing_done}
+use Rattle.ballot_base.specs.Service.{max_places, proposed}
 use Rattle.broker_base.specs.State.{State}
 use Rattle.broker_spec.specs.declared.command.Command.{Command}
 use Rattle.broker_spec.specs.declared.command.Command.TheVariants as commands
@@ -22,8 +22,8 @@ use Rattle.broker_spec.specs.declared.command.Output.{Output}
 use Rattle.broker_spec.specs.Connection.{ConnectionName}
 use Rattle.exactly_once.specs.StoryCommands.{is_packet_of}
 use Rattle.agreement.specs.MasterState.{MasterState}
-use Rattle.agreement.specs.Giving.{GivesNext}
-use Rattle.agreement.specs.cut_logs.Giving.{given_in as gives_in}
+use Rattle.agreement.specs.NodeOutputs.{GivesNext}
+use Rattle.agreement.specs.cut_logs.NodeOutputs.{given_in as gives_in}
 use Rattle.agreement.specs.World.{outputs as whole_outputs}
 use Rattle.agreement.specs.cut_logs.Moments.{Moment, Moments, IsAgreed, whole_moment}
 use Rattle.agreement.specs.cut_logs.Whole.{whole, whole_log}
@@ -47,24 +47,24 @@ use Rattle.agreement.proofs.Given.StepGives.{from_active}
 use Rattle.world_base.specs.declared.node_core.Connection.{Connection}
 use Rattle.world_base.specs.declared.node_core.Port.{Port}
 use Rattle.world_base.specs.node_core.Core.{CoreState, StepOutcome, rules, serves}
-use Rattle.world_base.specs.node_core.Failing.{closes_failed}
-use Rattle.world_base.specs.node_core.Reading.{changes}
+use Rattle.world_base.specs.node_core.FailedConnections.{closes_failed}
+use Rattle.world_base.specs.node_core.PacketInput.{changes}
 use Rattle.world_base.specs.node_core.Effects.{drives, has_room, outcome_of_input, after_replica_step, proposes, without_messages}
 use Rattle.world_base.specs.node_connections.ConnectionChanges.{noted_proposed, closed_connection, with_unread, left_with}
-use Rattle.world_base.specs.node_core.Handing.{hands_over}
-use Rattle.world_base.specs.node_connections.Refusing.{connect_refused}
+use Rattle.world_base.specs.node_core.PortOutput.{hands_over}
+use Rattle.world_base.specs.node_connections.Refusals.{connect_refused}
 use Rattle.world_base.specs.node_core.Step.{with_next_connection, settled, with_cut}
 use Rattle.headline.specs.node_moves.Moves.{NodeMove, is_proposal}
 use Rattle.headline.specs.node_moves.Moves.NodeMove.{hears, opens_one, holds, reads_first, reads_later, closes, refuses, loses_one, loses_next, expels_one, cuts_log, crashes, settles, hands}
 use Rattle.headline.specs.node_moves.Puts.{move_effects}
-use Rattle.ballot_base.specs.Cutting.{can_cut, cut}
+use Rattle.ballot_base.specs.Compaction.{can_cut, cut}
 use Rattle.agreement.specs.cut_logs.World.{recorded}
 use Rattle.std.specs.Prelude.{not}
 use Rattle.std.proofs.lemmas.Bool.{and_parts, ltb-true}
 use Rattle.headline.specs.node_group.Group.{Group, group_after_outcome, moment_of_nodes, replica_of, with_record}
 use Rattle.headline.specs.node_group.Steps.{InputWasSent, WasSent, with_messages, put_in_move}
 use Rattle.headline.specs.node_group.GroupMoments.{packets_in}
-use Rattle.headline.specs.node_group.Putting.{recorded_by}
+use Rattle.headline.specs.node_group.Proposals.{recorded_by}
 use Rattle.headline.proofs.of_node_group.Packets.{AreTaken, HasRoomFor, none_taken, packets_join, proposal_taken}
 use Rattle.headline.proofs.of_node_group.Placed.{get_mapped, set_mapped, set_same}
 use Rattle.headline.proofs.of_node_group.Thinning.{Given, KeptOf, kept_of_all, nothing_kept}

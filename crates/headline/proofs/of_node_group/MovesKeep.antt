@@ -16,7 +16,7 @@ use Rattle.agreement.specs.cut_logs.Moments.{Moment, Moments, IsAgreed}
 use Rattle.agreement.specs.Proposals.{commands_of as commands_in}
 use Rattle.agreement.specs.cut_logs.World.{outputs}
 use Rattle.agreement.proofs.of_cut_logs.MomentsAgree.{one_primary_a_ballot}
-use Rattle.agreement.specs.cut_logs.Agreeing.{IsPrimary}
+use Rattle.agreement.specs.cut_logs.AgreedLists.{IsPrimary}
 use Rattle.headline.specs.node_moves.Pipe.{IsPiped}
 use Rattle.exactly_once.specs.Sends.{sends_to}
 use Rattle.headline.proofs.of_packet_world.Answers.{counted_in, nothing_put}
@@ -26,7 +26,7 @@ use Rattle.world_base.specs.node_core.Core.{CoreState, StepOutcome, rules}
 use Rattle.headline.specs.node_moves.Closed.{listed_named}
 use Rattle.headline.specs.node_moves.Ends.{IsEnd, IsGiven, IsOrderly, packet_commands_from, open_named, stream_of}
 use Rattle.headline.specs.node_moves.Ends.IsEnd.{not_yet}
-use Rattle.headline.specs.node_moves.LossyLaws.{ReadsOn}
+use Rattle.headline.specs.node_moves.LossyTheorems.{ReadsOn}
 use Rattle.headline.specs.node_moves.LossyMoves.{NodeMoveOrLost}
 use Rattle.headline.specs.node_moves.LossyParts.{came_on, move_effects, move_proposal, refusal_in}
 use Rattle.headline.specs.node_moves.Puts.{outputs_of, spelled}
@@ -38,7 +38,7 @@ use Rattle.headline.proofs.of_node_moves.LossyShuts.{sent_in}
 use Rattle.headline.proofs.of_node_moves.ProposesInOrder.{commands_join}
 use Rattle.headline.specs.node_group.Group.{Group, group_after_outcome, moment_of_nodes, replica_of, with_record}
 use Rattle.headline.specs.node_group.Steps.{with_messages}
-use Rattle.headline.specs.node_group.Losing.{commands_put, put_in_move, recorded_by}
+use Rattle.headline.specs.node_group.Losses.{commands_put, put_in_move, recorded_by}
 use Rattle.headline.specs.node_group.Order.{packet_commands}
 use Rattle.headline.proofs.of_node_group.MovesHappen.{Once}
 use Rattle.headline.proofs.of_node_group.Placed.{get_mapped, get_of_set}
@@ -172,7 +172,7 @@ untouched_keeps {g = g} {earlier = earlier} {a = a} {core = core} {outcome = out
           said = packets_more x put m ∙ ap (λ l. l ++ packet_commands x (commands_put m)) u.unsaid ∙ packets_put x core outcome m ∙ r.proposed;
           others = elsewhere d there;
           sent = subst (Down x (replica_of outcome.core) (down ++ handed_on x m) ys) (sym there)
-              (shows (replica_of outcome.core).committed lives h.sends.inside (rw (u.unsent, no_bytes, empty) (sym
+              (shows (replica_of outcome.core).committed lives h.sends.inside (rw (u.queued, no_bytes, empty) (sym
               (none_answered x ys (replica_of outcome.core).committed (nothing_before (packet_commands x ys) (subst (IsPrefixOf (packet_commands x ys)) silent h.said))))) (λ e. refl));
         })
 
@@ -182,7 +182,7 @@ untouched_keeps {g = g} {earlier = earlier} {a = a} {core = core} {outcome = out
           nowhere = still_nowhere there;
           unsaid = silent;
           piped = subst (λ (l : List ℕ). IsPiped written [] (stream_of []) l) quiet u.piped;
-          unsent = ap (λ l. l ++ handed_on x m) u.unsent ∙ e;
+          queued = ap (λ l. l ++ handed_on x m) u.queued ∙ e;
         })
     by (Some d) there (begins e lives empty) = opened d there e lives empty
 

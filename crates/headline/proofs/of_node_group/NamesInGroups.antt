@@ -16,7 +16,7 @@ use Rattle.world_base.specs.node_core.LossyStep.{RunsOn}
 use Rattle.world_base.specs.node_core.Step.{acts_on, settled}
 use Rattle.headline.specs.node_moves.Closed.{listed_named}
 use Rattle.headline.specs.node_moves.Ends.{IsOrderly}
-use Rattle.headline.specs.node_moves.Keeping.{AreOfTheBallot}
+use Rattle.headline.specs.node_moves.BallotNames.{AreOfTheBallot}
 use Rattle.headline.specs.node_moves.LossyNames.{AreWhereItServes}
 use Rattle.headline.specs.node_moves.Moves.{NodeCall, done}
 use Rattle.headline.specs.node_moves.Moves.NodeCall.{takes, hands_out}

@@ -5,7 +5,7 @@ use Rattle.ballot_base.specs.declared.config.Config.{Config}
 use Rattle.ballot_base.specs.declared.message.Effect.{Effect}
 use Rattle.ballot_base.specs.declared.message.Effect.TheVariants.{To, Out}
 use Rattle.ballot_base.specs.Replica.{opening}
-use Rattle.ballot_base.specs.Sending.{is_message}
+use Rattle.ballot_base.specs.StepOutcome.{is_message}
 use Rattle.broker_spec.specs.declared.command.Command.{Command}
 use Rattle.broker_spec.specs.declared.command.Output.{Output}
 use Rattle.agreement.specs.cut_logs.World.{messages}

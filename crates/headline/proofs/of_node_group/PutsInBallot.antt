@@ -6,7 +6,7 @@ use Rattle.lists.specs.Lists.{Each, In}
 use Rattle.lists.specs.Lists.In.{here}
 use Rattle.lists.proofs.OfEach.{each_append}
 use Rattle.ballot_base.specs.Logs.{places}
-use Rattle.ballot_base.specs.Serving.{max_places}
+use Rattle.ballot_base.specs.Service.{max_places}
 use Rattle.broker_spec.specs.declared.command.Command.{Command}
 use Rattle.broker_spec.specs.declared.command.Command.TheVariants as commands
 use Rattle.broker_spec.specs.Connection.{ConnectionName}
@@ -14,9 +14,9 @@ use Rattle.exactly_once.specs.StoryCommands.{is_packet_of}
 use Rattle.world_base.specs.node_connections.ConnectionChanges.{noted_proposed, left_with}
 use Rattle.world_base.specs.node_core.Core.{CoreState, StepOutcome, serves}
 use Rattle.world_base.specs.node_core.Lossy.{Account, TakesCommand}
-use Rattle.world_base.specs.node_core.Reading.{changes}
+use Rattle.world_base.specs.node_core.PacketInput.{changes}
 use Rattle.headline.specs.node_moves.Ends.{IsOrderly}
-use Rattle.headline.specs.node_moves.Keeping.{AreOfTheBallot}
+use Rattle.headline.specs.node_moves.BallotNames.{AreOfTheBallot}
 use Rattle.headline.specs.node_moves.LossyNames.{AreWhereItServes}
 use Rattle.headline.specs.node_moves.LossyMoves.{NodeMoveOrLost}
 use Rattle.headline.specs.node_moves.LossyParts.{move_proposal}
@@ -29,7 +29,7 @@ use Rattle.headline.proofs.of_node_moves.LossyNames.{lossy_names_keep_their_ball
 use Rattle.headline.proofs.of_node_moves.LossyReads.{losses_read_in_order}
 use Rattle.headline.specs.node_group.Ballots.{IsInItsBallot}
 use Rattle.headline.specs.node_group.Group.{replica_of}
-use Rattle.headline.specs.node_group.Losing.{put_in_move, put_in_run}
+use Rattle.headline.specs.node_group.Losses.{put_in_move, put_in_run}
 use Rattle.headline.specs.node_group.Steps.{put_in_move as exactly_put}
 use Rattle.headline.proofs.of_node_group.MovesHappen.{serves_as}
 use Rattle.headline.proofs.of_node_group.Replicas.{changes_keep, room_serves}

@@ -5,7 +5,7 @@ use Rattle.std.proofs.lemmas.Bool.{and_parts, ltb-true}
 use Rattle.broker_spec.specs.declared.command.Command.{Command}
 use Rattle.agreement.specs.cut_logs.World.{recorded}
 use Rattle.world_base.specs.node_core.Core.{CoreState, StepOutcome}
-use Rattle.headline.specs.node_moves.Keeping.{moves_replica}
+use Rattle.headline.specs.node_moves.BallotNames.{moves_replica}
 use Rattle.headline.specs.node_moves.LossyMoves.{NodeMoveOrLost}
 use Rattle.headline.specs.node_moves.LossyParts.{hears_in, inputs_in, inputs_of}
 use Rattle.headline.specs.node_moves.LossyMoves.NodeMoveOrLost.{exactly, hears_losing}
@@ -16,8 +16,8 @@ use Rattle.headline.specs.node_moves.Moves.NodeMove.{hears, cuts_log, crashes}
 use Rattle.headline.proofs.of_node_moves.BaseStays.{calm_base, calm_run_base}
 use Rattle.headline.proofs.of_node_moves.LossyRuns.{calm_cuts_none, still_cuts}
 use Rattle.headline.specs.node_group.Group.{replica_of}
-use Rattle.headline.specs.node_group.Losing.{recorded_by, recorded_in}
-use Rattle.headline.specs.node_group.Putting.{recorded_by as exactly_recorded}
+use Rattle.headline.specs.node_group.Losses.{recorded_by, recorded_in}
+use Rattle.headline.specs.node_group.Proposals.{recorded_by as exactly_recorded}
 
 -- ---- no log is cut
 

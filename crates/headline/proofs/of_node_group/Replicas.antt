@@ -5,7 +5,7 @@ use Rattle.packet.specs.Spelling.{spelling}
 use Rattle.ballot_base.specs.declared.message.Effect.{Effect}
 use Rattle.ballot_base.specs.declared.message.Effect.TheVariants.{To, Out}
 use Rattle.ballot_base.specs.Replica.{CountedReplica, is_active}
-use Rattle.ballot_base.specs.Sending.{Outcome}
+use Rattle.ballot_base.specs.StepOutcome.{Outcome}
 use Rattle.broker_base.specs.State.{State}
 use Rattle.broker_spec.specs.declared.command.Command.{Command}
 use Rattle.broker_spec.specs.declared.command.Output.{Output}
@@ -15,8 +15,8 @@ use Rattle.world_base.specs.declared.node_core.Port.{Port}
 use Rattle.world_base.specs.declared.node_core.Connection.{Connection}
 use Rattle.world_base.specs.node_connections.ConnectionChanges.{closed_connection, with_queued}
 use Rattle.world_base.specs.node_core.Core.{CoreState, serves}
-use Rattle.world_base.specs.node_core.Handing.{hands_over, left_by, listed_at}
-use Rattle.world_base.specs.node_core.Reading.{changes}
+use Rattle.world_base.specs.node_core.PortOutput.{hands_over, left_by, listed_at}
+use Rattle.world_base.specs.node_core.PacketInput.{changes}
 use Rattle.world_base.specs.node_core.Step.{with_next_connection, settled}
 use Rattle.world_base.specs.node_core.Effects.{changes_named, after_replica_step, with_effect}
 use Rattle.headline.specs.node_group.Group.{replica_of}

@@ -19,7 +19,7 @@ use Rattle.headline.specs.node_moves.LossyRuns.MoveTraceOrLost.{rests, goes_on}
 use Rattle.headline.specs.node_moves.Moves.{and_then}
 use Rattle.headline.specs.node_group.Group.{Group, group_after_outcome, moment_of_nodes, with_record}
 use Rattle.headline.specs.node_group.Steps.{InputWasSent, with_messages}
-use Rattle.headline.specs.node_group.Losing.{WereSent, all_given, put_in_move, put_in_run, recorded_by, recorded_in}
+use Rattle.headline.specs.node_group.Losses.{WereSent, all_given, put_in_move, put_in_run, recorded_by, recorded_in}
 use Rattle.headline.proofs.of_node_group.LossesHappen.{losses_happen}
 use Rattle.headline.proofs.of_node_group.MovesHappen.{Further, happens_without_messages}
 use Rattle.headline.proofs.of_node_group.Thinning.{Given, KeptOfBoth, kept_of_both}

@@ -19,7 +19,7 @@ use Rattle.world_base.specs.node_connections.Connections.{is_closed}
 use Rattle.world_base.specs.node_core.Core.{CoreState, StepOutcome, rules}
 use Rattle.world_base.specs.node_core.Effects.{without_messages}
 use Rattle.headline.specs.node_moves.Ends.{IsOrderly}
-use Rattle.headline.specs.node_moves.Keeping.{AreOfTheBallot}
+use Rattle.headline.specs.node_moves.BallotNames.{AreOfTheBallot}
 use Rattle.headline.specs.node_moves.LossyMoves.{NodeMoveOrLost}
 use Rattle.headline.specs.node_moves.LossyParts.{came_on, move_effects, hears_in, inputs_in}
 use Rattle.headline.specs.node_moves.LossyRuns.{AllFreeze, CutsThaw, HearsAtFirst, HearsNothing, MoveTraceOrLost, all_inputs, bytes_on}
@@ -31,7 +31,7 @@ use Rattle.headline.proofs.of_node_moves.OpenAfter.{open_if}
 use Rattle.headline.specs.node_group.Ballots.{IsInItsBallot}
 use Rattle.headline.specs.node_group.Group.{Group, group_after_outcome, moment_of_nodes, replica_of, with_record}
 use Rattle.headline.specs.node_group.Steps.{with_messages}
-use Rattle.headline.specs.node_group.Losing.{WereSent, all_given, put_in_move, put_in_run, recorded_by, recorded_in}
+use Rattle.headline.specs.node_group.Losses.{WereSent, all_given, put_in_move, put_in_run, recorded_by, recorded_in}
 use Rattle.headline.specs.node_group.Order.{packet_commands}
 use Rattle.headline.specs.node_group.GroupMoments.{packets_in}
 use Rattle.headline.proofs.of_node_group.LossesHappen.{losses_happen}

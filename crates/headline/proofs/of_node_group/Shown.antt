@@ -15,7 +15,7 @@ use Rattle.broker_base.specs.State.{State}
 use Rattle.lists.specs.Lists.{IsPrefixOf}
 use Rattle.exactly_once.specs.Sends.{put_to, sends_to}
 use Rattle.exactly_once.proofs.Deliveries.{sends_append}
-use Rattle.agreement.specs.Giving.{GivesNext, gives_from}
+use Rattle.agreement.specs.NodeOutputs.{GivesNext, gives_from}
 use Rattle.agreement.specs.cut_logs.World.{outputs}
 use Rattle.agreement.proofs.Given.Places.{none_between}
 use Rattle.agreement.proofs.Given.StepGives.{from_active}

@@ -14,7 +14,7 @@ use Rattle.lists.specs.Lists.In.{here}
 use Rattle.headline.specs.node_moves.Pipe.{IsPiped}
 use Rattle.exactly_once.specs.StoryCommands.{is_packet_of}
 use Rattle.agreement.specs.cut_logs.Moments.{Moment}
-use Rattle.agreement.specs.cut_logs.Agreeing.{IsPrimary}
+use Rattle.agreement.specs.cut_logs.AgreedLists.{IsPrimary}
 use Rattle.agreement.specs.cut_logs.Whole.{whole}
 use Rattle.agreement.proofs.of_cut_logs.Views.{get_whole}
 use Rattle.agreement.specs.Proposals.{commands_of as commands_in}
@@ -29,7 +29,7 @@ use Rattle.headline.proofs.of_node_moves.Kept.{left_true, live, named}
 use Rattle.headline.proofs.of_node_moves.NamesInOrder.{next_precedes}
 use Rattle.headline.proofs.of_node_moves.Views.{and_no, found_each, found_passes, some_none}
 use Rattle.headline.specs.node_group.Group.{Group, moment_of_nodes, replica_of}
-use Rattle.headline.specs.node_group.Losing.{commands_put, put_in_move}
+use Rattle.headline.specs.node_group.Losses.{commands_put, put_in_move}
 use Rattle.headline.specs.node_group.Order.{packet_commands}
 use Rattle.headline.proofs.of_node_group.Placed.{get_mapped}
 use Rattle.headline.proofs.of_node_group.Downward.{Down}
@@ -45,7 +45,7 @@ pub record Untouched (x : ConnectionName) (written : List Packet) (later : List 
   pub nowhere : (n : ℕ) (core : CoreState) → slice_get g.nodes n ≡ Some core → listed_named x core ≡ None
   pub unsaid : packet_commands x (commands_in put) ≡ []
   pub piped : IsPiped written [] (stream_of []) later
-  pub unsent : down ≡ []
+  pub queued : down ≡ []
 
 -- one node has it, or had it
 pub record Held (x : ConnectionName) (written : List Packet) (later : List ℕ) (g : Group) (moments : List (Moment State Command Output)) (put : List (ℕ × Command))

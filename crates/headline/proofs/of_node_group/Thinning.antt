@@ -6,7 +6,7 @@ use Rattle.ballot_base.specs.Losses.{Loses, ReplicaStepOrLost, Thinned}
 use Rattle.ballot_base.specs.Losses.Thinned.{none, keeps, loses}
 use Rattle.ballot_base.specs.declared.message.Message.{Message}
 use Rattle.ballot_base.specs.Replica.{CountedReplica, ReplicaState}
-use Rattle.ballot_base.specs.Sending.{Outcome, is_message}
+use Rattle.ballot_base.specs.StepOutcome.{Outcome, is_message}
 use Rattle.broker_base.specs.State.{State}
 use Rattle.broker_spec.specs.declared.command.Command.{Command}
 use Rattle.broker_spec.specs.declared.command.Output.{Output}

@@ -1,7 +1,7 @@
 -- A move in which a replica receives nothing leaves its log at the base that it has, also one in
 -- which something is lost; a cut moves it to what was applied.
 use Rattle.std.proofs.Common.{◌≡◌, Bool, true, false, if◌then◌else◌, refl, ap, ◌∙◌, subst}
-use Rattle.ballot_base.specs.Cutting.{can_cut}
+use Rattle.ballot_base.specs.Compaction.{can_cut}
 use Rattle.ballot_base.specs.Protocol.Input.{Receives, Proposes, Ticks}
 use Rattle.ballot_base.specs.Replica.{CountedReplica}
 use Rattle.broker_base.specs.State.{State}
@@ -9,7 +9,7 @@ use Rattle.broker_spec.specs.declared.command.Command.{Command}
 use Rattle.broker_spec.specs.declared.command.Command.TheVariants as commands
 use Rattle.world_base.specs.node_connections.ConnectionChanges.{noted_proposed, closed_connection, failing, left_with}
 use Rattle.world_base.specs.node_core.Core.{CoreState, StepOutcome}
-use Rattle.world_base.specs.node_core.Reading.{changes}
+use Rattle.world_base.specs.node_core.PacketInput.{changes}
 use Rattle.world_base.specs.node_core.Step.{node_step}
 use Rattle.world_base.specs.declared.node_core.item.Item.TheVariants.{Cut}
 use Rattle.headline.specs.node_moves.LossyMoves.{NodeMoveOrLost}

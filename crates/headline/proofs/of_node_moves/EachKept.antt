@@ -5,8 +5,8 @@ use Rattle.std.specs.List.{find, fold}
 use Rattle.packet.specs.Spelling.{spelling}
 use Rattle.ballot_base.specs.declared.message.Effect.{Effect}
 use Rattle.ballot_base.specs.declared.message.Effect.TheVariants.{To, Out}
-use Rattle.ballot_base.specs.Sending.{Outcome}
-use Rattle.ballot_base.specs.Serving.{proposed}
+use Rattle.ballot_base.specs.StepOutcome.{Outcome}
+use Rattle.ballot_base.specs.Service.{proposed}
 use Rattle.broker_base.specs.State.{State}
 use Rattle.broker_spec.specs.declared.command.Command.{Command}
 use Rattle.broker_spec.specs.declared.command.Command.TheVariants as commands
@@ -18,7 +18,7 @@ use Rattle.world_base.specs.declared.node_core.Connection.{Connection}
 use Rattle.world_base.specs.node_connections.Connections.{has_failed, is_listed, is_open_named}
 use Rattle.world_base.specs.node_connections.ConnectionChanges.{closed_connection, with_queued}
 use Rattle.world_base.specs.node_core.Core.{CoreState, StepOutcome, rules, serves}
-use Rattle.world_base.specs.node_core.Failing.{closes_failed, reports_failed, reports_if}
+use Rattle.world_base.specs.node_core.FailedConnections.{closes_failed, reports_failed, reports_if}
 use Rattle.world_base.specs.node_core.Step.{settled}
 use Rattle.world_base.specs.node_core.Effects.{without_messages, repeated, with_effect, after_replica_step, proposes, changes_named}
 use Rattle.headline.proofs.of_node_moves.Views.{each_kept, each_mapped, each_filtered}

@@ -4,9 +4,9 @@ use Rattle.std.specs.List.{list_any}
 use Rattle.std.proofs.lemmas.Bool.{ltb-true, eqb-true, and_parts, or_cases}
 use Rattle.machine.specs.Machine.{Rules}
 use Rattle.ballot_base.specs.Logs.{Log, places, pushed}
-use Rattle.ballot_base.specs.Taking.{read_into, taken, with_places}
-use Rattle.ballot_base.specs.Changing.{answers_installed, installs_taken, lacks, waits_for, on_new_ballot, on_join, on_state, on_install}
-use Rattle.ballot_base.specs.Activating.{on_installed, on_activated, on_superseded}
+use Rattle.ballot_base.specs.TakenLog.{read_into, taken, with_places}
+use Rattle.ballot_base.specs.Transfer.{answers_installed, installs_taken, lacks, waits_for, on_new_ballot, on_join, on_state, on_install}
+use Rattle.ballot_base.specs.Activation.{on_installed, on_activated, on_superseded}
 use Rattle.ballot_base.specs.declared.message.Body.{Body}
 use Rattle.ballot_base.specs.declared.message.Body.TheVariants.{NewBallot, Join, State, Install, Installed, Activate, Activated, Superseded, Append, Held, Commit}
 use Rattle.ballot_base.specs.declared.status.Role.{Role}
@@ -14,8 +14,8 @@ use Rattle.ballot_base.specs.declared.status.Role.TheVariants.{Backup, Fetching,
 use Rattle.ballot_base.specs.Protocol.{Input, received, ticked, replica_step}
 use Rattle.ballot_base.specs.Protocol.Input.{Receives, Proposes, Ticks}
 use Rattle.ballot_base.specs.Replica.{ReplicaState, is_active, is_installing}
-use Rattle.ballot_base.specs.Sending.{Outcome, nothing_done}
-use Rattle.ballot_base.specs.Serving.{max_places, least, follows, leads, commit_at, commit, added, proposed, on_append, on_held, on_commit, on_tick_active}
+use Rattle.ballot_base.specs.StepOutcome.{Outcome, nothing_done}
+use Rattle.ballot_base.specs.Service.{max_places, least, follows, leads, commit_at, commit, added, proposed, on_append, on_held, on_commit, on_tick_active}
 use Rattle.headline.proofs.of_node_moves.NamesInOrder.{same_le}
 
 abbrev pub Up : {S C O : Type 0} → ReplicaState S C → Outcome S C O → Type 0

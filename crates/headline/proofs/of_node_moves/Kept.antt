@@ -6,8 +6,8 @@ use Rattle.packet.specs.Spelling.{spelling}
 use Rattle.ballot_base.specs.declared.message.Effect.{Effect}
 use Rattle.ballot_base.specs.declared.message.Effect.TheVariants.{To, Out}
 use Rattle.ballot_base.specs.Protocol.{Input, replica_step}
-use Rattle.ballot_base.specs.Sending.{Outcome, nothing_done}
-use Rattle.ballot_base.specs.Serving.{proposed}
+use Rattle.ballot_base.specs.StepOutcome.{Outcome, nothing_done}
+use Rattle.ballot_base.specs.Service.{proposed}
 use Rattle.broker_base.specs.State.{State}
 use Rattle.broker_spec.specs.declared.command.Command.{Command}
 use Rattle.broker_spec.specs.declared.command.Output.{Output}
@@ -21,9 +21,9 @@ use Rattle.world_base.specs.declared.node_core.ConnectionStage.TheVariants.{Awai
 use Rattle.world_base.specs.node_connections.Connections.{is_closed, is_proposed, is_failed, has_failed, is_at, is_open_at, is_open_named, is_listed}
 use Rattle.world_base.specs.node_connections.ConnectionChanges.{max_pending, closed_connection, failing, with_queued, putting, nothing_pending, changed_where}
 use Rattle.world_base.specs.node_core.Core.{CoreState, StepOutcome, rules, serves}
-use Rattle.world_base.specs.node_core.Failing.{closes_failed}
-use Rattle.world_base.specs.node_core.Handing.{hands_over, left_by, listed_at}
-use Rattle.world_base.specs.node_core.Reading.{changes}
+use Rattle.world_base.specs.node_core.FailedConnections.{closes_failed}
+use Rattle.world_base.specs.node_core.PortOutput.{hands_over, left_by, listed_at}
+use Rattle.world_base.specs.node_core.PacketInput.{changes}
 use Rattle.world_base.specs.node_core.Step.{settled, crashed, with_cut}
 use Rattle.world_base.specs.node_core.Effects.{without_messages, after_replica_step, with_effect, proposes, drives, outcome_of_input, changes_named}
 use Rattle.headline.specs.node_moves.Ends.{AtMostOne, IsGiven, IsOrderly, open_named}

@@ -13,10 +13,10 @@ use Rattle.world_base.specs.node_core.Core.{CoreState, StepOutcome}
 use Rattle.world_base.specs.node_core.Lossy.{Account, both_accounts, without_effects}
 use Rattle.world_base.specs.node_core.LossyStep.{LogCutOrLost, HoldsBytes, ReportsAllFailed, AcceptsConnection, DoesItem}
 use Rattle.world_base.specs.node_core.LossyEndings.{EndsSilent}
-use Rattle.world_base.specs.node_core.LossyReading.{ReadsNext}
+use Rattle.world_base.specs.node_core.LossyPacketInput.{ReadsNext}
 use Rattle.world_base.specs.node_core.LossyStep.LogCutOrLost.{nothing_to_cut, cuts_log as cuts_log_at, forgets_cut}
 use Rattle.world_base.specs.node_core.LossyEndings.EndsConnection.{none_open, unproposed, proposed}
-use Rattle.world_base.specs.node_core.Reading.{changes, open_at, unread_of}
+use Rattle.world_base.specs.node_core.PacketInput.{changes, open_at, unread_of}
 use Rattle.world_base.specs.node_core.Step.{crashed, with_next_connection, settled, with_cut}
 use Rattle.headline.specs.node_moves.Ends.{piece_on}
 use Rattle.headline.specs.node_moves.LossyMoves.{with_loss, outcome_in}

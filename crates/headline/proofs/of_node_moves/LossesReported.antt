@@ -10,7 +10,7 @@ use Rattle.world_base.specs.declared.node_core.ConnectionStage.TheVariants.{Awai
 use Rattle.world_base.specs.node_connections.Connections.{is_proposed, is_failed, has_failed}
 use Rattle.world_base.specs.node_connections.ConnectionChanges.{closed_connection}
 use Rattle.world_base.specs.node_core.Core.{CoreState}
-use Rattle.world_base.specs.node_core.Failing.{closes_failed, reports_failed, reports_if}
+use Rattle.world_base.specs.node_core.FailedConnections.{closes_failed, reports_failed, reports_if}
 use Rattle.world_base.specs.node_core.Step.{acts_on, does_item}
 use Rattle.world_base.specs.node_core.Effects.{without_messages, proposes}
 use Rattle.headline.specs.node_moves.Settled.{EachLossIsReported}

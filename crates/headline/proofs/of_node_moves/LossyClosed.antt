@@ -10,9 +10,9 @@ use Rattle.headline.specs.node_moves.Closed.{listed_named}
 use Rattle.headline.specs.node_moves.Closed.{IsExactlyClosedBy}
 use Rattle.headline.specs.node_moves.Closed.IsExactlyClosedBy.{was_closed as exact_was, closes_now as exact_now}
 use Rattle.headline.specs.node_moves.Ends.{IsOrderly}
-use Rattle.headline.specs.node_moves.LossyLaws.{IsClosedBy, LossesPutNothingOnClosed}
+use Rattle.headline.specs.node_moves.LossyTheorems.{IsClosedBy, LossesPutNothingOnClosed}
 use Rattle.headline.specs.node_moves.LossyNames.{LossyNamesAreOfTheBallot}
-use Rattle.headline.specs.node_moves.LossyLaws.IsClosedBy.{was_closed, closes_now}
+use Rattle.headline.specs.node_moves.LossyTheorems.IsClosedBy.{was_closed, closes_now}
 use Rattle.headline.specs.node_moves.LossyMoves.{NodeMoveOrLost}
 use Rattle.headline.specs.node_moves.LossyMoves.NodeMoveOrLost.{exactly, hears_losing, first_losing, later_losing, tells_losing, expels_losing, forgets, halts, fails, unheard, drops}
 use Rattle.headline.specs.node_moves.Moves.{NodeMove}

@@ -5,7 +5,7 @@ use Rattle.ballot_base.specs.declared.message.Effect.{Effect}
 use Rattle.ballot_base.specs.Losses.{ReplicaStepOrLost}
 use Rattle.ballot_base.specs.Protocol.{Input}
 use Rattle.ballot_base.specs.Replica.{CountedReplica, ReplicaState, is_active}
-use Rattle.ballot_base.specs.Sending.{Outcome}
+use Rattle.ballot_base.specs.StepOutcome.{Outcome}
 use Rattle.broker_base.specs.State.{State}
 use Rattle.broker_spec.specs.declared.command.Command.{Command}
 use Rattle.broker_spec.specs.declared.command.Command.TheVariants as commands
@@ -18,12 +18,12 @@ use Rattle.world_base.specs.node_connections.Connections.{is_closed}
 use Rattle.world_base.specs.node_connections.ConnectionChanges.{noted_proposed, failing, closed_connection, left_with}
 use Rattle.world_base.specs.node_core.Core.{CoreState, StepOutcome, rules, serves}
 use Rattle.world_base.specs.node_core.Lossy.{Account, Drives, TakesCommand}
-use Rattle.world_base.specs.node_core.Reading.{changes}
+use Rattle.world_base.specs.node_core.PacketInput.{changes}
 use Rattle.world_base.specs.node_core.Step.{crashed}
 use Rattle.world_base.specs.node_core.Effects.{drives, outcome_of_input}
 use Rattle.headline.specs.node_moves.Closed.{listed_named}
 use Rattle.headline.specs.node_moves.Ends.{IsOrderly}
-use Rattle.headline.specs.node_moves.Keeping.{AreOfTheBallot, moves_replica}
+use Rattle.headline.specs.node_moves.BallotNames.{AreOfTheBallot, moves_replica}
 use Rattle.headline.specs.node_moves.LossyNames.{AreWhereItServes, LossyNamesKeepTheirBallot}
 use Rattle.headline.specs.node_moves.LossyMoves.{NodeMoveOrLost, halting}
 use Rattle.headline.specs.node_moves.LossyParts.{hears_in, move_proposal}

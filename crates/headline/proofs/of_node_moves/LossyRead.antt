@@ -13,10 +13,10 @@ use Rattle.exactly_once.specs.StoryCommands.{is_packet_of}
 use Rattle.world_base.specs.node_connections.ConnectionChanges.{noted_proposed, left_with}
 use Rattle.world_base.specs.node_core.Core.{CoreState, StepOutcome, rules}
 use Rattle.world_base.specs.node_core.Lossy.{Account, TakesCommand}
-use Rattle.world_base.specs.node_core.Reading.{changes}
+use Rattle.world_base.specs.node_core.PacketInput.{changes}
 use Rattle.headline.specs.node_moves.Ends.{IsEnd, IsOrderly, packet_commands_from}
 use Rattle.headline.specs.node_moves.Ends.IsEnd.{not_yet}
-use Rattle.headline.specs.node_moves.LossyLaws.{LossesAreTaken, LossesProposeInOrder, ReadsOn}
+use Rattle.headline.specs.node_moves.LossyTheorems.{LossesAreTaken, LossesProposeInOrder, ReadsOn}
 use Rattle.headline.specs.node_moves.LossyMoves.{NodeMoveOrLost}
 use Rattle.headline.specs.node_moves.LossyParts.{came_on, move_proposal}
 use Rattle.headline.specs.node_moves.LossyRuns.{MoveTraceOrLost, bytes_on, run_proposals}

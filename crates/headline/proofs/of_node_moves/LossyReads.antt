@@ -20,11 +20,11 @@ use Rattle.world_base.specs.node_connections.Connections.{is_at, awaits_first_pa
 use Rattle.world_base.specs.node_connections.ConnectionChanges.{noted_proposed, closed_connection, failing, left_with}
 use Rattle.world_base.specs.node_core.Core.{CoreState, StepOutcome, rules}
 use Rattle.world_base.specs.node_core.Lossy.{Account, Drives, TakesCommand}
-use Rattle.world_base.specs.node_core.Reading.{changes, open_at}
+use Rattle.world_base.specs.node_core.PacketInput.{changes, open_at}
 use Rattle.world_base.specs.node_core.Effects.{outcome_of_input}
 use Rattle.headline.specs.node_moves.Ends.{IsEnd, IsGiven, IsOrderly, packet_commands_from, is_nothing, open_named, piece_on}
 use Rattle.headline.specs.node_moves.Ends.IsEnd.{is_over}
-use Rattle.headline.specs.node_moves.LossyLaws.{LossesReadInOrder, ReadsOn}
+use Rattle.headline.specs.node_moves.LossyTheorems.{LossesReadInOrder, ReadsOn}
 use Rattle.headline.specs.node_moves.Moves.{NodeMove}
 use Rattle.headline.specs.node_moves.LossyMoves.{NodeMoveOrLost}
 use Rattle.headline.specs.node_moves.LossyParts.{came_on, move_proposal}

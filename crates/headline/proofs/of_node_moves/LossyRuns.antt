@@ -16,26 +16,26 @@ use Rattle.world_base.specs.declared.node_core.Connection.{Connection}
 use Rattle.world_base.specs.node_connections.Connections.{is_at, awaits_first_packet, is_open_at, is_closed}
 use Rattle.world_base.specs.node_connections.ConnectionChanges.{noted_proposed, closed_connection, failing, left_with}
 use Rattle.world_base.specs.node_core.Core.{CoreState, StepOutcome}
-use Rattle.world_base.specs.node_core.Failing.{closes_failed}
+use Rattle.world_base.specs.node_core.FailedConnections.{closes_failed}
 use Rattle.world_base.specs.node_core.Lossy.{Account, Repeated, Then, without_effects}
 use Rattle.world_base.specs.node_core.LossyProposals.{Declines, ProposesCommand}
 use Rattle.world_base.specs.node_core.LossyProposals.Declines.{no_room, forgets as forgets_it, stops}
 use Rattle.world_base.specs.node_core.LossyStep.{ReportsAllFailed}
 use Rattle.world_base.specs.node_core.LossyEndings.{EndsConnection, EndsSilent, ReportsFailed}
-use Rattle.world_base.specs.node_core.LossyReading.{TakesOr, TakesFirstPacket, ClosesConnection, ReadsNext, Shuts}
+use Rattle.world_base.specs.node_core.LossyPacketInput.{TakesOr, TakesFirstPacket, ClosesConnection, ReadsNext, Shuts}
 use Rattle.world_base.specs.node_core.LossyEndings.EndsConnection.{none_open, unproposed, proposed}
 use Rattle.world_base.specs.node_core.LossyEndings.EndsSilent.{none_silent, ends_one}
 use Rattle.world_base.specs.node_core.LossyEndings.ReportsFailed.{none_failed, tells_one}
-use Rattle.world_base.specs.node_core.LossyReading.ReadsNext.{waits, first, later, refuses as refuses_it, ends}
-use Rattle.world_base.specs.node_core.Reading.{changes, open_at}
-use Rattle.world_base.specs.node_connections.Refusing.{connect_refused}
+use Rattle.world_base.specs.node_core.LossyPacketInput.ReadsNext.{waits, first, later, refuses as refuses_it, ends}
+use Rattle.world_base.specs.node_core.PacketInput.{changes, open_at}
+use Rattle.world_base.specs.node_connections.Refusals.{connect_refused}
 use Rattle.world_base.specs.node_core.Effects.{without_messages}
 use Rattle.headline.specs.node_moves.LossyMoves.{NodeMoveOrLost, with_loss, halting, outcome_in}
 use Rattle.headline.specs.node_moves.LossyParts.{came_on, hears_in, inputs_in, is_handing}
 use Rattle.headline.specs.node_moves.LossyRuns.{AllFreeze, CutsNothing, CutsThaw, HandsNothing, HearsAtFirst, HearsNothing, MoveTraceOrLost, all_inputs, bytes_on, cuts_in, exactly_cuts}
 use Rattle.headline.specs.node_moves.LossyMoves.NodeMoveOrLost.{exactly, hears_losing, first_losing, later_losing, tells_losing, expels_losing, forgets, halts, fails, unheard, drops}
 use Rattle.headline.specs.node_moves.LossyRuns.MoveTraceOrLost.{rests, goes_on}
-use Rattle.headline.specs.node_moves.Keeping.{moves_replica}
+use Rattle.headline.specs.node_moves.BallotNames.{moves_replica}
 use Rattle.headline.specs.node_moves.Moves.{NodeMove, and_then}
 use Rattle.headline.specs.node_moves.Moves.NodeMove.{hears, opens_one, holds, reads_first, reads_later, closes, refuses, loses_one, loses_next, expels_one, cuts_log, crashes, settles, hands}
 use Rattle.headline.proofs.of_node_moves.StepsMove.{twice}

@@ -11,11 +11,11 @@ use Rattle.world_base.specs.node_connections.Connections.{has_failed, is_open_na
 use Rattle.world_base.specs.node_connections.ConnectionChanges.{noted_proposed, closed_connection, failing, left_with}
 use Rattle.world_base.specs.node_core.Core.{CoreState, StepOutcome}
 use Rattle.world_base.specs.node_core.Lossy.{Account, Drives, TakesCommand}
-use Rattle.world_base.specs.node_core.Reading.{changes}
+use Rattle.world_base.specs.node_core.PacketInput.{changes}
 use Rattle.world_base.specs.node_core.Effects.{outcome_of_input}
 use Rattle.headline.specs.node_moves.Closed.{listed_named}
 use Rattle.headline.specs.node_moves.Ends.{IsOrderly, open_named}
-use Rattle.headline.specs.node_moves.LossyLaws.{LossesPutInOrder}
+use Rattle.headline.specs.node_moves.LossyTheorems.{LossesPutInOrder}
 use Rattle.headline.specs.node_moves.LossyMoves.{NodeMoveOrLost}
 use Rattle.headline.specs.node_moves.LossyParts.{move_effects, refusal_in}
 use Rattle.headline.specs.node_moves.LossyMoves.NodeMoveOrLost.{exactly, hears_losing, first_losing, later_losing, tells_losing, expels_losing, forgets, halts, fails, unheard, drops}

@@ -5,8 +5,8 @@ use Rattle.packet.specs.Spelling.{spelling}
 use Rattle.ballot_base.specs.declared.message.Effect.{Effect}
 use Rattle.ballot_base.specs.declared.message.Effect.TheVariants.{To, Out}
 use Rattle.ballot_base.specs.Replica.{CountedReplica, ReplicaState, is_active}
-use Rattle.ballot_base.specs.Sending.{Outcome}
-use Rattle.ballot_base.specs.Serving.{proposed}
+use Rattle.ballot_base.specs.StepOutcome.{Outcome}
+use Rattle.ballot_base.specs.Service.{proposed}
 use Rattle.broker_base.specs.State.{State}
 use Rattle.broker_spec.specs.declared.command.Command.{Command}
 use Rattle.broker_spec.specs.Connection.{ConnectionName, is_connection_name}
@@ -17,12 +17,12 @@ use Rattle.world_base.specs.declared.node_core.Connection.{Connection}
 use Rattle.world_base.specs.node_connections.Connections.{fresh, is_at}
 use Rattle.world_base.specs.node_connections.ConnectionChanges.{noted_proposed, closed_connection, left_with, with_queued}
 use Rattle.world_base.specs.node_core.Core.{CoreState, StepOutcome, rules, serves}
-use Rattle.world_base.specs.node_core.Failing.{closes_failed}
-use Rattle.world_base.specs.node_core.Handing.{hands_over, left_by}
-use Rattle.world_base.specs.node_core.Reading.{changes}
+use Rattle.world_base.specs.node_core.FailedConnections.{closes_failed}
+use Rattle.world_base.specs.node_core.PortOutput.{hands_over, left_by}
+use Rattle.world_base.specs.node_core.PacketInput.{changes}
 use Rattle.world_base.specs.node_core.Step.{next_name, with_next_connection, settled}
 use Rattle.world_base.specs.node_core.Effects.{changes_named, after_replica_step, proposes, without_messages, with_effect}
-use Rattle.headline.specs.node_moves.Keeping.{moves_replica}
+use Rattle.headline.specs.node_moves.BallotNames.{moves_replica}
 use Rattle.headline.specs.node_moves.Moves.{NodeMove}
 use Rattle.headline.specs.node_moves.Moves.NodeMove.{hears, opens_one, holds, reads_first, reads_later, closes, refuses, loses_one, loses_next, expels_one, cuts_log, crashes, settles, hands}
 use Rattle.headline.proofs.of_node_moves.ReplicaStays.{Same, proposed_same}

@@ -9,7 +9,7 @@ use Rattle.ballot_base.specs.Losses.{ReplicaStepOrLost}
 use Rattle.ballot_base.specs.Protocol.{Input}
 use Rattle.ballot_base.specs.Protocol.Input.{Receives, Ticks}
 use Rattle.ballot_base.specs.Replica.{CountedReplica, ReplicaState}
-use Rattle.ballot_base.specs.Sending.{Outcome}
+use Rattle.ballot_base.specs.StepOutcome.{Outcome}
 use Rattle.broker_base.specs.State.{State}
 use Rattle.broker_spec.specs.declared.command.Command.{Command}
 use Rattle.broker_spec.specs.declared.command.Command.TheVariants as commands
@@ -23,21 +23,21 @@ use Rattle.world_base.specs.declared.node_core.Connection.{Connection}
 use Rattle.world_base.specs.node_connections.Connections.{fresh, has_failed, is_at, is_open_at, is_open_named}
 use Rattle.world_base.specs.node_connections.ConnectionChanges.{noted_proposed, closed_connection, failing, with_unread, left_with, with_queued, changed_where}
 use Rattle.world_base.specs.node_core.Core.{CoreState, rules, serves}
-use Rattle.world_base.specs.node_core.Failing.{closes_failed}
-use Rattle.world_base.specs.node_core.Handing.{hands_over}
+use Rattle.world_base.specs.node_core.FailedConnections.{closes_failed}
+use Rattle.world_base.specs.node_core.PortOutput.{hands_over}
 use Rattle.world_base.specs.node_core.Lossy.{Account, HandlesAll, Drives, HandledStepOrLost, Repeated, Performs, TakesCommand, Then, without_effects}
 use Rattle.world_base.specs.node_core.LossyProposals.{Declines, ProposesCommand}
 use Rattle.world_base.specs.node_core.LossyProposals.Declines.{no_room, forgets, stops}
 use Rattle.world_base.specs.node_core.Lossy.HandlesAll.{nothing, does, sends, loses}
 use Rattle.world_base.specs.node_core.LossyStep.{ActsOn, HoldsBytes, RunsOn, DoesItem}
 use Rattle.world_base.specs.node_core.LossyEndings.{EndsConnection, EndsSilent, ReportsFailed}
-use Rattle.world_base.specs.node_core.LossyReading.{TakesOr, TakesFirstPacket, ClosesConnection, ReadsNext, Shuts}
+use Rattle.world_base.specs.node_core.LossyPacketInput.{TakesOr, TakesFirstPacket, ClosesConnection, ReadsNext, Shuts}
 use Rattle.world_base.specs.node_core.LossyEndings.EndsConnection.{none_open, unproposed, proposed}
 use Rattle.world_base.specs.node_core.LossyEndings.EndsSilent.{none_silent, ends_one}
 use Rattle.world_base.specs.node_core.LossyEndings.ReportsFailed.{none_failed, tells_one}
-use Rattle.world_base.specs.node_core.LossyReading.ReadsNext.{waits, first, later, refuses, ends}
-use Rattle.world_base.specs.node_core.Reading.{changes, open_at, unread_of}
-use Rattle.world_base.specs.node_connections.Refusing.{connect_refused}
+use Rattle.world_base.specs.node_core.LossyPacketInput.ReadsNext.{waits, first, later, refuses, ends}
+use Rattle.world_base.specs.node_core.PacketInput.{changes, open_at, unread_of}
+use Rattle.world_base.specs.node_connections.Refusals.{connect_refused}
 use Rattle.world_base.specs.node_core.Step.{crashed, next_name, with_next_connection, settled, with_cut}
 use Rattle.world_base.specs.node_core.LossyStep.LogCutOrLost.{nothing_to_cut, cuts_log, forgets_cut}
 use Rattle.world_base.specs.node_core.Effects.{changes_named}

@@ -9,7 +9,7 @@ use Rattle.world_base.specs.node_core.Core.{CoreState, StepOutcome, serves}
 use Rattle.world_base.specs.node_core.Step.{next_name, with_next_connection, settled}
 use Rattle.headline.specs.node_moves.Closed.{listed_named}
 use Rattle.headline.specs.node_moves.Ends.{IsOrderly}
-use Rattle.headline.specs.node_moves.Keeping.{AreOfTheBallot, moves_replica}
+use Rattle.headline.specs.node_moves.BallotNames.{AreOfTheBallot, moves_replica}
 use Rattle.headline.specs.node_moves.Moves.{NodeMove}
 use Rattle.headline.specs.node_moves.Moves.NodeMove.{hears, opens_one, holds, reads_first, reads_later, closes, refuses, loses_one, loses_next, expels_one, cuts_log, crashes, settles, hands}
 use Rattle.headline.proofs.of_node_moves.Kept.{named}

@@ -4,7 +4,7 @@ use Rattle.std.proofs.Common.{◌≡◌, inl, inr, Bool, true, false, not, ◌&&
 use Rattle.std.proofs.lemmas.Bool.{both_ways}
 use Rattle.ballot_base.specs.Protocol.{Input, replica_step}
 use Rattle.ballot_base.specs.Replica.{ReplicaState, is_active}
-use Rattle.ballot_base.specs.Sending.{Outcome, nothing_done}
+use Rattle.ballot_base.specs.StepOutcome.{Outcome, nothing_done}
 use Rattle.broker_base.specs.State.{State}
 use Rattle.broker_spec.specs.declared.command.Command.{Command}
 use Rattle.broker_spec.specs.declared.command.Command.TheVariants as commands
@@ -17,12 +17,12 @@ use Rattle.world_base.specs.declared.node_core.Port.{Port}
 use Rattle.world_base.specs.declared.node_core.Connection.{Connection}
 use Rattle.world_base.specs.node_connections.Connections.{is_at, is_open_at, is_closed}
 use Rattle.world_base.specs.node_core.Core.{CoreState, StepOutcome, rules, serves}
-use Rattle.world_base.specs.node_core.Reading.{open_at}
+use Rattle.world_base.specs.node_core.PacketInput.{open_at}
 use Rattle.world_base.specs.node_core.Step.{crashed, settled, with_cut}
 use Rattle.world_base.specs.node_core.Effects.{drives, outcome_of_input}
 use Rattle.headline.specs.node_moves.Closed.{listed_named}
 use Rattle.headline.specs.node_moves.Ends.{IsOrderly, move_proposal}
-use Rattle.headline.specs.node_moves.Keeping.{AreOfTheBallot, NamesKeepTheirBallot}
+use Rattle.headline.specs.node_moves.BallotNames.{AreOfTheBallot, NamesKeepTheirBallot}
 use Rattle.headline.specs.node_moves.Moves.{NodeMove}
 use Rattle.headline.specs.node_moves.Moves.NodeMove.{hears, opens_one, holds, reads_first, reads_later, closes, refuses, loses_one, loses_next, expels_one, cuts_log, crashes, settles, hands}
 use Rattle.headline.proofs.of_node_moves.Views.{found_passes, view_of_changed}

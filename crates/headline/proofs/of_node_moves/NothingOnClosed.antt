@@ -12,10 +12,10 @@ use Rattle.world_base.specs.node_connections.Connections.{fresh, has_failed, is_
 use Rattle.world_base.specs.node_connections.ConnectionChanges.{noted_proposed, closed_connection, nothing_pending, with_unread, left_with, changed_where}
 use Rattle.world_base.specs.declared.node_core.ConnectionStage.{ConnectionStage}
 use Rattle.world_base.specs.declared.node_core.ConnectionStage.TheVariants.{Awaits, Proposed, Closed, Failed}
-use Rattle.world_base.specs.node_core.Failing.{closes_failed}
+use Rattle.world_base.specs.node_core.FailedConnections.{closes_failed}
 use Rattle.world_base.specs.node_core.Core.{CoreState, StepOutcome, serves}
-use Rattle.world_base.specs.node_core.Handing.{hands_over, left_by}
-use Rattle.world_base.specs.node_core.Reading.{changes}
+use Rattle.world_base.specs.node_core.PortOutput.{hands_over, left_by}
+use Rattle.world_base.specs.node_core.PacketInput.{changes}
 use Rattle.world_base.specs.node_core.Step.{next_name, with_next_connection, settled}
 use Rattle.headline.specs.node_moves.Closed.{IsExactlyClosedBy, NothingOnClosed, listed_named, exact_refusal}
 use Rattle.headline.specs.node_moves.Closed.IsExactlyClosedBy.{was_closed, closes_now}

@@ -8,7 +8,7 @@ use Rattle.world_base.specs.declared.node_core.Connection.{Connection}
 use Rattle.world_base.specs.node_connections.Connections.{is_at, is_listed, is_closed}
 use Rattle.world_base.specs.node_connections.ConnectionChanges.{closed_connection, nothing_pending, changed_where}
 use Rattle.world_base.specs.node_core.Core.{CoreState, serves}
-use Rattle.world_base.specs.node_core.Handing.{hands_over, left_by}
+use Rattle.world_base.specs.node_core.PortOutput.{hands_over, left_by}
 use Rattle.world_base.specs.node_core.Step.{settled}
 use Rattle.headline.specs.node_moves.Closed.{listed_named}
 use Rattle.headline.specs.node_moves.Ends.{IsOrderly}

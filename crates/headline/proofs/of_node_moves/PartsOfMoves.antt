@@ -1,15 +1,15 @@
 -- The part of a call of a node that concerns others: a message that is received, bytes that come
 -- in, bytes that are handed over. And whether its log is cut.
 use Rattle.std.proofs.Common.{◌≡◌, false, if◌then◌else◌, ℕ, List}
-use Rattle.ballot_base.specs.Cutting.{can_cut}
+use Rattle.ballot_base.specs.Compaction.{can_cut}
 use Rattle.ballot_base.specs.declared.message.Message.{Message}
 use Rattle.ballot_base.specs.Protocol.Input.{Receives}
 use Rattle.broker_spec.specs.declared.command.Command.{Command}
 use Rattle.world_base.specs.declared.node_core.Port.{Port}
 use Rattle.world_base.specs.declared.node_core.item.Item.TheVariants.{Peer, Bytes, Cut}
 use Rattle.world_base.specs.node_core.Core.{CoreState, StepOutcome}
-use Rattle.headline.specs.node_moves.Hearing.{HearsAtFirst, IsCalm}
-use Rattle.headline.specs.node_moves.Keeping.{moves_replica}
+use Rattle.headline.specs.node_moves.Receipts.{HearsAtFirst, IsCalm}
+use Rattle.headline.specs.node_moves.BallotNames.{moves_replica}
 use Rattle.headline.specs.node_moves.Moves.{NodeCall, NodeMove, MoveTrace}
 use Rattle.headline.specs.node_moves.Moves.NodeCall.{takes, hands_out}
 use Rattle.headline.specs.node_moves.Moves.NodeMove.{hears, holds, cuts_log, hands}

@@ -7,8 +7,8 @@ use Rattle.packet_base.specs.declared.refusal_code.RefusalCode.{RefusalCode}
 use Rattle.packet.specs.Spelling.{spelling}
 use Rattle.ballot_base.specs.declared.message.Effect.{Effect}
 use Rattle.ballot_base.specs.declared.message.Effect.TheVariants.{To, Out}
-use Rattle.ballot_base.specs.Sending.{Outcome}
-use Rattle.ballot_base.specs.Serving.{proposed}
+use Rattle.ballot_base.specs.StepOutcome.{Outcome}
+use Rattle.ballot_base.specs.Service.{proposed}
 use Rattle.broker_base.specs.State.{State}
 use Rattle.broker_spec.specs.declared.command.Command.{Command}
 use Rattle.broker_spec.specs.declared.command.Output.{Output}
@@ -24,9 +24,9 @@ use Rattle.world_base.specs.node_core.Step.{settled, with_next_connection}
 use Rattle.world_base.specs.node_connections.Connections.{is_listed, is_at, is_open_at, is_open_named}
 use Rattle.world_base.specs.node_connections.ConnectionChanges.{noted_proposed, with_unread, left_with, max_pending, closed_connection, failing, with_queued, putting, changed_where}
 use Rattle.world_base.specs.node_core.Core.{CoreState, StepOutcome, rules, serves}
-use Rattle.world_base.specs.node_core.Failing.{closes_failed}
-use Rattle.world_base.specs.node_core.Reading.{changes}
-use Rattle.world_base.specs.node_connections.Refusing.{connect_refused}
+use Rattle.world_base.specs.node_core.FailedConnections.{closes_failed}
+use Rattle.world_base.specs.node_core.PacketInput.{changes}
+use Rattle.world_base.specs.node_connections.Refusals.{connect_refused}
 use Rattle.world_base.specs.node_core.Effects.{without_messages, after_replica_step, with_effect, proposes, changes_named, drives, outcome_of_input, has_room}
 use Rattle.headline.specs.node_moves.Ends.{AtMostOne, IsOrderly, open_named}
 use Rattle.headline.specs.node_moves.Moves.{NodeMove}

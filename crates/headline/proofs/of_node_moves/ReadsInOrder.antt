@@ -17,9 +17,9 @@ use Rattle.world_base.specs.declared.node_core.Connection.{Connection}
 use Rattle.world_base.specs.node_connections.Connections.{awaits_first_packet, is_at, is_open_at}
 use Rattle.world_base.specs.node_connections.ConnectionChanges.{noted_proposed, with_unread, left_with, closed_connection, changed_where}
 use Rattle.world_base.specs.node_core.Core.{CoreState, StepOutcome}
-use Rattle.world_base.specs.node_core.Reading.{changes, open_at}
-use Rattle.world_base.specs.node_connections.Refusing.{connect_refused}
-use Rattle.world_base.specs.node_core.Failing.{closes_failed}
+use Rattle.world_base.specs.node_core.PacketInput.{changes, open_at}
+use Rattle.world_base.specs.node_connections.Refusals.{connect_refused}
+use Rattle.world_base.specs.node_core.FailedConnections.{closes_failed}
 use Rattle.world_base.specs.node_core.Step.{with_next_connection}
 use Rattle.world_base.specs.node_core.Effects.{without_messages, proposes, has_room}
 use Rattle.headline.specs.node_moves.Moves.{NodeMove}

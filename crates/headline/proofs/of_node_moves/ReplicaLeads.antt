@@ -4,21 +4,21 @@ use Rattle.std.proofs.Common.{◌≡◌, ◌⊎◌, inl, inr, ℕ, Bool, true, f
 use Rattle.std.specs.Prelude.{nat_lt, nat_le, ◌&&◌, ◌==◌}
 use Rattle.std.specs.List.{list_any}
 use Rattle.std.proofs.lemmas.Bool.{cases_Bool}
-use Rattle.ballot_base.specs.Applying.{applied_to}
+use Rattle.ballot_base.specs.Application.{applied_to}
 use Rattle.ballot_base.specs.declared.message.Body.{Body}
 use Rattle.ballot_base.specs.declared.message.Body.TheVariants.{NewBallot, Join, State, Install, Installed, Activate, Activated, Superseded, Append, Held, Commit}
 use Rattle.ballot_base.specs.Logs.{Log, places}
-use Rattle.ballot_base.specs.Taking.{taken}
-use Rattle.ballot_base.specs.Changing.{answers_installed, installs_taken, lacks, waits_for, on_new_ballot, on_join, on_install, on_state}
-use Rattle.ballot_base.specs.Activating.{on_superseded, on_installed, on_activated}
+use Rattle.ballot_base.specs.TakenLog.{taken}
+use Rattle.ballot_base.specs.Transfer.{answers_installed, installs_taken, lacks, waits_for, on_new_ballot, on_join, on_install, on_state}
+use Rattle.ballot_base.specs.Activation.{on_superseded, on_installed, on_activated}
 use Rattle.machine.specs.Machine.{Rules}
 use Rattle.ballot_base.specs.Protocol.{Input, received, ticked, replica_step}
 use Rattle.ballot_base.specs.Protocol.Input.{Receives, Proposes, Ticks}
 use Rattle.ballot_base.specs.Replica.{ReplicaState, is_active, is_installing, others, progress_at}
 use Rattle.ballot_base.specs.declared.status.Role.{Role}
 use Rattle.ballot_base.specs.declared.status.Role.TheVariants.{Backup, Fetching, Installing, Active}
-use Rattle.ballot_base.specs.Sending.{Outcome, message_to, nothing_done}
-use Rattle.ballot_base.specs.Serving.{commit, follows, leads, least, max_places, on_append, on_commit, on_held, on_tick_active, raised}
+use Rattle.ballot_base.specs.StepOutcome.{Outcome, message_to, nothing_done}
+use Rattle.ballot_base.specs.Service.{commit, follows, leads, least, max_places, on_append, on_commit, on_held, on_tick_active, raised}
 use Rattle.ballot_base.proofs.ChangeRows.{on_activated-adds, on_activated-stays}
 use Rattle.headline.proofs.of_node_moves.ReplicaStays.{added_same, commit_same, proposed_same}
 

@@ -4,8 +4,8 @@ use Rattle.std.proofs.lemmas.Bool.{cases_Bool, cases_lt}
 use Rattle.machine.specs.Machine.{Rules}
 use Rattle.ballot_base.specs.Logs.{places, pushed}
 use Rattle.ballot_base.specs.Replica.{ReplicaState, is_active}
-use Rattle.ballot_base.specs.Sending.{Outcome}
-use Rattle.ballot_base.specs.Serving.{added, commit_at, least, max_places, proposed}
+use Rattle.ballot_base.specs.StepOutcome.{Outcome}
+use Rattle.ballot_base.specs.Service.{added, commit_at, least, max_places, proposed}
 use Rattle.ballot_base.proofs.StepRows.{added-is, commit_at-goes, commit_at-stays, proposed-adds, proposed-full, proposed-not_active}
 
 -- the role, the ballot, the base of the log, and whether it stopped stay

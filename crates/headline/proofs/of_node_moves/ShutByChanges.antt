@@ -8,7 +8,7 @@ use Rattle.packet_base.specs.declared.refusal_code.RefusalCode.{RefusalCode}
 use Rattle.packet.specs.Spelling.{spelling}
 use Rattle.ballot_base.specs.declared.message.Effect.{Effect}
 use Rattle.ballot_base.specs.Replica.{CountedReplica}
-use Rattle.ballot_base.specs.Serving.{proposed}
+use Rattle.ballot_base.specs.Service.{proposed}
 use Rattle.broker_spec.specs.declared.command.Command.{Command}
 use Rattle.broker_base.specs.State.{State}
 use Rattle.broker_spec.specs.declared.command.Output.{Output}
@@ -18,8 +18,8 @@ use Rattle.world_base.specs.declared.node_core.Connection.{Connection}
 use Rattle.world_base.specs.node_connections.Connections.{is_at, is_open_at}
 use Rattle.world_base.specs.node_connections.ConnectionChanges.{noted_proposed, with_unread, left_with}
 use Rattle.world_base.specs.node_core.Core.{CoreState, rules, serves}
-use Rattle.world_base.specs.node_core.Reading.{changes, open_at}
-use Rattle.world_base.specs.node_connections.Refusing.{connect_refused}
+use Rattle.world_base.specs.node_core.PacketInput.{changes, open_at}
+use Rattle.world_base.specs.node_connections.Refusals.{connect_refused}
 use Rattle.world_base.specs.node_core.Effects.{has_room, proposes}
 use Rattle.headline.specs.node_moves.Closed.{listed_named}
 use Rattle.headline.specs.node_moves.Ends.{IsOrderly}

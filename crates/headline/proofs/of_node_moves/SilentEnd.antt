@@ -13,7 +13,7 @@ use Rattle.world_base.specs.node_connections.ConnectionChanges.{closed_connectio
 use Rattle.world_base.specs.node_core.Core.{CoreState, StepOutcome}
 use Rattle.world_base.specs.node_connections.Silent.{lower, lower_silent, lowest_silent}
 use Rattle.world_base.specs.node_core.KeepAlive.{ends_if, ends_silent}
-use Rattle.world_base.specs.node_core.Reading.{changes, port_closed, loses, loses_open, open_at}
+use Rattle.world_base.specs.node_core.PacketInput.{changes, port_closed, loses, loses_open, open_at}
 use Rattle.world_base.specs.node_core.Step.{acts_on, does_item}
 use Rattle.world_base.specs.node_core.Effects.{without_messages, drives, proposes}
 use Rattle.headline.specs.node_moves.Settled.{NoneIsSilent}

@@ -21,15 +21,15 @@ use Rattle.world_base.specs.declared.node_core.Connection.{Connection}
 use Rattle.world_base.specs.node_connections.Connections.{is_closed, awaits_first_packet, is_proposed, has_failed, is_at, is_open_at}
 use Rattle.world_base.specs.node_connections.ConnectionChanges.{noted_proposed, with_unread, left_with, closed_connection, changed_where}
 use Rattle.world_base.specs.node_core.Core.{CoreState, StepOutcome}
-use Rattle.world_base.specs.node_core.Reading.{changes, open_at, loses, loses_open, port_closed, connect_proposed, proposes_packet, takes_first_packet, reads, reads_of, reads_next, unread_of}
-use Rattle.world_base.specs.node_connections.Refusing.{connect_refused}
-use Rattle.ballot_base.specs.Cutting.{can_cut}
+use Rattle.world_base.specs.node_core.PacketInput.{changes, open_at, loses, loses_open, port_closed, connect_proposed, proposes_packet, takes_first_packet, reads, reads_of, reads_next, unread_of}
+use Rattle.world_base.specs.node_connections.Refusals.{connect_refused}
+use Rattle.ballot_base.specs.Compaction.{can_cut}
 use Rattle.world_base.specs.node_core.Step.{node_step, acts_on, cuts, settled, does_item, with_cut}
-use Rattle.world_base.specs.node_core.Failing.{reports_failed, reports_if}
+use Rattle.world_base.specs.node_core.FailedConnections.{reports_failed, reports_if}
 use Rattle.world_base.specs.node_core.KeepAlive.{ends_if, ends_silent}
 use Rattle.world_base.specs.node_connections.Silent.{lowest_silent}
 use Rattle.world_base.specs.node_core.Effects.{without_messages, proposes, drives, has_room, repeated}
-use Rattle.headline.specs.node_moves.Hearing.{NodeCallsHearAtFirst}
+use Rattle.headline.specs.node_moves.Receipts.{NodeCallsHearAtFirst}
 use Rattle.headline.specs.node_moves.Moves.{NodeMove, MoveTrace, NodeCall, and_then, done, NodeCallsAreMoves}
 use Rattle.headline.specs.node_moves.Moves.NodeCall.{takes, hands_out}
 use Rattle.headline.specs.node_moves.Moves.NodeMove.{hears, opens_one, holds, reads_first, reads_later, closes, refuses, loses_one, loses_next, expels_one, cuts_log, crashes, settles, hands}

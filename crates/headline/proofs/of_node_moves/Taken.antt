@@ -6,8 +6,8 @@ use Rattle.ballot_base.specs.declared.message.Effect.{Effect}
 use Rattle.ballot_base.specs.declared.message.Effect.TheVariants.{To, Out}
 use Rattle.ballot_base.specs.Logs.{places, pushed}
 use Rattle.ballot_base.specs.Replica.{CountedReplica, ReplicaState, is_active}
-use Rattle.ballot_base.specs.Sending.{Outcome}
-use Rattle.ballot_base.specs.Serving.{max_places, proposed}
+use Rattle.ballot_base.specs.StepOutcome.{Outcome}
+use Rattle.ballot_base.specs.Service.{max_places, proposed}
 use Rattle.ballot_base.proofs.StepRows.{added-log}
 use Rattle.broker_base.specs.State.{State}
 use Rattle.broker_spec.specs.declared.command.Command.{Command}
@@ -18,7 +18,7 @@ use Rattle.world_base.specs.declared.node_core.Port.{Port}
 use Rattle.world_base.specs.declared.node_core.Connection.{Connection}
 use Rattle.world_base.specs.node_connections.ConnectionChanges.{noted_proposed, left_with, closed_connection, with_queued}
 use Rattle.world_base.specs.node_core.Core.{CoreState, rules, serves}
-use Rattle.world_base.specs.node_core.Reading.{changes}
+use Rattle.world_base.specs.node_core.PacketInput.{changes}
 use Rattle.world_base.specs.node_core.Effects.{after_replica_step, with_effect, proposes, has_room, changes_named}
 use Rattle.headline.specs.node_moves.Moves.NodeMove.{hears, opens_one, holds, reads_first, reads_later, closes, refuses, loses_one, loses_next, expels_one, cuts_log, crashes, settles, hands}
 use Rattle.headline.specs.node_moves.RunProposals.{ReadsAreTaken}

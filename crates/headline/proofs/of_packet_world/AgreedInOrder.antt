@@ -4,7 +4,7 @@ use Rattle.machine.specs.Machine.{Rules}
 use Rattle.lists.specs.Lists.{IsPrefixOf}
 use Rattle.lists.proofs.Prefixes.{prefix_then}
 use Rattle.agreement.specs.cut_logs.Orders.{KeepsTheOrder}
-use Rattle.agreement.specs.cut_logs.Laws.{NodesAgree}
+use Rattle.agreement.specs.cut_logs.Theorems.{NodesAgree}
 use Rattle.agreement.specs.cut_logs.Proposals.{taken_of}
 use Rattle.agreement.specs.cut_logs.Whole.{whole}
 use Rattle.agreement.specs.Proposals.{commands_of}

@@ -1,7 +1,7 @@
 -- What a node of a group gives while it leads a ballot may be sent on its open ends.
 use Rattle.std.proofs.Common.{◌≡◌, ℕ, List, [], ◌∷◌, ◌++◌, set, ap, sym, ◌∙◌, subst, arith}
-use Rattle.agreement.specs.whole_logs.Applying.{outputs_between}
-use Rattle.agreement.specs.cut_logs.Giving.{given_of}
+use Rattle.agreement.specs.whole_logs.Application.{outputs_between}
+use Rattle.agreement.specs.cut_logs.NodeOutputs.{given_of}
 use Rattle.agreement.specs.World.{outputs}
 use Rattle.agreement.proofs.of_cut_logs.Orders.{answers_while_it_leads}
 use Rattle.broker_spec.specs.declared.command.Output.{Output}

@@ -4,7 +4,7 @@ use Rattle.std.specs.Prelude.{slice_get}
 use Rattle.broker_spec.specs.Connection.{ConnectionName, same_connection}
 use Rattle.broker_spec.specs.Place.{Client, Past}
 use Rattle.broker_spec.specs.Commands.{past_from, past_of, usual_limits}
-use Rattle.broker_spec.specs.EndingLaws.{connects_of}
+use Rattle.broker_spec.specs.EndingTheorems.{connects_of}
 use Rattle.broker_spec.specs.declared.command.Command.{Command}
 use Rattle.lists.specs.Lists.{Each}
 use Rattle.exactly_once.specs.Story.{Story, no_story}

@@ -6,7 +6,7 @@ use Rattle.packet.specs.declared.packet.Packet.TheVariants as packets
 use Rattle.broker_spec.specs.Connection.{ConnectionName, same_connection}
 use Rattle.broker_spec.specs.Place.{Past}
 use Rattle.broker_spec.specs.Commands.{place_of, past_of, usual_limits}
-use Rattle.broker_spec.specs.EndingLaws.{is_connect_of, connects_of}
+use Rattle.broker_spec.specs.EndingTheorems.{is_connect_of, connects_of}
 use Rattle.broker_spec.specs.declared.command.Command.{Command}
 use Rattle.broker_spec.specs.declared.command.Command.TheVariants as commands
 use Rattle.broker_spec.proofs.ConnectionNames.{same_name, same_itself}

@@ -3,7 +3,7 @@ use Rattle.std.proofs.Common.{◌≡◌, ◌≤◌, ◌+◌, ℕ, zero, suc, Lis
 use Rattle.std.specs.Prelude.{slice_get}
 use Rattle.std.proofs.lemmas.List.{append-nil, map-append}
 use Rattle.machine.specs.Machine.{replay}
-use Rattle.agreement.specs.whole_logs.Applying.{outputs_from, outputs_between}
+use Rattle.agreement.specs.whole_logs.Application.{outputs_from, outputs_between}
 use Rattle.agreement.specs.whole_logs.Messages.{Effect}
 use Rattle.agreement.specs.whole_logs.Messages.Effect.{Out}
 use Rattle.agreement.specs.World.{outputs}

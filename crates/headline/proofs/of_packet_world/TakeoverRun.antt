@@ -5,7 +5,7 @@ use Rattle.packet.specs.declared.connack.Connack.TheVariants as connacks
 use Rattle.packet.specs.declared.suback.SubackCode.TheVariants as codes
 use Rattle.packet.specs.declared.packet.Packet.TheVariants as packets
 use Rattle.session_base.specs.Publication.{publish_for}
-use Rattle.packet_base.specs.declared.qos.QoS.TheVariants as qualities
+use Rattle.packet_base.specs.declared.qos.QoS.TheVariants as qos_levels
 use Rattle.broker_spec.specs.Sessions.{current_connection, clean_session_of}
 use Rattle.broker_spec.specs.Owner.{named}
 use Rattle.broker_spec.specs.Subscriptions.{subscriptions_of}
@@ -64,7 +64,7 @@ first_end =
     record {
       read = 3;
       seen = 2;
-      put = packets.Connack (connacks.Accepted false) ∷ packets.Suback (record { id = 1; codes = codes.Granted qualities.ExactlyOnce ∷ [] }) ∷ [];
+      put = packets.Connack (connacks.Accepted false) ∷ packets.Suback (record { id = 1; codes = codes.Granted qos_levels.ExactlyOnce ∷ [] }) ∷ [];
       is_open = false;
     }
 

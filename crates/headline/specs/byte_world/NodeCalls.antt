@@ -5,14 +5,14 @@ use Rattle.ballot_base.specs.declared.message.Effect.{Effect}
 use Rattle.broker_spec.specs.declared.command.Command.{Command}
 use Rattle.broker_spec.specs.declared.command.Output.{Output}
 use Rattle.world_base.specs.declared.node_core.item.Item.TheVariants.{Peer, Cut}
-use Rattle.ballot_base.specs.Cutting.{can_cut}
+use Rattle.ballot_base.specs.Compaction.{can_cut}
 use Rattle.world_base.specs.node_core.Core.{CoreState, StepOutcome, rules}
-use Rattle.headline.specs.node_moves.Hearing.{HearsAtFirst}
+use Rattle.headline.specs.node_moves.Receipts.{HearsAtFirst}
 use Rattle.headline.specs.node_moves.Moves.{NodeCall, MoveTrace, done}
 use Rattle.headline.specs.node_moves.Moves.NodeCall.{takes}
 use Rattle.headline.specs.node_group.Group.{Group, group_after_outcome, replica_of, with_record}
 use Rattle.headline.specs.node_group.Steps.{AllWasSent}
-use Rattle.headline.specs.node_group.Putting.{recorded_in}
+use Rattle.headline.specs.node_group.Proposals.{recorded_in}
 use Rattle.agreement.specs.cut_logs.World.{recorded}
 use Rattle.headline.specs.byte_world.Steps.{CarriesItsBytes, DoesCall}
 

@@ -16,12 +16,12 @@ use Rattle.world_base.specs.declared.node_core.Connection.{Connection as NodesEn
 use Rattle.world_base.specs.declared.node_core.Port.{Port}
 use Rattle.world_base.specs.declared.node_core.item.Item.TheVariants.{Opened, Bytes}
 use Rattle.world_base.specs.node_core.Core.{CoreState}
-use Rattle.world_base.specs.node_core.Handing.{listed_at}
+use Rattle.world_base.specs.node_core.PortOutput.{listed_at}
 use Rattle.headline.specs.node_moves.Moves.{NodeCall}
 use Rattle.headline.specs.node_moves.Moves.NodeCall.{takes, hands_out}
 use Rattle.headline.specs.node_group.Streams.{goes_down as goes_down_in}
 use Rattle.headline.specs.byte_world.ClientSteps.{story_alone, after_connecting, after_packet, WritesCanBeSpelled}
-pub use Rattle.headline.specs.byte_world.Carrying.{CarriesItsBytes, DoesCall, IsFaithful, coming_with, node_call_of, going_with, is_apart}
+pub use Rattle.headline.specs.byte_world.Transport.{CarriesItsBytes, DoesCall, IsFaithful, coming_with, node_call_of, going_with, is_apart}
 use Rattle.headline.specs.byte_world.World.{ClientPipes, HasPipe, Pipe, ByteWorld, after_writing, is_used, opening, with_client, with_pipe}
 
 -- ---- the step

@@ -13,14 +13,14 @@ use Rattle.agreement.specs.World.{can_open}
 use Rattle.world_base.specs.node_core.Core.{CoreState, StepOutcome}
 use Rattle.world_base.specs.declared.node_core.item.Item.{Item}
 use Rattle.world_base.specs.node_core.LossyStep.{RunsOn}
-use Rattle.headline.specs.node_moves.Hearing.{HearsAtFirst}
+use Rattle.headline.specs.node_moves.Receipts.{HearsAtFirst}
 use Rattle.headline.specs.node_moves.ItemRuns.{IsRunOn, heard_with}
 use Rattle.headline.specs.node_moves.Moves.{NodeCall, MoveTrace, done}
 use Rattle.headline.specs.node_group.Group.{Group, group_after_outcome, opening_group, told_by_master, with_master, with_record}
-use Rattle.headline.specs.node_group.Losing.{WereSent}
-use Rattle.headline.specs.node_group.Losing.{all_given as given_losing, put_in_run as put_losing, recorded_in as recorded_losing}
-use Rattle.headline.specs.node_group.Putting.{recorded_in}
-pub use Rattle.headline.specs.node_group.Putting.{AllWasSent, InputWasSent, WasSent, all_given, commands_put, put_in_move, put_in_run}
+use Rattle.headline.specs.node_group.Losses.{WereSent}
+use Rattle.headline.specs.node_group.Losses.{all_given as given_losing, put_in_run as put_losing, recorded_in as recorded_losing}
+use Rattle.headline.specs.node_group.Proposals.{recorded_in}
+pub use Rattle.headline.specs.node_group.Proposals.{AllWasSent, InputWasSent, WasSent, all_given, commands_put, put_in_move, put_in_run}
 
 -- the master after an Assign; a refused one changes nothing
 abbrev pub after_assign : Group → Config → Option AssignRefusal → Group

@@ -5,7 +5,7 @@ use Rattle.ballot_base.specs.declared.config.Config.{Config}
 use Rattle.broker_spec.specs.Connection.{ConnectionName, same_connection}
 use Rattle.world_base.specs.declared.node_core.Connection.{Connection}
 use Rattle.world_base.specs.node_core.Core.{CoreState, StepOutcome}
-use Rattle.world_base.specs.node_core.Handing.{listed_at}
+use Rattle.world_base.specs.node_core.PortOutput.{listed_at}
 use Rattle.headline.specs.node_moves.RunProposals.{bytes_on}
 use Rattle.headline.specs.node_moves.ItemRuns.{came_with}
 use Rattle.headline.specs.node_moves.Moves.{NodeMove, MoveTrace}

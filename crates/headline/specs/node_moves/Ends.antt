@@ -12,7 +12,7 @@ use Rattle.exactly_once.specs.StoryCommands.{command_of}
 use Rattle.world_base.specs.declared.node_core.Connection.{Connection}
 use Rattle.world_base.specs.node_connections.Connections.{awaits_first_packet, is_open_named}
 use Rattle.world_base.specs.node_core.Core.{CoreState, StepOutcome}
-use Rattle.world_base.specs.node_core.Reading.{open_at}
+use Rattle.world_base.specs.node_core.PacketInput.{open_at}
 use Rattle.headline.specs.node_moves.Moves.NodeMove.{hears, opens_one, holds, reads_first, reads_later, closes, refuses, loses_one, loses_next, expels_one, cuts_log, crashes, settles, hands}
 use Rattle.headline.specs.node_moves.Moves.{NodeMove}
 

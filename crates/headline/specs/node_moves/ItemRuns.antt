@@ -10,7 +10,7 @@ use Rattle.world_base.specs.declared.node_core.item.Item.{Item}
 use Rattle.world_base.specs.declared.node_core.item.Item.TheVariants.{Peer, Tick, Bytes, Cut}
 use Rattle.world_base.specs.node_core.Core.{CoreState, StepOutcome}
 use Rattle.world_base.specs.node_core.LossyStep.{RunsOn}
-use Rattle.world_base.specs.node_core.Reading.{open_at}
+use Rattle.world_base.specs.node_core.PacketInput.{open_at}
 use Rattle.headline.specs.node_moves.Ends.{piece_on}
 use Rattle.headline.specs.node_moves.LossyRuns.{MoveTraceOrLost, HearsAtFirst, bytes_on, all_inputs, HandsNothing, CutsNothing, AllFreeze}
 

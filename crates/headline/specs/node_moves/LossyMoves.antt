@@ -15,9 +15,9 @@ use Rattle.world_base.specs.declared.node_core.Connection.{Connection}
 use Rattle.world_base.specs.node_connections.Connections.{awaits_first_packet}
 use Rattle.world_base.specs.node_connections.ConnectionChanges.{noted_proposed, closed_connection, failing, left_with}
 use Rattle.world_base.specs.node_core.Core.{CoreState, StepOutcome, rules}
-use Rattle.world_base.specs.node_core.Failing.{closes_failed}
+use Rattle.world_base.specs.node_core.FailedConnections.{closes_failed}
 use Rattle.world_base.specs.node_core.Lossy.{Account, Drives, TakesCommand}
-use Rattle.world_base.specs.node_core.Reading.{changes, open_at}
+use Rattle.world_base.specs.node_core.PacketInput.{changes, open_at}
 use Rattle.world_base.specs.node_core.Effects.{without_messages}
 use Rattle.headline.specs.node_moves.Moves.{NodeMove, is_proposal}
 

@@ -8,7 +8,7 @@ use Rattle.world_base.specs.declared.node_core.Connection.{Connection}
 use Rattle.world_base.specs.node_core.Core.{CoreState, StepOutcome, serves}
 use Rattle.headline.specs.node_moves.Closed.{listed_named}
 use Rattle.headline.specs.node_moves.Ends.{IsOrderly}
-use Rattle.headline.specs.node_moves.Keeping.{AreOfTheBallot}
+use Rattle.headline.specs.node_moves.BallotNames.{AreOfTheBallot}
 use Rattle.headline.specs.node_moves.LossyMoves.{NodeMoveOrLost}
 use Rattle.headline.specs.node_moves.LossyParts.{hears_in, move_proposal}
 use Rattle.headline.specs.node_moves.Names.{IsNextName}

@@ -9,11 +9,11 @@ use Rattle.broker_spec.specs.declared.command.Command.TheVariants as commands
 use Rattle.broker_spec.specs.Connection.{ConnectionName}
 use Rattle.broker_spec.specs.declared.command.Output.{Output}
 use Rattle.world_base.specs.node_core.Core.{CoreState, StepOutcome}
-use Rattle.world_base.specs.node_core.Reading.{open_at}
+use Rattle.world_base.specs.node_core.PacketInput.{open_at}
 use Rattle.headline.specs.node_moves.Closed.{exact_refusal}
 use Rattle.headline.specs.node_moves.Ends.{came_on as exact_came, piece_on, move_proposal as exact_proposal}
 use Rattle.headline.specs.node_moves.RunProposals.{is_read as exact_read}
-use Rattle.headline.specs.node_moves.Keeping.{moves_replica}
+use Rattle.headline.specs.node_moves.BallotNames.{moves_replica}
 use Rattle.headline.specs.node_moves.Moves.{NodeMove}
 use Rattle.headline.specs.node_moves.Moves.NodeMove.{hears}
 use Rattle.headline.specs.node_moves.Puts.{move_effects as exact_given, is_handing as exact_handing}

@@ -7,7 +7,7 @@ use Rattle.packet.specs.declared.packet.Packet.{Packet}
 use Rattle.packet.specs.declared.packet.Packet.TheVariants as packets
 use Rattle.packet.specs.declared.connect.Connect.{Connect}
 use Rattle.packet.specs.Verdict.{verdict}
-use Rattle.ballot_base.specs.Cutting.{can_cut}
+use Rattle.ballot_base.specs.Compaction.{can_cut}
 use Rattle.ballot_base.specs.Protocol.{Input}
 use Rattle.ballot_base.specs.Protocol.Input.{Receives, Proposes, Ticks}
 use Rattle.broker_spec.specs.declared.command.Command.{Command}
@@ -18,10 +18,10 @@ use Rattle.world_base.specs.declared.node_core.Connection.{Connection}
 use Rattle.world_base.specs.node_connections.Connections.{has_failed, awaits_first_packet, is_proposed}
 use Rattle.world_base.specs.node_connections.ConnectionChanges.{noted_proposed, with_unread, left_with, closed_connection}
 use Rattle.world_base.specs.node_core.Core.{CoreState, StepOutcome}
-use Rattle.world_base.specs.node_core.Failing.{closes_failed}
-use Rattle.world_base.specs.node_core.Handing.{hands_over}
-use Rattle.world_base.specs.node_core.Reading.{changes, open_at}
-use Rattle.world_base.specs.node_connections.Refusing.{connect_refused}
+use Rattle.world_base.specs.node_core.FailedConnections.{closes_failed}
+use Rattle.world_base.specs.node_core.PortOutput.{hands_over}
+use Rattle.world_base.specs.node_core.PacketInput.{changes, open_at}
+use Rattle.world_base.specs.node_connections.Refusals.{connect_refused}
 use Rattle.world_base.specs.node_core.Step.{node_step, with_next_connection, settled, crashed, with_cut}
 use Rattle.world_base.specs.node_core.Effects.{without_messages, proposes, drives, has_room}
 

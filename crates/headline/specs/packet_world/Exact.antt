@@ -3,7 +3,7 @@ use Rattle.std.specs.Prelude.{◌≤◌, ℕ, suc, List, [], ◌∷◌, length, 
 use Rattle.broker_spec.specs.Connection.{ConnectionName}
 use Rattle.broker_spec.specs.Place.{Client}
 use Rattle.broker_spec.specs.Commands.{past_of, usual_limits}
-use Rattle.broker_spec.specs.EndingLaws.{connects_of, EndsWithTheSession}
+use Rattle.broker_spec.specs.EndingTheorems.{connects_of, EndsWithTheSession}
 use Rattle.broker_spec.specs.declared.command.Command.{Command}
 use Rattle.lists.specs.Lists.{Each, IsPrefixOf}
 use Rattle.client_base.specs.Keeper.{Written}

@@ -9,7 +9,7 @@ use Rattle.broker_spec.specs.declared.command.Output.{Output}
 use Rattle.broker_base.specs.State.{State}
 use Rattle.lists.specs.Lists.{In}
 use Rattle.agreement.specs.cut_logs.Moments.{Moment, Moments, IsAgreed}
-use Rattle.agreement.specs.cut_logs.Agreeing.{IsPrimary}
+use Rattle.agreement.specs.cut_logs.AgreedLists.{IsPrimary}
 use Rattle.agreement.specs.Proposals.{commands_of}
 use Rattle.agreement.specs.cut_logs.Proposals.{taken_at, taken_of}
 use Rattle.exactly_once.specs.Sides.{ClientConnection}

@@ -1,9 +1,9 @@
 -- The outputs of a node are sent on the ends of its connections.
 use Rattle.std.specs.Prelude.{◌≡◌, ◌≤◌, ℕ, true, List, ◌∷◌, ◌++◌, length, map, set, slice_get, Some}
-use Rattle.agreement.specs.whole_logs.Applying.{outputs_between}
+use Rattle.agreement.specs.whole_logs.Application.{outputs_between}
 use Rattle.ballot_base.specs.declared.config.Config.{Config}
 use Rattle.ballot_base.specs.Replica.{ReplicaState}
-use Rattle.agreement.specs.cut_logs.Giving.{LeadsOn, given_of}
+use Rattle.agreement.specs.cut_logs.NodeOutputs.{LeadsOn, given_of}
 use Rattle.agreement.specs.cut_logs.Moments.{Moment, Moments, IsAgreed}
 use Rattle.agreement.specs.World.{outputs}
 use Rattle.broker_spec.specs.Connection.{ConnectionName}

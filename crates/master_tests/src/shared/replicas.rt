@@ -47,19 +47,19 @@ pub fn deliver(
     replica.on(Message { from, body }, out).is_ok()
 }
 
-/// Says whether a replica runs with this ballot and role, and these held and committed places.
+/// Returns true if a replica runs with this ballot and role, and these held and committed places.
 pub fn shows(replica: &Replica<Tally>, ballot: u64, role: Role, held: u64, committed: u64) -> bool {
     let status = replica.status();
     let counts = status.held == held && status.committed == committed;
     status.ballot == ballot && status.role == role && counts && !status.stopped
 }
 
-/// Says whether these commands are what the log keeps.
+/// Returns true if these commands are what the log keeps.
 pub fn logs(replica: &Replica<Tally>, commands: &[TallyCommand]) -> bool {
     replica.rest() == commands
 }
 
-/// Says whether the effect at an index is this output.
+/// Returns true if the effect at an index is this output.
 pub fn gives(out: &[Effect<TallyCommand, u64>], at: usize, place: u64, total: u64) -> bool {
     match out.get(at) {
         Some(Effect::Out(left, output)) => *left == place && *output == total,
@@ -80,7 +80,7 @@ fn said(out: &[Effect<TallyCommand, u64>], at: usize, way: Way) -> Option<&Body<
     }
 }
 
-/// Says whether the effect appends a number at a place of ballot 1.
+/// Returns true if the effect appends a number at a place of ballot 1.
 pub fn appends(
     out: &[Effect<TallyCommand, u64>],
     at: usize,
@@ -96,7 +96,7 @@ pub fn appends(
     }
 }
 
-/// Says whether the effect says that one place of ballot 1 is held.
+/// Returns true if the effect says that one place of ballot 1 is held.
 pub fn holds(out: &[Effect<TallyCommand, u64>], at: usize, way: Way) -> bool {
     match said(out, at, way) {
         Some(Body::Held(1, 1)) => true,
@@ -104,7 +104,7 @@ pub fn holds(out: &[Effect<TallyCommand, u64>], at: usize, way: Way) -> bool {
     }
 }
 
-/// Says whether the effect says how many places of ballot 1 are committed.
+/// Returns true if the effect says how many places of ballot 1 are committed.
 pub fn commits(out: &[Effect<TallyCommand, u64>], at: usize, way: Way, count: u64) -> bool {
     match said(out, at, way) {
         Some(Body::Commit(1, told)) => *told == count,

@@ -6,7 +6,7 @@ use ballot_base::{Body, Message};
 use machine::{Tally, TallyCommand};
 use master::{Event, Group};
 
-// Says whether a message is the command that node 1 appends at node 2.
+// Returns true if a message is the command that node 1 appends at node 2.
 fn is_append(group: &Group<Tally>, at: usize) -> bool {
     match group.sent().get(at) {
         Some((2, Message { from: 1, body })) => {
@@ -16,7 +16,7 @@ fn is_append(group: &Group<Tally>, at: usize) -> bool {
     }
 }
 
-// Says whether node 2 says to node 1 that it holds one place.
+// Returns true if node 2 says to node 1 that it holds one place.
 fn is_held(group: &Group<Tally>, at: usize) -> bool {
     match group.sent().get(at) {
         Some((1, Message { from: 2, body })) => matches!(body, Body::Held(1, 1)),
@@ -24,7 +24,7 @@ fn is_held(group: &Group<Tally>, at: usize) -> bool {
     }
 }
 
-// Says whether node 1 says to node 2 that one place is committed.
+// Returns true if node 1 says to node 2 that one place is committed.
 fn is_commit(group: &Group<Tally>, at: usize) -> bool {
     match group.sent().get(at) {
         Some((2, Message { from: 1, body })) => matches!(body, Body::Commit(1, 1)),
@@ -39,7 +39,7 @@ const ANSWERED: &[Row] = &[
     (Arrives(3), Sent(4), Left(1), Agreed(1)),
 ];
 
-// Says whether these messages were sent, in order.
+// Returns true if these messages were sent, in order.
 fn sent_all(group: &Group<Tally>) -> bool {
     is_append(group, 0) && is_held(group, 1) && is_held(group, 2) && is_commit(group, 3)
 }

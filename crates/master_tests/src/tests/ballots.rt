@@ -26,7 +26,7 @@ fn assigned(
     }
 }
 
-// Says whether the master gives this ballot.
+// Returns true if the master gives this ballot.
 fn is_given(master: &mut Master, alloc: Global, members: &[u8], primary: u8, ballot: u64) -> bool {
     match assigned(master, alloc, members, primary) {
         Some(Ok(given)) => given == ballot,

@@ -64,7 +64,7 @@ const SUPERSEDED: &[Row] = &[
     (Arrives(11), Sent(12), Left(0), Agreed(1)),
 ];
 
-// Says whether the primary of ballot 2 asks the master for its activation by message 5, and is
+// Returns true if the primary of ballot 2 asks the master for its activation by message 5, and is
 // refused by message 7.
 fn is_refused(group: &Group<Tally>) -> bool {
     let asks = match group.sent().get(5) {

@@ -6,7 +6,7 @@ use machine::{Tally, TallyCommand};
 use master::{Event, Group};
 use std::alloc::Global;
 
-// Says whether a node cuts its log, and has nothing more to cut then.
+// Returns true if a node cuts its log, and has nothing more to cut then.
 fn cut(group: &mut Group<Tally>, node: u8) -> bool {
     let before = counts(group);
     let_happen(group, &Event::Cut(node))

@@ -103,7 +103,7 @@ pub fn go_on(group: &mut Group<Tally>, first: usize) {
     }
 }
 
-/// Says whether these commands are the agreed list.
+/// Returns true if these commands are the agreed list.
 pub fn agrees(group: &Group<Tally>, commands: &[TallyCommand]) -> bool {
     let (recorded, kept) = group.agreed();
     let front = commands.get(..recorded.len());
@@ -114,7 +114,7 @@ pub fn agrees(group: &Group<Tally>, commands: &[TallyCommand]) -> bool {
     }
 }
 
-/// Says whether the output at an index among those that left is this one.
+/// Returns true if the output at an index among those that left is this one.
 pub fn gave(group: &Group<Tally>, at: usize, place: u64, total: u64) -> bool {
     match group.left().get(at) {
         Some(Effect::Out(left, output)) => *left == place && *output == total,
@@ -122,7 +122,7 @@ pub fn gave(group: &Group<Tally>, at: usize, place: u64, total: u64) -> bool {
     }
 }
 
-/// Says whether a ballot is active and no step counted a loss.
+/// Returns true if a ballot is active and no step counted a loss.
 pub fn is_active(group: &Group<Tally>, ballot: u64) -> bool {
     group.active().0 == ballot && group.losses() == 0
 }

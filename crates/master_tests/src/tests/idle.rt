@@ -31,7 +31,7 @@ fn idle_at_first(group: &mut Group<Tally>) -> Option<&'static str> {
     }
 }
 
-// Says whether a run continues after what is idle in it.
+// Returns true if a run continues after what is idle in it.
 fn run_on(group: &mut Group<Tally>) -> bool {
     group.run(&[Event::Tick(2), Event::Tick(1)]);
     counts(group) == (Sent(3), Left(0), Agreed(0)) && is_active(group, 1)
@@ -88,7 +88,7 @@ fn idle_has_its_number_and_text(rt: HostRuntime) -> Result<(), Fail> {
     Ok(())
 }
 
-// Says whether a group is refused for its members; none if there was no memory for the question.
+// Returns true if a group is refused for its members; none if there was no memory for the question.
 fn is_refused(alloc: Global, nodes: u8, members: &[u8], primary: u8) -> Option<bool> {
     match config(alloc, members, primary) {
         Ok(config) => Some(is_no_group(alloc, nodes, config)),

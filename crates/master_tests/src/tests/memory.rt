@@ -16,7 +16,7 @@ fn answer(group: &mut Group<Tally>, node: u8, number: u64) {
     go_on(group, first);
 }
 
-// Says whether, with one growth refused, the first command is answered as usual, or one step is
+// Returns true if, with one growth refused, the first command is answered as usual, or one step is
 // counted.
 fn is_whole_or_counted(group: &Group<Tally>) -> bool {
     let losses = group.losses();
@@ -35,8 +35,8 @@ fn two_that_run(group: &mut Group<Tally>) -> [u8; 2] {
     }
 }
 
-// Gives two nodes that run the next ballot, and has them answer a command. Says whether its output
-// left.
+// Gives two nodes that run the next ballot, and has them answer a command. Returns true if its
+// output left.
 fn let_two_take_over(group: &mut Group<Tally>, alloc: Global) -> bool {
     let [primary, backup] = two_that_run(group);
     let Ok(change) = config(alloc, &[primary, backup], primary) else {
@@ -90,7 +90,7 @@ fn sum_of(commands: &[TallyCommand], most: usize) -> u64 {
     sum
 }
 
-// Says whether a total is the answer at a place of the agreed list.
+// Returns true if a total is the answer at a place of the agreed list.
 fn is_answer(group: &Group<Tally>, place: u64, total: u64) -> bool {
     let (recorded, kept) = group.agreed();
     let most = (place as usize).saturating_add(1);
@@ -99,7 +99,7 @@ fn is_answer(group: &Group<Tally>, place: u64, total: u64) -> bool {
     place < group.agreed_len() && front.wrapping_add(after) == total
 }
 
-// Says whether all outputs that left are answers at places of the agreed list.
+// Returns true if all outputs that left are answers at places of the agreed list.
 fn are_answers(group: &Group<Tally>) -> bool {
     group.left().iter().all(|left| match left {
         Effect::Out(place, total) => is_answer(group, *place, *total),

@@ -154,8 +154,8 @@ fn all_come(group: &mut Group<Tally>, numbers: &[u64]) -> bool {
 
 const CHANGE: &[u64] = &[2, 4, 5, 6, 7, 8, 9, 10, 11];
 
-// Says whether node 1 adds a command, which node 2 holds, and ballot 2 of members 2 and 3 becomes
-// active.
+// Returns true if node 1 adds a command, which node 2 holds, and ballot 2 of members 2 and 3
+// becomes active.
 fn activate_ballot_2(group: &mut Group<Tally>, alloc: Global) -> bool {
     propose(group, 1, 2)
         && let_come(group, 0)

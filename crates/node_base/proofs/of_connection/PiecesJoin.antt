@@ -9,8 +9,8 @@ use Rattle.world_base.specs.declared.node_core.item.Item.{Item}
 use Rattle.world_base.specs.declared.node_core.item.Item.TheVariants.{Opened, Bytes, Ended}
 use Rattle.node_base.specs.declared.connection.ending.Ending.{Ending}
 use Rattle.node_base.specs.declared.connection.ending.Ending.TheVariants as endings
-use Rattle.node_base.specs.connection.Hearing.{Came, Hears, Rises, all_bytes, pieces_reported}
-use Rattle.node_base.specs.connection.Hearing.Rises.{opens, comes}
+use Rattle.node_base.specs.connection.Reports.{Came, Hears, Rises, all_bytes, pieces_reported}
+use Rattle.node_base.specs.connection.Reports.Rises.{opens, comes}
 use Rattle.node_base.specs.connection.Inside.{HearsOn, HearsPiece, HearsPieces, HearsSome}
 
 -- what is read in two steps is read in one

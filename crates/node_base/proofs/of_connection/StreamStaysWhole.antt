@@ -7,7 +7,7 @@ use Rattle.node_base.specs.declared.connection.flow.Flow.{Flow}
 use Rattle.node_base.specs.connection.Life.{Lives}
 use Rattle.node_base.specs.connection.Life.Lives.{begins, goes_on}
 use Rattle.node_base.specs.connection.Whole.{IsWhole}
-use Rattle.node_base.specs.connection.Writing.{Flows}
+use Rattle.node_base.specs.connection.Written.{Flows}
 
 -- nothing was handed over, and nothing was written
 pub begins_whole :

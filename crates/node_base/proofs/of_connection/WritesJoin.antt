@@ -3,10 +3,10 @@ use Rattle.std.proofs.Common.{◌≡◌, ℕ, ◌≤◌, Option, None, Some, Lis
 use Rattle.std.proofs.lemmas.List.{append-nil, take-append-drop}
 use Rattle.std.specs.Io.KnownBytes.{Appends, Keeps}
 use Rattle.world_base.specs.declared.node_core.Handed.{Handed}
-use Rattle.node_base.specs.connection.Laws.{NothingIsLeftOut}
+use Rattle.node_base.specs.connection.Theorems.{NothingIsLeftOut}
 use Rattle.node_base.specs.connection.Life.{Lives}
 use Rattle.node_base.specs.connection.Life.Lives.{begins, goes_on}
-use Rattle.node_base.specs.connection.Writing.{Flows, Writes}
+use Rattle.node_base.specs.connection.Written.{Flows, Writes}
 
 -- what joins in two steps joins in one
 pub appends_join :

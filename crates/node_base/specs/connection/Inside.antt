@@ -4,7 +4,7 @@ use Rattle.std.specs.Io.KnownBytes.{Consumes}
 use Rattle.world_base.specs.declared.node_core.Port.{Port}
 use Rattle.world_base.specs.declared.node_core.item.Item.{Item}
 use Rattle.node_base.specs.declared.connection.ending.Ending.{Ending}
-use Rattle.node_base.specs.connection.Hearing.{Came, EndsSo, Rises, faults_after, all_bytes, pieces_reported}
+use Rattle.node_base.specs.connection.Reports.{Came, EndsSo, Rises, faults_after, all_bytes, pieces_reported}
 
 -- these pieces were reported, and what was read is these and what was lost
 pub record HearsPieces

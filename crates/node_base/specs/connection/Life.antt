@@ -3,7 +3,7 @@
 use Rattle.std.specs.Prelude.{ℕ, List, [], ◌++◌, Option}
 use Rattle.world_base.specs.declared.node_core.Handed.{Handed}
 use Rattle.node_base.specs.declared.connection.flow.Flow.{Flow}
-use Rattle.node_base.specs.connection.Writing.{Flows}
+use Rattle.node_base.specs.connection.Written.{Flows}
 
 -- What a tap and a device lead to: the tap now, all that was handed over by it, the device's bytes
 -- now, and what is left.

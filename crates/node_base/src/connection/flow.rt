@@ -1,7 +1,7 @@
 // Writing what is queued for a connection.
 
 ghost use Rattle.std.specs.Prelude.{◌≡◌};
-ghost use Rattle.node_base.specs.connection.Writing.{Flows, faults_flowed};
+ghost use Rattle.node_base.specs.connection.Written.{Flows, faults_flowed};
 
 use crate::connection::left_write::LeftWrite;
 use crate::connection::outlet::Outlet;

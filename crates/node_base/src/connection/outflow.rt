@@ -3,7 +3,7 @@
 ghost use Rattle.std.specs.Prelude.{◌≡◌, []};
 ghost use Rattle.std.specs.Io.KnownBytes.{IsAtEnd};
 ghost use Rattle.node_base.specs.connection.Whole.{IsWhole};
-ghost use Rattle.node_base.specs.connection.Writing.{Flows, faults_flowed};
+ghost use Rattle.node_base.specs.connection.Written.{Flows, faults_flowed};
 
 use crate::connection::flow::{Flow, write_out};
 use crate::connection::outlet::Outlet;

@@ -1,7 +1,7 @@
 // The source of the bytes for connections.
 
 ghost use Rattle.std.specs.Prelude.{◌≡◌, IfOk, OnErr};
-ghost use Rattle.node_base.specs.connection.Writing.{HandsOver};
+ghost use Rattle.node_base.specs.connection.Written.{HandsOver};
 
 use crate::connection::tap::Tap;
 use machine::Memory;

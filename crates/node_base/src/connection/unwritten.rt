@@ -1,7 +1,7 @@
 // What is queued and not yet written.
 
 ghost use Rattle.std.specs.Prelude.{◌≡◌, ◌==◌, ◌≤◌, [], drop, length, IfOk, OnErr};
-ghost use Rattle.node_base.specs.connection.Writing.{HandsOver, LeavesSo, Writes, faults_written};
+ghost use Rattle.node_base.specs.connection.Written.{HandsOver, LeavesSo, Writes, faults_written};
 
 use crate::connection::left_write::LeftWrite;
 use crate::connection::outlet::Outlet;
@@ -63,7 +63,7 @@ impl Unwritten {
         })
     }
 
-    /// Says whether there is no byte.
+    /// Returns true if there is no byte.
     pub fn is_empty(&self) -> bool
         ensures { result ≡ (length self.now == 0) }
     {

@@ -124,7 +124,7 @@ impl<W: Write> Counted<W> {
         }
     }
 
-    // Flushes the device. Says whether that did not fail.
+    // Flushes the device. Returns true if that did not fail.
     fn flush(&mut self) -> bool
         ensures kept { Keeps (W.contents self.old.device) (W.contents self.new.device) }
         ensures fault { self.new.faults

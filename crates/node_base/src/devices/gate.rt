@@ -15,8 +15,8 @@ pub trait Gate {
     // It was informed that the node of this number has done its taking of this number.
     ghost hears: { Self → ℕ → ℕ → Type 0 };
 
-    /// Says whether the node of this number may do its taking of this number, from 1. If not, it is
-    /// asked again a while later.
+    /// Returns true if the node of this number may do its taking of this number, from 1. If not, it
+    /// is asked again a while later.
     fn open<R: Wait>(&self, rt: &R, node: u8, taking: u64) -> bool
         ensures { answers self.now node taking result };
 

@@ -49,8 +49,8 @@ impl Meeting {
         }
     }
 
-    // Says whether each node took this many times, asked for its second taking as many times as it
-    // has to, and whether each taking was asked for and reported by its number.
+    // Returns true if each node took this many times, asked for its second taking as many times as
+    // it has to, and whether each taking was asked for and reported by its number.
     fn heard_all<R: Wait>(&self, rt: &R, done: u64) -> bool {
         let asks = self.asks();
         self.heard.lock(rt).iter().all(|heard| heard.is_right
@@ -100,7 +100,7 @@ impl Gate for Meeting {
     }
 }
 
-// Says whether a node takes an item, as its gate lets it.
+// Returns true if a node takes an item, as its gate lets it.
 fn take_one<J, S, R>(rt: &R, alloc: Global, node: &Node<'_, J, S, Meeting>) -> bool
 where
     J: NodeNaming,
@@ -119,7 +119,7 @@ where
     took
 }
 
-// Says whether a node takes this many items, one after another.
+// Returns true if a node takes this many items, one after another.
 fn take_all<J, S, R>(rt: &R, alloc: Global, node: &Node<'_, J, S, Meeting>, count: u64) -> bool
 where
     J: NodeNaming,
@@ -129,7 +129,7 @@ where
     (0..count).all(|_| take_one(rt, alloc, node))
 }
 
-// Says whether both nodes take this many items, each in a thread of its own.
+// Returns true if both nodes take this many items, each in a thread of its own.
 fn take_both<J, S, R>(
     rt: &R,
     alloc: Global,
@@ -150,7 +150,7 @@ where
     one && other
 }
 
-// Says whether two nodes take so at once, at the type that a node's state has.
+// Returns true if two nodes take so at once, at the type that a node's state has.
 fn take_both_states<J, R>(
     rt: &R,
     alloc: Global,
@@ -165,15 +165,15 @@ where
     take_both::<J, NodeState<J>, R>(rt, alloc, first, second, count)
 }
 
-// Says whether three ticks are sent by the only lane of a node.
+// Returns true if three ticks are sent by the only lane of a node.
 fn send_three<J: NodeNaming, R: Wait>(rt: &R, lanes: &mut [Lane<Item, J>]) -> bool {
     send(rt, lanes, 0, Item::Tick(1))
         && send(rt, lanes, 0, Item::Tick(2))
         && send(rt, lanes, 0, Item::Tick(3))
 }
 
-// Says whether a report says that this many of three ticks were taken and the others are left over,
-// and that the gate was missed this many times.
+// Returns true if a report says that this many of three ticks were taken and the others are left
+// over, and that the gate was missed this many times.
 fn has_taken_and_missed(report: &Report, taken: u64, missed: u64) -> bool {
     report.taken.as_slice() == [taken].as_slice()
         && report.left.len() as u64 == 3u64.saturating_sub(taken)
@@ -183,7 +183,7 @@ fn has_taken_and_missed(report: &Report, taken: u64, missed: u64) -> bool {
         && report.gate_missed == missed
 }
 
-// Says whether a node reports so at its end.
+// Returns true if a node reports so at its end.
 fn close<J: NodeNaming, R: Wait>(
     rt: &R,
     node: Node<'_, J, NodeState<J>, Meeting>,

@@ -79,7 +79,7 @@ fn take<J: Naming, R: Wait>(rt: &R, receiver: &mut Receiver<u64, J>) -> Option<(
     receiver.take(rt, receipt)
 }
 
-// Says whether all lanes but the first are not all of the inbox.
+// Returns true if all lanes but the first are not all of the inbox.
 fn lacks_one<J: Naming>(receiver: &Receiver<u64, J>, lanes: &[Lane<u64, J>]) -> bool {
     match lanes {
         [_, rest @ ..] => !receiver.has_all(rest),

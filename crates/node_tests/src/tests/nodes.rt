@@ -103,7 +103,7 @@ pub(super) fn send<J: NodeNaming, R: Wait>(
     }
 }
 
-// Says whether a lane sends bytes of the connection.
+// Returns true if a lane sends bytes of the connection.
 fn send_bytes<J: NodeNaming, R: Wait>(
     rt: &R,
     alloc: Global,
@@ -190,7 +190,7 @@ fn first_fault_of_rows<J: NodeNaming, R: Wait>(
     fault
 }
 
-// Says whether a report is that of a run.
+// Returns true if a report is that of a run.
 fn is_report_of(report: &Report, run: &Run) -> bool {
     report.taken.as_slice() == run.taken
         && report.left.len() == run.left.len()

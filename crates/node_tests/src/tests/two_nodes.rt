@@ -38,7 +38,7 @@ struct Two<J: NodeNaming> {
 }
 
 impl<J: NodeNaming> Two<J> {
-    // Says whether the lane of the node at this index sends a tick.
+    // Returns true if the lane of the node at this index sends a tick.
     fn send<R: Wait>(&self, rt: &R, at: usize, now: u64) -> bool {
         match self.lanes.get(at) {
             Some(lanes) => send(rt, lanes.lock(rt).as_mut_slice(), 0, Item::Tick(now)),

@@ -190,7 +190,7 @@ fn is_client_copied(client: &ClientId) -> bool {
     }
 }
 
-// Says whether a later client has an equal copy and comes after this one, which is another.
+// Returns true if a later client has an equal copy and comes after this one, which is another.
 fn is_client_before(alloc: Global, client: &ClientId, later: &str) -> bool {
     match ClientId::new(alloc, later) {
         Ok(later) => *client < later && *client != later && is_client_copied(&later),

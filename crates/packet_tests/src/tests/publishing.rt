@@ -77,7 +77,7 @@ struct Large<'a> {
     front: &'a [u8],
 }
 
-// Says whether the bytes after the first two are read as a packet.
+// Returns true if the bytes after the first two are read as a packet.
 fn is_read_after(alloc: Global, packet: &Packet, bytes: &[u8]) -> bool {
     match bytes {
         [_, _, after @ ..] => is_read(alloc, packet, after),

@@ -1,8 +1,8 @@
 -- CountsStand.antt: a count that replaces another says all that the other said.
 use Rattle.std.proofs.Common.{◌≡◌, ℕ, ◌≤◌, ◌==◌, ◌&&◌, true, nat_le, List, [], ◌∷◌, max, refl, arith}
 use Rattle.ballot_base.specs.declared.status.Progress.{Progress}
-use Rattle.ballot_base.specs.Serving.{raised, raised_progress}
-use Rattle.post.specs.outbox.Laws.{LaterCommitsSuffice, LaterCountsSuffice}
+use Rattle.ballot_base.specs.Service.{raised, raised_progress}
+use Rattle.post.specs.outbox.Theorems.{LaterCommitsSuffice, LaterCountsSuffice}
 
 max_max : (a fewer held : ℕ) → fewer ≤ held → max (max a fewer) held ≡ max a held
 max_max a fewer held least = grind (arith, least)

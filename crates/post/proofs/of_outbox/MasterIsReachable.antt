@@ -15,9 +15,9 @@ use Rattle.node.specs.declared.Body.{Body}
 use Rattle.node.specs.declared.Body.TheVariants.{Activate, NewBallot}
 use Rattle.node.specs.declared.Config.{Config}
 use Rattle.post.specs.outbox.Given.{WasGivenToMaster}
-use Rattle.post.specs.outbox.Mastering.{IsReachable, WasAnswered}
-use Rattle.post.specs.outbox.Mastering.Answers.{to_node, to_order}
-use Rattle.post.specs.outbox.Mastering.IsReachable.{answers, opens}
+use Rattle.post.specs.outbox.MasterAnswers.{IsReachable, WasAnswered}
+use Rattle.post.specs.outbox.MasterAnswers.Answers.{to_node, to_order}
+use Rattle.post.specs.outbox.MasterAnswers.IsReachable.{answers, opens}
 
 pub opens_reachable : (config : Config) (master : MasterState) → master ≡ opening_master config → IsReachable master
 opens_reachable config master is = subst IsReachable (sym is) (opens config)

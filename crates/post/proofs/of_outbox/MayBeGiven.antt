@@ -7,9 +7,9 @@ use Rattle.ballot_base.specs.LawfulConfig.{is_lawful}
 use Rattle.agreement.specs.cut_logs.Masters.{MasterOutcome}
 use Rattle.broker_spec.specs.declared.command.Command.{Command}
 use Rattle.node.specs.declared.Config.{Config}
-use Rattle.post.specs.outbox.Mastering.{Answers, IsReachable, MayGet}
-use Rattle.post.specs.outbox.Mastering.Answers.{to_node, to_order}
-use Rattle.post.specs.outbox.Mastering.IsReachable.{answers, opens}
+use Rattle.post.specs.outbox.MasterAnswers.{Answers, IsReachable, MayGet}
+use Rattle.post.specs.outbox.MasterAnswers.Answers.{to_node, to_order}
+use Rattle.post.specs.outbox.MasterAnswers.IsReachable.{answers, opens}
 
 -- the first ballot, at least, was given
 activating_keeps : (master : MasterState) (ballot : ℕ) (waiting : Option (ℕ × Config))

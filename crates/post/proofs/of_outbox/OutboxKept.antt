@@ -11,7 +11,7 @@ use Rattle.lists.proofs.OfEach.{each_append}
 use Rattle.post.specs.outbox.Given.{Addressed}
 use Rattle.post.specs.outbox.Queued.{IsQueued, WasAnswered}
 use Rattle.post.specs.outbox.Queued.MayQueue.{of_master}
-use Rattle.post.specs.outbox.Waiting.{OutboxView, Waits, may_be_queued, is_of_node, of_nodes}
+use Rattle.post.specs.outbox.WaitingItems.{OutboxView, Waits, may_be_queued, is_of_node, of_nodes}
 
 one : Item → ℕ
 one item = if is_of_node item then 1 else 0

@@ -1,6 +1,6 @@
 -- What a step of a node gave for others.
 use Rattle.std.specs.Prelude.{◌≡◌, ℕ, List}
-use Rattle.ballot_base.specs.Sending.{master}
+use Rattle.ballot_base.specs.StepOutcome.{master}
 use Rattle.broker_spec.specs.declared.command.Command.{Command}
 use Rattle.broker_spec.specs.declared.command.Output.{Output}
 use Rattle.ballot_base.specs.declared.message.Effect.{Effect}

@@ -7,7 +7,7 @@ use Rattle.ballot_base.specs.declared.message.Message.{Message}
 use Rattle.node.specs.declared.Item.{Item}
 use Rattle.node.specs.declared.Item.TheVariants.{Peer, Expel, Crash}
 pub use Rattle.post.specs.outbox.Given.{EachOpens, IsNewNode, WasGiven, WasGivenToMaster}
-pub use Rattle.post.specs.outbox.Mastering.{WasAnswered}
+pub use Rattle.post.specs.outbox.MasterAnswers.{WasAnswered}
 
 -- what any sender except the master may queue for a node of this number
 pub data IsPosted (receiver : ℕ) : Item → Type 0 where

@@ -7,7 +7,7 @@ ghost use Rattle.ballot_base.specs.LawfulConfig.{is_lawful};
 ghost use Rattle.agreement.specs.cut_logs.Masters.{assigned};
 ghost use Rattle.broker_spec.specs.declared.command.Command.{Command};
 ghost use Rattle.post.specs.outbox.Queued.{WasAnswered, WasGivenToMaster};
-ghost use Rattle.post.specs.outbox.Mastering.{MayGet, answer_to, master_after_outcome, message_if, message_of};
+ghost use Rattle.post.specs.outbox.MasterAnswers.{MayGet, answer_to, master_after_outcome, message_if, message_of};
 
 use crate::outbox::order_error::OrderError;
 use ballot_base::{Body, Config, MASTER, Members, Message};
@@ -68,7 +68,7 @@ pub struct MessagingMaster {
 
 impl Model for MessagingMaster {
     ghost use Rattle.agreement.specs.MasterState.{MasterState};
-    ghost use Rattle.post.specs.outbox.Mastering.{IsReachable};
+    ghost use Rattle.post.specs.outbox.MasterAnswers.{IsReachable};
 
     ghost Value = { MasterState };
 

@@ -9,15 +9,15 @@ ghost use Rattle.lists.specs.Lists.{Each};
 ghost use Rattle.node.specs.declared.Item.TheVariants.{Peer};
 ghost use Rattle.agreement.specs.cut_logs.Masters.{assigned};
 ghost use Rattle.post.specs.outbox.Queued.{IsPosted, IsQueued};
-ghost use Rattle.post.specs.outbox.Mastering.{MayGet, message_of};
-ghost use Rattle.post.specs.outbox.Replacing.{newest_item, still_waiting, replaces_one};
-ghost use Rattle.post.specs.outbox.Waiting.{AreUnchanged, may_be_queued, is_of_node};
-ghost use Rattle.post.specs.outbox.Waking.{is_long, wakes};
+ghost use Rattle.post.specs.outbox.MasterAnswers.{MayGet, message_of};
+ghost use Rattle.post.specs.outbox.Replacement.{newest_item, still_waiting, replaces_one};
+ghost use Rattle.post.specs.outbox.WaitingItems.{AreUnchanged, may_be_queued, is_of_node};
+ghost use Rattle.post.specs.outbox.Urgency.{is_long, wakes};
 
 use crate::outbox::messaging_master::{Answer, MessagingMaster};
 use crate::outbox::order_error::OrderError;
-use crate::outbox::replacing::replaces;
-use crate::outbox::waking::is_any_urgent;
+use crate::outbox::replacement::replaces;
+use crate::outbox::urgency::is_any_urgent;
 use ballot_base::{Config, MASTER};
 use master::AssignError;
 use std::alloc::Global;
@@ -45,7 +45,7 @@ pub struct Outbox {
 }
 
 impl Model for Outbox {
-    ghost use Rattle.post.specs.outbox.Waiting.{OutboxView, Waits};
+    ghost use Rattle.post.specs.outbox.WaitingItems.{OutboxView, Waits};
 
     ghost Value = { OutboxView };
 
@@ -72,22 +72,22 @@ impl Outbox {
         self.number
     }
 
-    /// Says whether nothing waits.
+    /// Returns true if nothing waits.
     pub fn is_empty(&self) -> bool
         ensures { (result ≡ true) ↔ (self.now.items ≡ []) }
     {
         self.items.is_empty()
     }
 
-    /// Says whether an item waits that wakes the node. Few of the other items come in a row, since
-    /// each replaces the one before it.
+    /// Returns true if an item waits that wakes the node. Few of the other items come in a row,
+    /// since each replaces the one before it.
     pub fn is_urgent(&self) -> bool
         ensures { result ≡ list_any wakes self.now.items }
     {
         is_any_urgent(self.items.as_slice())
     }
 
-    /// Says whether so much waits that the node's own thread should take it, in parallel to the
+    /// Returns true if so much waits that the node's own thread should take it, in parallel to the
     /// giver.
     pub fn is_long(&self) -> bool
         ensures { result ≡ is_long self.now.items }
@@ -181,7 +181,7 @@ impl Outbox {
         self.items.push(item).is_ok()
     }
 
-    // Says whether an item may be queued after those that wait.
+    // Returns true if an item may be queued after those that wait.
     fn may_be_queued(&self, item: &Item) -> bool
         ensures { result ≡ may_be_queued item.now self.now.items }
     {
@@ -198,7 +198,7 @@ impl Outbox {
         }
     }
 
-    // Says whether this item replaces the newest that waits.
+    // Returns true if this item replaces the newest that waits.
     fn is_newest_replaced(&self, item: &Item) -> bool
         ensures { result ≡ replaces_one item.now (newest_item self.now.items) }
     {
@@ -228,7 +228,7 @@ impl Answer {
     }
 }
 
-// Says whether an item is a message of another node.
+// Returns true if an item is a message of another node.
 fn is_of_node(item: &Item) -> bool
     ensures { result ≡ is_of_node item.now }
 {

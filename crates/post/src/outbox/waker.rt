@@ -32,7 +32,8 @@ impl Waker {
         }
     }
 
-    /// Says whether the thread sleeps, or said that it is about to: it may have found work instead.
+    /// Returns true if the thread sleeps, or said that it is about to: it may have found work
+    /// instead.
     pub fn is_asleep<R: Wait>(&self, rt: &R) -> bool {
         *self.asleep.lock(rt)
     }

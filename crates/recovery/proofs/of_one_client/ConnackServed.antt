@@ -1,8 +1,8 @@
 -- A client that handles a CONNACK 0 with session present is online then.
 use Rattle.std.proofs.Common.{◌≡◌, ◌⊎◌, inl, inr, ℕ, true, List, [], ◌++◌, Option, Some, None, Result, Ok, Err, refl, sym, ap, ◌∙◌, subst}
 use Rattle.client.specs.Core.{Core, nothing_read}
-use Rattle.client.specs.Reading.{EndsWith, Handles, OnBytes, ReadsPacket, StopsFor, fed, outcome_of_packet}
-use Rattle.client.specs.Reading.Handles.{none, more}
+use Rattle.client.specs.Input.{EndsWith, Handles, OnBytes, ReadsPacket, StopsFor, fed, outcome_of_packet}
+use Rattle.client.specs.Input.Handles.{none, more}
 use Rattle.client_base.specs.Answered.{ClientOutcome}
 use Rattle.client_base.specs.Calls.{client_receives}
 use Rattle.client_base.specs.State.{ClientState, is_online}

@@ -18,7 +18,7 @@ use Rattle.packet.specs.Verdict.{verdict}
 use Rattle.ballot_base.specs.declared.message.Effect.{Effect}
 use Rattle.ballot_base.specs.declared.message.Effect.TheVariants.{Out}
 use Rattle.ballot_base.specs.Logs.{places}
-use Rattle.ballot_base.specs.Serving.{max_places, proposed}
+use Rattle.ballot_base.specs.Service.{max_places, proposed}
 use Rattle.broker_spec.specs.declared.command.Command.{Command}
 use Rattle.broker_spec.specs.declared.command.Command.TheVariants as commands
 use Rattle.broker_spec.specs.Connection.{ConnectionName}
@@ -30,14 +30,14 @@ use Rattle.world_base.specs.declared.node_core.Port.{Port}
 use Rattle.world_base.specs.node_connections.Connections.{is_at, awaits_first_packet, is_open_at, is_open_named, is_closed, is_proposed}
 use Rattle.world_base.specs.node_connections.ConnectionChanges.{noted_proposed, changed_where, closed_connection, with_unread, left_with, max_pending}
 use Rattle.world_base.specs.node_core.Core.{CoreState, StepOutcome, rules, serves}
-use Rattle.world_base.specs.node_core.Handing.{listed_at}
-use Rattle.world_base.specs.node_core.Reading.{takes_first_packet, changes, loses, open_at, reads, reads_all, reads_next, reads_of, proposes_packet, unread_of}
-use Rattle.world_base.specs.node_connections.Refusing.{connect_refused}
+use Rattle.world_base.specs.node_core.PortOutput.{listed_at}
+use Rattle.world_base.specs.node_core.PacketInput.{takes_first_packet, changes, loses, open_at, reads, reads_all, reads_next, reads_of, proposes_packet, unread_of}
+use Rattle.world_base.specs.node_connections.Refusals.{connect_refused}
 use Rattle.world_base.specs.node_core.Step.{node_step}
 use Rattle.world_base.specs.node_core.Effects.{has_room, after_replica_step, proposes, without_messages, repeated, with_effect}
 use Rattle.headline.proofs.of_node_moves.Views.{found_passes}
-use Rattle.recovery.specs.one_node.Answering.{AnswerAloneIsPutOut, PutsOutFirst}
-use Rattle.recovery.specs.one_node.Asking.{asked_now, proposal_at}
+use Rattle.recovery.specs.one_node.FirstAnswer.{AnswerAloneIsPutOut, PutsOutFirst}
+use Rattle.recovery.specs.one_node.ConnectRequest.{asked_now, proposal_at}
 use Rattle.recovery.proofs.of_one_node.AnswerPutOut.{FrontOf, Keeps, closed_keeps, first_put, found_both, front_acted, front_changed, front_delivered, front_proposed}
 use Rattle.recovery.proofs.of_one_node.ConnectProposed.{changed_twice, find_changed, is_more, two_kinds}
 use Rattle.recovery.proofs.of_one_node.OneDelivery.{with_replica}

@@ -11,14 +11,14 @@ use Rattle.world_base.specs.declared.node_core.Port.{Port}
 use Rattle.world_base.specs.node_connections.Connections.{fresh, is_at, is_listed, is_open_at, is_open_named, is_closed}
 use Rattle.world_base.specs.node_connections.ConnectionChanges.{changed_where, closed_connection, nothing_pending}
 use Rattle.world_base.specs.node_core.Core.{CoreState, StepOutcome, serves}
-use Rattle.world_base.specs.node_core.Failing.{reports_all_failed}
-use Rattle.world_base.specs.node_core.Handing.{hands_over, left_by, listed_at}
+use Rattle.world_base.specs.node_core.FailedConnections.{reports_all_failed}
+use Rattle.world_base.specs.node_core.PortOutput.{hands_over, left_by, listed_at}
 use Rattle.world_base.specs.node_core.Step.{node_step, settled}
 use Rattle.headline.proofs.of_node_moves.Views.{found_passes}
 use Rattle.recovery.specs.one_node.Delivery.{heard_by}
-use Rattle.recovery.specs.one_node.Asking.{asked_now, proposal_at}
+use Rattle.recovery.specs.one_node.ConnectRequest.{asked_now, proposal_at}
 use Rattle.recovery.specs.one_node.Opening.{first_name_of_node}
-use Rattle.recovery.specs.one_node.Waiting.{AskedAwaitsAnswer, AwaitsAnswer, AwaitsConnect, FirstAwaitsConnect, HandingKeepsItWaiting, HandingKeepsTheConnect, MessagesKeepItWaiting}
+use Rattle.recovery.specs.one_node.AwaitedAnswer.{AskedAwaitsAnswer, AwaitsAnswer, AwaitsConnect, FirstAwaitsConnect, HandingKeepsItWaiting, HandingKeepsTheConnect, MessagesKeepItWaiting}
 use Rattle.recovery.proofs.of_one_node.AnswerPutOut.{found_both}
 use Rattle.recovery.proofs.of_one_node.OneDelivery.{calm_finds, drives_silently, none_lost, with_replica}
 

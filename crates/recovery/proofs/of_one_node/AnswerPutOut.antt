@@ -10,7 +10,7 @@ use Rattle.packet.specs.Spelling.{spelling}
 use Rattle.ballot_base.specs.declared.message.Effect.{Effect}
 use Rattle.ballot_base.specs.declared.message.Effect.TheVariants.{To, Out}
 use Rattle.ballot_base.specs.Protocol.Input.{Receives}
-use Rattle.ballot_base.specs.Serving.{proposed}
+use Rattle.ballot_base.specs.Service.{proposed}
 use Rattle.broker_spec.specs.declared.command.Command.{Command}
 use Rattle.broker_spec.specs.declared.command.Command.TheVariants as commands
 use Rattle.broker_spec.specs.Connection.{ConnectionName}
@@ -22,12 +22,12 @@ use Rattle.world_base.specs.declared.node_core.Port.{Port}
 use Rattle.world_base.specs.node_connections.Connections.{has_failed, is_at, is_listed, is_open_named, is_closed}
 use Rattle.world_base.specs.node_connections.ConnectionChanges.{changed_where, closed_connection, failing, max_pending, with_queued, putting}
 use Rattle.world_base.specs.node_core.Core.{CoreState, StepOutcome, rules, serves}
-use Rattle.world_base.specs.node_core.Failing.{closes_failed, reports_all_failed, reports_failed, reports_if}
-use Rattle.world_base.specs.node_core.Handing.{listed_at}
+use Rattle.world_base.specs.node_core.FailedConnections.{closes_failed, reports_all_failed, reports_failed, reports_if}
+use Rattle.world_base.specs.node_core.PortOutput.{listed_at}
 use Rattle.world_base.specs.node_core.Step.{node_step, settled}
 use Rattle.world_base.specs.node_core.Effects.{changes_named, drives, after_replica_step, proposes, without_messages, repeated, with_effect, performed_by}
 use Rattle.headline.proofs.of_node_moves.Views.{found_passes}
-use Rattle.recovery.specs.one_node.Answering.{AnswerIsPutOut, PutsOutFirst}
+use Rattle.recovery.specs.one_node.FirstAnswer.{AnswerIsPutOut, PutsOutFirst}
 use Rattle.recovery.specs.one_node.Delivery.{heard_by}
 use Rattle.recovery.proofs.of_one_node.OneDelivery.{with_replica}
 

@@ -92,24 +92,24 @@ each_flat P f each [] = tt
 each_flat P f each (a ∷ list) = each_append P (f a) (flat_map f list) (each a) (each_flat P f each list)
 
 again : (x : ConnectionName) (n : ℕ) (e : Entry) → Each (IsSentTo x) (repeated_output x n e)
-again x n (Entry.Waits made p) = tt
-again x n (Entry.Started made p id start) = by (start == n)
+again x n (Entry.Queued made p) = tt
+again x n (Entry.Sent made p id start) = by (start == n)
   where
     by : (b : Bool) → Each (IsSentTo x) (if b then [] else publish_output x true id p ∷ [])
     by true = tt
     by false = (refl, tt)
 again x n (Entry.Released made p id start release) = tt
-again x n (Entry.Finished made p id start release finish) = tt
+again x n (Entry.Done made p id start release finish) = tt
 
 first : (x : ConnectionName) (n : ℕ) (e : Entry) → Each (IsSentTo x) (first_output x n e)
-first x n (Entry.Waits made p) = tt
-first x n (Entry.Started made p id start) = by (start == n)
+first x n (Entry.Queued made p) = tt
+first x n (Entry.Sent made p id start) = by (start == n)
   where
     by : (b : Bool) → Each (IsSentTo x) (if b then publish_output x false id p ∷ [] else [])
     by true = (refl, tt)
     by false = tt
 first x n (Entry.Released made p id start release) = tt
-first x n (Entry.Finished made p id start release finish) = tt
+first x n (Entry.Done made p id start release finish) = tt
 
 each_resent : (x : ConnectionName) (n : ℕ) (es : List Entry) → Each (IsSentTo x) (resent_outputs x n es)
 each_resent x n es =

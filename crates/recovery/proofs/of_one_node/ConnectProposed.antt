@@ -12,9 +12,9 @@ use Rattle.packet.specs.Verdict.{verdict}
 use Rattle.ballot_base.specs.declared.message.Effect.{Effect}
 use Rattle.ballot_base.specs.Logs.{places, pushed}
 use Rattle.ballot_base.specs.Replica.{CountedReplica, ReplicaState, is_active}
-use Rattle.ballot_base.specs.Sending.{Outcome, message_to_followed, sent_first, is_message}
+use Rattle.ballot_base.specs.StepOutcome.{Outcome, message_to_followed, sent_first, is_message}
 use Rattle.ballot_base.specs.declared.message.Body.TheVariants.{Append}
-use Rattle.ballot_base.specs.Serving.{added, least, max_places, proposed}
+use Rattle.ballot_base.specs.Service.{added, least, max_places, proposed}
 use Rattle.ballot_base.proofs.StepRows.{added-is, commit_at-goes, commit_at-stays}
 use Rattle.agreement.specs.cut_logs.World.{outputs}
 use Rattle.broker_spec.specs.declared.command.Command.{Command}
@@ -27,12 +27,12 @@ use Rattle.world_base.specs.declared.node_core.Port.{Port}
 use Rattle.world_base.specs.node_connections.Connections.{has_failed, is_at, awaits_first_packet, is_listed, is_open_at, is_closed}
 use Rattle.world_base.specs.node_connections.ConnectionChanges.{noted_proposed, changed_where, closed_connection, with_unread, left_with}
 use Rattle.world_base.specs.node_core.Core.{CoreState, StepOutcome, rules, serves}
-use Rattle.world_base.specs.node_core.Failing.{reports_all_failed}
-use Rattle.world_base.specs.node_core.Reading.{changes, open_at, reads, reads_all, reads_next, reads_of, unread_of}
+use Rattle.world_base.specs.node_core.FailedConnections.{reports_all_failed}
+use Rattle.world_base.specs.node_core.PacketInput.{changes, open_at, reads, reads_all, reads_next, reads_of, unread_of}
 use Rattle.world_base.specs.node_core.Step.{node_step, settled}
 use Rattle.world_base.specs.node_core.Effects.{has_room, proposes, without_messages, repeated, with_effect, then_also}
 use Rattle.headline.proofs.of_node_moves.Views.{each_kept}
-use Rattle.recovery.specs.one_node.Asking.{ConnectIsProposed, asked_now, proposal_at, with_asked_connect}
+use Rattle.recovery.specs.one_node.ConnectRequest.{ConnectIsProposed, asked_now, proposal_at, with_asked_connect}
 use Rattle.recovery.specs.one_node.Delivery.{ReportsItsLosses}
 use Rattle.recovery.proofs.of_one_node.OneDelivery.{calm_finds, none_lost, none_handled, only_messages, with_replica}
 

@@ -11,7 +11,7 @@ use Rattle.world_base.specs.declared.node_core.Port.{Port}
 use Rattle.world_base.specs.node_connections.Connections.{fresh, has_failed, is_at, is_listed}
 use Rattle.world_base.specs.node_connections.ConnectionChanges.{closed_connection}
 use Rattle.world_base.specs.node_core.Core.{CoreState, StepOutcome, serves}
-use Rattle.world_base.specs.node_core.Failing.{reports_all_failed}
+use Rattle.world_base.specs.node_core.FailedConnections.{reports_all_failed}
 use Rattle.world_base.specs.node_core.Step.{next_name, with_next_connection, settled}
 use Rattle.world_base.specs.node_core.Effects.{without_messages}
 use Rattle.recovery.specs.one_node.Opening.{FirstIsOpened, first_name_of_node, with_first_connection}

@@ -9,7 +9,7 @@ use Rattle.ballot_base.specs.declared.message.Effect.TheVariants.{To, Out}
 use Rattle.ballot_base.specs.declared.message.Message.{Message}
 use Rattle.ballot_base.specs.Protocol.Input.{Receives}
 use Rattle.ballot_base.specs.Replica.{CountedReplica, ReplicaState, is_active}
-use Rattle.ballot_base.specs.Sending.{Outcome, is_message}
+use Rattle.ballot_base.specs.StepOutcome.{Outcome, is_message}
 use Rattle.agreement.specs.cut_logs.World.{outputs}
 use Rattle.broker_spec.specs.declared.command.Command.{Command}
 use Rattle.broker_spec.specs.declared.command.Output.{Output}
@@ -18,7 +18,7 @@ use Rattle.world_base.specs.declared.node_core.Connection.{Connection}
 use Rattle.world_base.specs.declared.node_core.item.Item.TheVariants.{Peer}
 use Rattle.world_base.specs.node_connections.Connections.{has_failed}
 use Rattle.world_base.specs.node_core.Core.{CoreState, StepOutcome, serves}
-use Rattle.world_base.specs.node_core.Failing.{closes_failed, reports_all_failed, reports_failed, reports_if}
+use Rattle.world_base.specs.node_core.FailedConnections.{closes_failed, reports_all_failed, reports_failed, reports_if}
 use Rattle.world_base.specs.node_core.Step.{node_step, settled}
 use Rattle.world_base.specs.node_core.Effects.{drives, after_replica_step, proposes, without_messages, repeated, with_effect, then_also}
 use Rattle.headline.proofs.of_node_moves.LossesReported.{each_loss_is_reported}

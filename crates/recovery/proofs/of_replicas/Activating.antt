@@ -3,7 +3,7 @@ use Rattle.std.proofs.Common.{◌≡◌, ℕ, ◌+◌, ◌<◌, List, [], ◌∷
 use Rattle.std.specs.Prelude.{slice_get}
 use Rattle.std.proofs.lemmas.Bool.{eq-eqb}
 use Rattle.machine.specs.Machine.{Rules}
-use Rattle.agreement.specs.whole_logs.Applying.{applied_to, outputs_to}
+use Rattle.agreement.specs.whole_logs.Application.{applied_to, outputs_to}
 use Rattle.agreement.specs.whole_logs.Messages.Body.{Activate, Activated, Append, Held}
 use Rattle.ballot_base.specs.declared.config.Config.{Config}
 use Rattle.agreement.specs.whole_logs.Messages.{Effect, Message}
@@ -11,8 +11,8 @@ use Rattle.agreement.specs.whole_logs.Messages.Effect.{Out}
 use Rattle.agreement.specs.whole_logs.Protocol.{received}
 use Rattle.agreement.specs.whole_logs.Replica.{ReplicaState}
 use Rattle.ballot_base.specs.Replica.{others, progress_at}
-use Rattle.agreement.specs.whole_logs.Sending.{Outcome, message_to_followed}
-use Rattle.ballot_base.specs.Serving.{max_places}
+use Rattle.agreement.specs.whole_logs.StepOutcome.{Outcome, message_to_followed}
+use Rattle.ballot_base.specs.Service.{max_places}
 use Rattle.agreement.specs.MasterState.{MasterOutcome, MasterState, activated}
 use Rattle.agreement.specs.Moments.{Moment}
 use Rattle.agreement.specs.World.{messages, outputs}
@@ -20,7 +20,7 @@ use Rattle.agreement.proofs.Effects.{outputs_of_messages}
 use Rattle.lists.specs.Lists.{In}
 use Rattle.recovery.specs.replicas.Deliveries.{NumbersAreApart, Delivered, NodeIs, after_activate, numbers_from}
 use Rattle.recovery.specs.replicas.Deliveries.Delivered.{to_master}
-use Rattle.recovery.specs.replicas.Following.{Follows, LeadsWhole}
+use Rattle.recovery.specs.replicas.LedStates.{Follows, LeadsWhole}
 use Rattle.recovery.specs.replicas.Inside.{installing, known}
 use Rattle.recovery.proofs.of_replicas.AllCome.{Taken, takes_one, then_come}
 use Rattle.recovery.proofs.of_replicas.Broadcasts.{to_each}

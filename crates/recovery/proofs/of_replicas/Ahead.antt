@@ -11,14 +11,14 @@ use Rattle.machine.specs.Machine.{Rules, replay, replay_from}
 use Rattle.agreement.specs.whole_logs.Messages.{Body}
 use Rattle.agreement.specs.whole_logs.Messages.Body.{NewBallot, Join, State, Install, Installed, Activate, Activated, Superseded, Append, Held, Commit}
 use Rattle.ballot_base.specs.declared.status.Role.TheVariants.{Active, Backup}
-use Rattle.agreement.specs.whole_logs.Changing.{on_new_ballot, on_join, on_state, on_install}
-use Rattle.agreement.specs.whole_logs.Activating.{activates, on_installed, on_activated, on_superseded}
+use Rattle.agreement.specs.whole_logs.Transfer.{on_new_ballot, on_join, on_state, on_install}
+use Rattle.agreement.specs.whole_logs.Activation.{activates, on_installed, on_activated, on_superseded}
 use Rattle.agreement.specs.whole_logs.Protocol.{received}
 use Rattle.agreement.specs.whole_logs.Replica.{ReplicaState}
 use Rattle.ballot_base.specs.Replica.{is_active, is_fetching, is_installing, others, progress_at}
-use Rattle.agreement.specs.whole_logs.Sending.{Outcome, message_to, nothing_done}
-use Rattle.agreement.specs.whole_logs.Serving.{added, extended, follows, leads, on_append, on_commit, on_held}
-use Rattle.ballot_base.specs.Serving.{max_places}
+use Rattle.agreement.specs.whole_logs.StepOutcome.{Outcome, message_to, nothing_done}
+use Rattle.agreement.specs.whole_logs.Service.{added, extended, follows, leads, on_append, on_commit, on_held}
+use Rattle.ballot_base.specs.Service.{max_places}
 use Rattle.ballot_base.proofs.AppliesInOrder.{replay_goes_on}
 use Rattle.agreement.proofs.of_whole_logs.ChangeRows.{on_install-answers, on_install-stays, on_state-stays}
 

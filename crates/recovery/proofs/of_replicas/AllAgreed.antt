@@ -10,16 +10,16 @@ use Rattle.lists.proofs.Prefixes.{prefix_length}
 use Rattle.ballot_base.specs.declared.config.Config.{Config}
 use Rattle.agreement.specs.whole_logs.Replica.{ReplicaState}
 use Rattle.agreement.specs.Moments.{Moment, Moments, IsAgreed}
-use Rattle.agreement.specs.Inside.Ballots.{Given, IsChosenIn, Told}
-use Rattle.agreement.specs.Inside.Ballots.Told.{told_as_primary, told_by_held}
+use Rattle.agreement.specs.Inside.Ballots.{Given, IsChosenIn, Acknowledged}
+use Rattle.agreement.specs.Inside.Ballots.Acknowledged.{told_as_primary, told_by_held}
 use Rattle.agreement.specs.Inside.Chosen.{ChosenList}
 use Rattle.agreement.specs.Inside.SoundNodes.{IsActive}
 use Rattle.agreement.proofs.Agreed.MomentsAgree.{agreed_known, has_agreed, nodes_agree}
 use Rattle.agreement.proofs.Agreed.MomentsAreKnown.{IsKnown}
 use Rattle.agreement.proofs.Agreed.MomentsKnown.{moments_known}
 use Rattle.recovery.specs.replicas.Deliveries.{NodeIs}
-use Rattle.recovery.specs.replicas.Following.{LeadsWhole}
-use Rattle.recovery.specs.replicas.AnswerLaws.{WhatAllHoldIsAgreed}
+use Rattle.recovery.specs.replicas.LedStates.{LeadsWhole}
+use Rattle.recovery.specs.replicas.AnswerTheorems.{WhatAllHoldIsAgreed}
 
 -- lists that begin one another are one
 prefix_both : {X : Type 0} (xs ys : List X) → IsPrefixOf xs ys → IsPrefixOf ys xs → xs ≡ ys
@@ -51,7 +51,7 @@ module _ {S C O : Type 0} (rules : Rules S C O) (config : Config) (a : Moment S 
       (ap known.history.given serves.held ∙ given) active.leads.2 (ap known.history.line serves.held ∙ lined)) ∙ serves.log_is
 
   -- all its members have acknowledged it
-  chosen : ((m : ℕ) → In m os → Told a.world known.history m a.master.active (length log)) → IsChosenIn a.world known.history a.master.active (length log)
+  chosen : ((m : ℕ) → In m os → Acknowledged a.world known.history m a.master.active (length log)) → IsChosenIn a.world known.history a.master.active (length log)
   chosen told = (active.leads.0, given, λ m i. by m (subst (λ ms. In m ms) same i) (cases_eq m (index + 1)))
     where
       same : active.leads.0.members ≡ a.master.members
@@ -60,12 +60,12 @@ module _ {S C O : Type 0} (rules : Rules S C O) (config : Config) (a : Moment S 
           by_given : (g : Given) × (known.history.given a.master.active ≡ Some g) × (g.members ≡ a.master.members) → active.leads.0.members ≡ a.master.members
           by_given (g, e, is) = let f = given in let one : active.leads.0 ≡ g = cc in ap (λ (x : Given). x.members) one ∙ is
 
-      by : (m : ℕ) → In m a.master.members → (m ≡ index + 1) ⊎ (m ≡ index + 1 → ⊥) → Told a.world known.history m a.master.active (length log)
+      by : (m : ℕ) → In m a.master.members → (m ≡ index + 1) ⊎ (m ≡ index + 1 → ⊥) → Acknowledged a.world known.history m a.master.active (length log)
       by m i (inl e) = told_as_primary active.leads.0 active.line given (active.leads.2 ∙ sym e) lined (let z = ap length list_is in omega (arith, z))
       by m i (inr ne) = told m (named m i ne)
 
   -- so it is the longest that is chosen, and the primary has no more
-  pub agreed_is : ((m : ℕ) → In m os → Told a.world known.history m a.master.active (length log)) → (xs : List C) → IsAgreed config (a ∷ moments) xs → xs ≡ log
+  pub agreed_is : ((m : ℕ) → In m os → Acknowledged a.world known.history m a.master.active (length log)) → (xs : List C) → IsAgreed config (a ∷ moments) xs → xs ≡ log
   agreed_is told xs agreed =
       prefix_both xs log
       (subst (λ (us : List C). IsPrefixOf xs us) serves.log_is ((nodes_agree rules config a moments xs came agreed).0.held index r stands member))

@@ -7,7 +7,7 @@ use Rattle.machine.specs.Machine.{Rules, replay}
 use Rattle.lists.specs.Lists.{In}
 use Rattle.lists.proofs.Members.{in_right}
 use Rattle.lists.proofs.Places.{get_set, get_set_other}
-use Rattle.agreement.specs.whole_logs.Applying.{applied_to, outputs_to}
+use Rattle.agreement.specs.whole_logs.Application.{applied_to, outputs_to}
 use Rattle.agreement.specs.whole_logs.Messages.Body.{Append, Held, Commit}
 use Rattle.agreement.specs.whole_logs.Messages.{Effect, Message}
 use Rattle.agreement.specs.whole_logs.Messages.Effect.{Out}
@@ -16,18 +16,18 @@ use Rattle.agreement.specs.whole_logs.Protocol.{received, replica_step}
 use Rattle.agreement.specs.whole_logs.Protocol.Input.{Proposes}
 use Rattle.agreement.specs.whole_logs.Replica.{ReplicaState}
 use Rattle.ballot_base.specs.Replica.{is_active, progress_at}
-use Rattle.agreement.specs.whole_logs.Sending.{Outcome, message_to_followed}
-use Rattle.agreement.specs.whole_logs.Serving.{added}
-use Rattle.ballot_base.specs.Serving.{max_places}
+use Rattle.agreement.specs.whole_logs.StepOutcome.{Outcome, message_to_followed}
+use Rattle.agreement.specs.whole_logs.Service.{added}
+use Rattle.ballot_base.specs.Service.{max_places}
 use Rattle.agreement.proofs.of_whole_logs.StepRows.{proposed-adds}
 use Rattle.agreement.specs.Moments.{Moment}
 use Rattle.agreement.specs.World.{messages, outputs}
 use Rattle.agreement.proofs.Agreed.MomentsAgree.{machines_replay}
 use Rattle.agreement.proofs.Effects.{outputs_of_messages}
 use Rattle.recovery.specs.replicas.Deliveries.{after_outcome, NumbersAreApart, Delivered, NodeIs, numbers_from}
-use Rattle.recovery.specs.replicas.Following.{Follows, LeadsIn, LeadsWhole}
+use Rattle.recovery.specs.replicas.LedStates.{Follows, LeadsIn, LeadsWhole}
 use Rattle.recovery.specs.replicas.Inside.{known}
-use Rattle.recovery.specs.replicas.AnswerLaws.{AnswersCommand, CommandsAreAnswered, IsHeldByAll}
+use Rattle.recovery.specs.replicas.AnswerTheorems.{AnswersCommand, CommandsAreAnswered, IsHeldByAll}
 use Rattle.recovery.proofs.of_replicas.AllCome.{front_stands, last_stands, then_come}
 use Rattle.recovery.proofs.of_replicas.Broadcasts.{Answered, all_answer, from_each, to_each}
 use Rattle.recovery.proofs.of_replicas.Gathers.{Gathered, all_but_last, nothing_after}

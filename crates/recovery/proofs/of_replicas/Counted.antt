@@ -1,8 +1,8 @@
 -- Numbers that follow one another, and how many they are.
 use Rattle.std.proofs.Common.{◌≡◌, ℕ, zero, suc, ◌+◌, ◌*◌, List, [], ◌∷◌, ◌++◌, length, refl, sym, ap, ◌∙◌, arith, append_assoc}
 use Rattle.std.proofs.lemmas.List.{length-append}
-use Rattle.recovery.specs.replicas.Deliveries.{asked_and_answered, activate_number, numbers_from, way_out}
-use Rattle.recovery.specs.replicas.Lengths.{WaysAreShort}
+use Rattle.recovery.specs.replicas.Deliveries.{asked_and_answered, activate_number, numbers_from, recovery_messages}
+use Rattle.recovery.specs.replicas.Lengths.{RecoveriesAreShort}
 
 -- ---- one more
 
@@ -30,10 +30,10 @@ asked_many k others =
     let both = length-append (numbers_from k others) (numbers_from (k + others) others) in
     omega (arith, one, two, both)
 
-pub ways_are_short : WaysAreShort
-ways_are_short sent members index others =
+pub recoveries_are_short : RecoveriesAreShort
+recoveries_are_short sent members index others =
     let first = asked_many (sent + members + 2) others in
     let last = asked_many (activate_number sent members others + 2) others in
     let both = length-append (asked_and_answered (sent + members + 2) others)
     (activate_number sent members others ∷ (activate_number sent members others + 1) ∷ asked_and_answered (activate_number sent members others + 2) others) in
-    ((let e : length (way_out sent members index others) ≡ 5 + 4 * others = omega (arith, first, last, both) in e), asked_many sent others)
+    ((let e : length (recovery_messages sent members index others) ≡ 5 + 4 * others = omega (arith, first, last, both) in e), asked_many sent others)

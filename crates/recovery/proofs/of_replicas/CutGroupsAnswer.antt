@@ -16,7 +16,7 @@ use Rattle.agreement.specs.whole_logs.Messages.{Effect as effects}
 use Rattle.agreement.specs.whole_logs.Protocol.{received as whole_received, replica_step as whole_step}
 use Rattle.agreement.specs.whole_logs.Protocol.Input.{Proposes as whole_proposes}
 use Rattle.agreement.specs.whole_logs.Replica.{ReplicaState as WholeState}
-use Rattle.agreement.specs.whole_logs.Sending.{Outcome as WholeOutcome}
+use Rattle.agreement.specs.whole_logs.StepOutcome.{Outcome as WholeOutcome}
 use Rattle.ballot_base.specs.declared.config.Config.{Config}
 use Rattle.ballot_base.specs.declared.message.Body.{Body}
 use Rattle.ballot_base.specs.declared.message.Body.TheVariants.{NewBallot, Join, State, Install, Installed, Activate, Activated, Superseded, Append, Held, Commit}
@@ -26,8 +26,8 @@ use Rattle.ballot_base.specs.declared.message.Message.{Message}
 use Rattle.ballot_base.specs.Protocol.{received, replica_step}
 use Rattle.ballot_base.specs.Protocol.Input.{Proposes}
 use Rattle.ballot_base.specs.Replica.{ReplicaState}
-use Rattle.ballot_base.specs.Sending.{Outcome}
-use Rattle.ballot_base.specs.Serving.{max_places}
+use Rattle.ballot_base.specs.StepOutcome.{Outcome}
+use Rattle.ballot_base.specs.Service.{max_places}
 use Rattle.agreement.specs.cut_logs.Moments.{Moment, Moments, whole_moment}
 use Rattle.agreement.specs.cut_logs.Moments.Moments.{went_on}
 use Rattle.agreement.specs.cut_logs.Steps.{MayHappen}
@@ -40,10 +40,10 @@ use Rattle.agreement.proofs.of_cut_logs.MomentsKept.{StandsFor, moments_stand}
 use Rattle.agreement.proofs.of_cut_logs.Views.{get_whole, outputs_whole}
 use Rattle.recovery.specs.replicas.Deliveries.{NumbersAreApart, Delivered as WholeDelivered, NodeIs, numbers_from}
 use Rattle.recovery.specs.replicas.Deliveries.{after_outcome as whole_after_outcome}
-use Rattle.recovery.specs.replicas.Following.{Follows, LeadsWhole}
-use Rattle.recovery.specs.replicas.AnswerLaws.{AnswersCommand as WholeAnswers, IsHeldByAll as WholeHeldByAll}
+use Rattle.recovery.specs.replicas.LedStates.{Follows, LeadsWhole}
+use Rattle.recovery.specs.replicas.AnswerTheorems.{AnswersCommand as WholeAnswers, IsHeldByAll as WholeHeldByAll}
 use Rattle.recovery.proofs.of_replicas.Answering.{commands_are_answered}
-use Rattle.recovery.specs.replicas.Answering.{AnswersCommand, AnswersLast, CutGroupsAnswer, IsHeldByAll}
+use Rattle.recovery.specs.replicas.NextAnswer.{AnswersCommand, AnswersLast, CutGroupsAnswer, IsHeldByAll}
 use Rattle.recovery.specs.replicas.CutDeliveries.{after_outcome}
 use Rattle.recovery.proofs.of_replicas.Ahead.{AreLike}
 use Rattle.recovery.proofs.of_replicas.CutGroupsLed.{follows_still, node_still, serves_still}

@@ -27,15 +27,15 @@ use Rattle.agreement.proofs.of_cut_logs.Continues.{agreed_back}
 use Rattle.agreement.proofs.of_cut_logs.MomentsAgree.{agreed_grows}
 use Rattle.agreement.proofs.of_cut_logs.MomentsKept.{StandsFor, moments_stand}
 use Rattle.agreement.proofs.of_cut_logs.Views.{get_whole}
-use Rattle.recovery.specs.replicas.Deliveries.{Delivered as WholeDelivered, NodeIs, way_out}
+use Rattle.recovery.specs.replicas.Deliveries.{Delivered as WholeDelivered, NodeIs, recovery_messages}
 use Rattle.recovery.specs.replicas.Deliveries.{assigned_moment as whole_assigned}
-use Rattle.recovery.specs.replicas.Following.{Follows, LeadsWhole}
-use Rattle.recovery.specs.replicas.Laws.{CanBeLed, IsLed, StartsGiveNothing}
-use Rattle.recovery.specs.replicas.Laws.{LeadsOut as WholeLeadsOut}
+use Rattle.recovery.specs.replicas.LedStates.{Follows, LeadsWhole}
+use Rattle.recovery.specs.replicas.Theorems.{CanBeLed, IsLed, StartsGiveNothing}
+use Rattle.recovery.specs.replicas.Theorems.{LeadsOut as WholeLeadsOut}
 use Rattle.recovery.proofs.of_replicas.AllAgreed.{what_all_hold_is_agreed}
-use Rattle.recovery.proofs.of_replicas.HasWayOut.{has_way_out}
+use Rattle.recovery.proofs.of_replicas.HasRecovery.{has_recovery}
 use Rattle.recovery.specs.replicas.CutDeliveries.{assigned_moment}
-use Rattle.recovery.specs.replicas.CutLaws.{CutGroupsHaveWaysOut, LeadsOut}
+use Rattle.recovery.specs.replicas.CutTheorems.{CutGroupsHaveRecoveries, LeadsOut}
 use Rattle.recovery.proofs.of_replicas.Ahead.{IsLike}
 use Rattle.recovery.proofs.of_replicas.Followed.{Followed, Goes, MomentLike, followed, get_back}
 
@@ -96,7 +96,7 @@ module _ {S C O : Type 0} (rules : Rules S C O) (silent : StartsGiveNothing rule
 
   -- on whole logs
   out : WholeLeadsOut rules config (whole_moment a ∷ stood.earlier) (whole_moment a) new index log
-  out = has_way_out rules silent config (whole_moment a) stood.earlier stood.kept.came new index source log can
+  out = has_recovery rules silent config (whole_moment a) stood.earlier stood.kept.came new index source log can
 
   abbrev ballot : ℕ
   ballot = a.master.given + 1
@@ -105,13 +105,13 @@ module _ {S C O : Type 0} (rules : Rules S C O) (silent : StartsGiveNothing rule
   longer = log ++ rules.start_of ballot ∷ []
 
   abbrev numbers : List ℕ
-  numbers = way_out (length a.world.sent) (length a.master.members) index (length new.members - 1)
+  numbers = recovery_messages (length a.world.sent) (length a.master.members) index (length new.members - 1)
 
   as_many : length (whole_moment a).world.sent ≡ length a.world.sent
   as_many = length-map a.world.sent (whole_sent a.world.archive)
 
   came_so : WholeDelivered rules ballot (whole_assigned new (whole_moment a)) numbers out.last
-  came_so = subst (λ (k : ℕ). WholeDelivered rules ballot (whole_assigned new (whole_moment a)) (way_out k (length a.master.members) index (length new.members - 1)) out.last) as_many out.delivered
+  came_so = subst (λ (k : ℕ). WholeDelivered rules ballot (whole_assigned new (whole_moment a)) (recovery_messages k (length a.master.members) index (length new.members - 1)) out.last) as_many out.delivered
 
   abbrev Way : Type 0
   Way = Followed rules config ballot (a ∷ moments) (assigned_moment new a) numbers out.last
@@ -171,10 +171,10 @@ module _ {S C O : Type 0} (rules : Rules S C O) (silent : StartsGiveNothing rule
             archive = w.archive;
             sent = ap (λ k. k + 1) (sym (length-map w.end.world.sent (whole_sent w.end.world.archive)) ∙ ap length w.like.sent) ∙ out.sent
                 ∙ ap (λ k. k + length a.master.members + 5 * length new.members) as_many;
-            events = subst (λ (k : ℕ). length (way_out k (length a.master.members) index (length new.members - 1)) + 1 ≡ 4 * length new.members + 2) as_many out.events;
+            events = subst (λ (k : ℕ). length (recovery_messages k (length a.master.members) index (length new.members - 1)) + 1 ≡ 4 * length new.members + 2) as_many out.events;
             led = led_by w;
             goes = record { between = w.goes.between; came = w.goes.came; agrees = agreed_by w; grown = λ xs p. w.goes.grown xs longer p (agreed_by w) };
           }
 
-pub cut_groups_have_ways_out : {S C O : Type 0} (rules : Rules S C O) → CutGroupsHaveWaysOut rules
-cut_groups_have_ways_out rules silent config a moments came new index source log can = leads_out rules silent config a moments came new index source log can
+pub cut_groups_have_recoveries : {S C O : Type 0} (rules : Rules S C O) → CutGroupsHaveRecoveries rules
+cut_groups_have_recoveries rules silent config a moments came new index source log can = leads_out rules silent config a moments came new index source log can

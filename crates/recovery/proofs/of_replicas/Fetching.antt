@@ -9,7 +9,7 @@ use Rattle.ballot_base.specs.declared.config.Config.{Config}
 use Rattle.agreement.specs.whole_logs.Protocol.{received}
 use Rattle.agreement.specs.whole_logs.Replica.{ReplicaState}
 use Rattle.ballot_base.specs.declared.status.Role.TheVariants.{Backup}
-use Rattle.agreement.specs.whole_logs.Sending.{Outcome, message_to, message_to_each}
+use Rattle.agreement.specs.whole_logs.StepOutcome.{Outcome, message_to, message_to_each}
 use Rattle.agreement.proofs.of_whole_logs.ChangeRows.{on_join-answers, on_new_ballot-joins}
 use Rattle.agreement.specs.MasterState.{MasterState, assigning}
 use Rattle.agreement.specs.Moments.{Moment}

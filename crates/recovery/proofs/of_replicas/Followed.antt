@@ -23,7 +23,7 @@ use Rattle.agreement.specs.whole_logs.Losses.{Thinned as WholeThinned}
 use Rattle.agreement.specs.whole_logs.Protocol.{received as whole_received}
 use Rattle.agreement.specs.whole_logs.Protocol.Input.{Receives as whole_receives}
 use Rattle.agreement.specs.whole_logs.Replica.{ReplicaState as WholeState}
-use Rattle.agreement.specs.whole_logs.Sending.{Outcome as WholeOutcome}
+use Rattle.agreement.specs.whole_logs.StepOutcome.{Outcome as WholeOutcome}
 use Rattle.ballot_base.specs.declared.config.Config.{Config}
 use Rattle.ballot_base.specs.declared.message.Body.{Body}
 use Rattle.ballot_base.specs.declared.message.Body.TheVariants.{NewBallot, Join, State, Install, Installed, Activate, Activated, Superseded, Append, Held, Commit}
@@ -35,7 +35,7 @@ use Rattle.ballot_base.specs.Losses.Thinned.{none, keeps}
 use Rattle.ballot_base.specs.Protocol.{received}
 use Rattle.ballot_base.specs.Protocol.Input.{Receives}
 use Rattle.ballot_base.specs.Replica.{ReplicaState}
-use Rattle.ballot_base.specs.Sending.{Outcome}
+use Rattle.ballot_base.specs.StepOutcome.{Outcome}
 use Rattle.agreement.specs.cut_logs.Moments.{IsAgreed, Moment, Moments}
 use Rattle.agreement.specs.cut_logs.Moments.Moments.{went_on}
 use Rattle.agreement.specs.cut_logs.Steps.MayHappen.{node_goes, master_hears}

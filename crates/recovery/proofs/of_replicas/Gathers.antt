@@ -5,7 +5,7 @@ use Rattle.machine.specs.Machine.{Rules}
 use Rattle.agreement.specs.whole_logs.Messages.{Body}
 use Rattle.agreement.specs.whole_logs.Protocol.{received}
 use Rattle.agreement.specs.whole_logs.Replica.{ReplicaState}
-use Rattle.agreement.specs.whole_logs.Sending.{Outcome}
+use Rattle.agreement.specs.whole_logs.StepOutcome.{Outcome}
 use Rattle.agreement.specs.Moments.{Moment}
 use Rattle.agreement.specs.World.{messages, outputs}
 use Rattle.lists.specs.Lists.{In}

@@ -2,14 +2,14 @@
 use Rattle.std.proofs.Common.{◌≡◌, ℕ, ◌+◌, List, [], ◌∷◌, ◌++◌, length, Some, refl, ap, sym, ◌∙◌, subst, arith, length-append, map}
 use Rattle.std.specs.Prelude.{slice_get}
 use Rattle.machine.specs.Machine.{Rules}
-use Rattle.agreement.specs.whole_logs.Applying.{applied_to}
+use Rattle.agreement.specs.whole_logs.Application.{applied_to}
 use Rattle.agreement.specs.whole_logs.Messages.{Body, Effect, Message}
 use Rattle.agreement.specs.whole_logs.Messages.Body.{Append, Held, Commit}
 use Rattle.agreement.specs.whole_logs.Messages.Effect.{Out}
 use Rattle.ballot_base.specs.declared.status.Progress.{Progress}
 use Rattle.agreement.specs.whole_logs.Replica.{ReplicaState}
 use Rattle.ballot_base.specs.Replica.{progress_at}
-use Rattle.agreement.specs.whole_logs.Sending.{Outcome, message_to_followed}
+use Rattle.agreement.specs.whole_logs.StepOutcome.{Outcome, message_to_followed}
 use Rattle.agreement.specs.Moments.{Moment}
 use Rattle.agreement.specs.World.{messages, outputs}
 use Rattle.agreement.proofs.Effects.{outputs-append, outputs_of_messages}
@@ -17,7 +17,7 @@ use Rattle.lists.specs.Lists.{In}
 use Rattle.lists.specs.Lists.In.{here, there}
 use Rattle.lists.proofs.Members.{in_left, in_right}
 use Rattle.recovery.specs.replicas.Deliveries.{NumbersAreApart, Delivered, NodeIs, numbers_from}
-use Rattle.recovery.specs.replicas.Following.{Follows, LeadsIn, LeadsWhole}
+use Rattle.recovery.specs.replicas.LedStates.{Follows, LeadsIn, LeadsWhole}
 use Rattle.recovery.specs.replicas.Inside.{known}
 use Rattle.recovery.proofs.of_replicas.AllCome.{Taken, all_come, then_come}
 use Rattle.recovery.proofs.of_replicas.Broadcasts.{Answered, all_answer, from_each, to_each}

@@ -4,17 +4,17 @@ use Rattle.std.specs.Prelude.{slice_get}
 use Rattle.machine.specs.Machine.{Rules}
 use Rattle.agreement.specs.whole_logs.Messages.{Body, Message}
 use Rattle.agreement.specs.whole_logs.Messages.Body.{State, Install, Installed, Activate}
-use Rattle.agreement.specs.whole_logs.Changing.{install_effects}
+use Rattle.agreement.specs.whole_logs.Transfer.{install_effects}
 use Rattle.agreement.specs.whole_logs.Protocol.{received}
 use Rattle.agreement.specs.whole_logs.Replica.{ReplicaState}
 use Rattle.ballot_base.specs.Replica.{others}
 use Rattle.ballot_base.specs.declared.status.Role.TheVariants.{Fetching}
-use Rattle.agreement.specs.whole_logs.Sending.{Outcome, message_to, message_to_each}
-use Rattle.ballot_base.specs.Sending.{master}
+use Rattle.agreement.specs.whole_logs.StepOutcome.{Outcome, message_to, message_to_each}
+use Rattle.ballot_base.specs.StepOutcome.{master}
 use Rattle.agreement.specs.Moments.{Moment}
 use Rattle.lists.specs.Lists.{In}
 use Rattle.recovery.specs.replicas.Deliveries.{NumbersAreApart, Delivered, NodeIs, numbers_from}
-use Rattle.recovery.specs.replicas.Following.{Follows}
+use Rattle.recovery.specs.replicas.LedStates.{Follows}
 use Rattle.recovery.specs.replicas.Inside.{CanTake, installing}
 use Rattle.recovery.proofs.of_replicas.AllCome.{Taken, all_come, takes_one, then_come}
 use Rattle.recovery.proofs.of_replicas.Broadcasts.{Answered, all_answer, from_each, to_each}

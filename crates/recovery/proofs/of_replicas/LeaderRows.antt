@@ -4,10 +4,10 @@ use Rattle.std.specs.Prelude.{◌==◌, ◌&&◌, nat_lt, nat_le}
 use Rattle.std.specs.List.{list_any}
 use Rattle.std.proofs.lemmas.Bool.{eq-eqb, ne_eqb, le-leb, lt-ltb}
 use Rattle.machine.specs.Machine.{Rules}
-use Rattle.agreement.specs.whole_logs.Applying.{applied_to, outputs_from, outputs_to}
+use Rattle.agreement.specs.whole_logs.Application.{applied_to, outputs_from, outputs_to}
 use Rattle.agreement.specs.whole_logs.Messages.Body.{State, Installed, Activate, Activated, Append, Held, Commit}
-use Rattle.agreement.specs.whole_logs.Changing.{install_effects}
-use Rattle.agreement.specs.whole_logs.Activating.{activates}
+use Rattle.agreement.specs.whole_logs.Transfer.{install_effects}
+use Rattle.agreement.specs.whole_logs.Activation.{activates}
 use Rattle.agreement.specs.whole_logs.Messages.{Effect}
 use Rattle.agreement.specs.whole_logs.Messages.Effect.{Out}
 use Rattle.ballot_base.specs.declared.status.Progress.{Progress}
@@ -15,16 +15,16 @@ use Rattle.agreement.specs.whole_logs.Protocol.{received}
 use Rattle.agreement.specs.whole_logs.Replica.{ReplicaState}
 use Rattle.ballot_base.specs.Replica.{others, progress_at, is_active, is_fetching}
 use Rattle.ballot_base.specs.declared.status.Role.TheVariants.{Fetching, Active}
-use Rattle.agreement.specs.whole_logs.Sending.{Outcome, message_to, message_to_followed, sent_first}
-use Rattle.ballot_base.specs.Sending.{master}
-use Rattle.agreement.specs.whole_logs.Serving.{added, commit_at}
-use Rattle.ballot_base.specs.Serving.{least, max_places, raised, raised_progress}
+use Rattle.agreement.specs.whole_logs.StepOutcome.{Outcome, message_to, message_to_followed, sent_first}
+use Rattle.ballot_base.specs.StepOutcome.{master}
+use Rattle.agreement.specs.whole_logs.Service.{added, commit_at}
+use Rattle.ballot_base.specs.Service.{least, max_places, raised, raised_progress}
 use Rattle.agreement.proofs.of_whole_logs.ChangeRows.{on_state-takes, on_installed-counts, on_activated-adds}
 use Rattle.agreement.proofs.of_whole_logs.MessageRows.{on_held-raises}
 use Rattle.agreement.proofs.of_whole_logs.StepRows.{added-is, commit_at-goes, commit_at-stays}
 use Rattle.lists.specs.Lists.{In}
 use Rattle.lists.specs.Lists.In.{here, there}
-use Rattle.recovery.specs.replicas.Following.{LeadsIn}
+use Rattle.recovery.specs.replicas.LedStates.{LeadsIn}
 use Rattle.recovery.specs.replicas.Inside.{installing, known}
 use Rattle.recovery.proofs.of_replicas.Gathers.{nothing_after}
 use Rattle.recovery.proofs.of_replicas.Rows.{any_first, both, others_first}

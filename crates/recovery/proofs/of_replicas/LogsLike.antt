@@ -10,26 +10,26 @@ use Rattle.agreement.proofs.Agreed.MomentsAgree.{machines_replay}
 use Rattle.ballot_base.proofs.AppliesInOrder.{replay_goes_on}
 use Rattle.agreement.proofs.of_whole_logs.ChangeRows.{on_install-answers, on_install-stays, on_install-takes, on_state-stays, on_state-takes}
 use Rattle.agreement.specs.Moments.{Moment as WholeMoment}
-use Rattle.agreement.specs.whole_logs.Applying.{applied_to as whole_applied_to}
-use Rattle.agreement.specs.whole_logs.Changing.{install_effects as whole_install_effects, on_install as whole_on_install, on_state as whole_on_state}
+use Rattle.agreement.specs.whole_logs.Application.{applied_to as whole_applied_to}
+use Rattle.agreement.specs.whole_logs.Transfer.{install_effects as whole_install_effects, on_install as whole_on_install, on_state as whole_on_state}
 use Rattle.agreement.specs.whole_logs.Messages.{Body as bodies}
 use Rattle.agreement.specs.whole_logs.Messages.{Effect as WholeEffect}
 use Rattle.agreement.specs.whole_logs.Messages.{Effect as effects}
 use Rattle.agreement.specs.whole_logs.Protocol.{received as whole_received}
 use Rattle.agreement.specs.whole_logs.Protocol.Input.{Receives as whole_receives}
 use Rattle.agreement.specs.whole_logs.Replica.{ReplicaState as WholeState}
-use Rattle.agreement.specs.whole_logs.Sending.{Outcome as WholeOutcome, nothing_done as whole_nothing}
+use Rattle.agreement.specs.whole_logs.StepOutcome.{Outcome as WholeOutcome, nothing_done as whole_nothing}
 use Rattle.ballot_base.specs.declared.config.Config.{Config}
 use Rattle.ballot_base.specs.declared.message.Body.{Body}
 use Rattle.ballot_base.specs.declared.message.Body.TheVariants.{NewBallot, Join, State, Install, Installed, Activate, Activated, Superseded, Append, Held, Commit}
 use Rattle.ballot_base.specs.declared.status.Role.TheVariants.{Backup, Installing}
-use Rattle.ballot_base.specs.Changing.{answers_installed, installs_taken, on_install, on_state}
+use Rattle.ballot_base.specs.Transfer.{answers_installed, installs_taken, on_install, on_state}
 use Rattle.ballot_base.specs.Logs.{Log, places}
 use Rattle.ballot_base.specs.Protocol.{received}
 use Rattle.ballot_base.specs.Protocol.Input.{Receives}
 use Rattle.ballot_base.specs.Replica.{ReplicaState, is_active, is_fetching, others}
-use Rattle.ballot_base.specs.Sending.{Outcome}
-use Rattle.ballot_base.specs.Taking.{read_into, taken, with_places, with_snapshot}
+use Rattle.ballot_base.specs.StepOutcome.{Outcome}
+use Rattle.ballot_base.specs.TakenLog.{read_into, taken, with_places, with_snapshot}
 use Rattle.agreement.specs.MasterState.{MasterState}
 use Rattle.agreement.specs.cut_logs.Matches.{IsBased}
 use Rattle.agreement.specs.cut_logs.Whole.{whole, whole_body, whole_effects, whole_log, whole_message}

@@ -16,7 +16,7 @@ use Rattle.agreement.proofs.Agreed.MomentsAgree.{has_agreed, nodes_agree}
 use Rattle.agreement.proofs.Agreed.MomentsAreKnown.{IsKnown}
 use Rattle.agreement.proofs.Agreed.MomentsKnown.{moments_known}
 use Rattle.agreement.proofs.Frame.Bases.{chosen_told}
-use Rattle.recovery.specs.replicas.Following.{whole_log_of_node}
+use Rattle.recovery.specs.replicas.LedStates.{whole_log_of_node}
 use Rattle.recovery.specs.replicas.Inside.{CanTake}
 use Rattle.recovery.proofs.of_replicas.Fetching.{CanGive}
 

@@ -10,14 +10,14 @@ use Rattle.agreement.specs.whole_logs.Protocol.{received}
 use Rattle.agreement.specs.whole_logs.Replica.{ReplicaState}
 use Rattle.ballot_base.specs.Replica.{others, progress_at, is_backup}
 use Rattle.ballot_base.specs.declared.status.Role.TheVariants.{Backup}
-use Rattle.agreement.specs.whole_logs.Sending.{Outcome, message_to, message_to_each, message_to_followed}
-use Rattle.agreement.specs.whole_logs.Serving.{extended, follows}
+use Rattle.agreement.specs.whole_logs.StepOutcome.{Outcome, message_to, message_to_each, message_to_followed}
+use Rattle.agreement.specs.whole_logs.Service.{extended, follows}
 use Rattle.agreement.proofs.of_whole_logs.ChangeRows.{on_install-takes}
 use Rattle.agreement.proofs.of_whole_logs.MessageRows.{on_append-takes}
 use Rattle.agreement.specs.World.{messages, outputs}
 use Rattle.lists.specs.Lists.{In}
 use Rattle.lists.specs.Lists.In.{here, there}
-use Rattle.recovery.specs.replicas.Following.{Follows}
+use Rattle.recovery.specs.replicas.LedStates.{Follows}
 use Rattle.recovery.specs.replicas.Inside.{CanTake}
 use Rattle.recovery.proofs.of_replicas.Broadcasts.{Answers, to_each}
 

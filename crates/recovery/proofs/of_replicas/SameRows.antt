@@ -8,24 +8,24 @@ use Rattle.machine.specs.Machine.{Rules, replay_from}
 use Rattle.agreement.specs.whole_logs.Messages.{Body as bodies}
 use Rattle.agreement.specs.whole_logs.Messages.{Effect as WholeEffect}
 use Rattle.agreement.specs.whole_logs.Messages.{Effect as effects}
-use Rattle.agreement.specs.whole_logs.Applying.{outputs_from as whole_outputs_from}
-use Rattle.agreement.specs.whole_logs.Changing.{on_new_ballot as whole_on_new_ballot, on_join as whole_on_join}
-use Rattle.agreement.specs.whole_logs.Activating.{activates as whole_activates, on_installed as whole_on_installed, on_activated as whole_on_activated, on_superseded as whole_on_superseded}
+use Rattle.agreement.specs.whole_logs.Application.{outputs_from as whole_outputs_from}
+use Rattle.agreement.specs.whole_logs.Transfer.{on_new_ballot as whole_on_new_ballot, on_join as whole_on_join}
+use Rattle.agreement.specs.whole_logs.Activation.{activates as whole_activates, on_installed as whole_on_installed, on_activated as whole_on_activated, on_superseded as whole_on_superseded}
 use Rattle.agreement.specs.whole_logs.Protocol.{received as whole_received}
 use Rattle.agreement.specs.whole_logs.Replica.{ReplicaState as WholeState}
-use Rattle.agreement.specs.whole_logs.Sending.{Outcome as WholeOutcome, message_to_followed as whole_followed, nothing_done as whole_nothing}
-use Rattle.agreement.specs.whole_logs.Serving.{commit as whole_commit, commit_at as whole_commit_at, added as whole_added, on_append as whole_on_append, on_held as whole_on_held, on_commit as whole_on_commit, extended as whole_extended, proposed as whole_proposed}
+use Rattle.agreement.specs.whole_logs.StepOutcome.{Outcome as WholeOutcome, message_to_followed as whole_followed, nothing_done as whole_nothing}
+use Rattle.agreement.specs.whole_logs.Service.{commit as whole_commit, commit_at as whole_commit_at, added as whole_added, on_append as whole_on_append, on_held as whole_on_held, on_commit as whole_on_commit, extended as whole_extended, proposed as whole_proposed}
 use Rattle.ballot_base.specs.declared.message.Body.{Body}
 use Rattle.ballot_base.specs.declared.message.Body.TheVariants.{NewBallot, Join, State, Install, Installed, Activate, Activated, Superseded, Append, Held, Commit}
 use Rattle.ballot_base.specs.declared.status.Role.TheVariants.{Backup, Active}
-use Rattle.ballot_base.specs.Applying.{applied_to, outputs_to}
-use Rattle.ballot_base.specs.Changing.{on_join, on_new_ballot}
-use Rattle.ballot_base.specs.Activating.{activates, on_activated, on_installed, on_superseded}
+use Rattle.ballot_base.specs.Application.{applied_to, outputs_to}
+use Rattle.ballot_base.specs.Transfer.{on_join, on_new_ballot}
+use Rattle.ballot_base.specs.Activation.{activates, on_activated, on_installed, on_superseded}
 use Rattle.ballot_base.specs.Logs.{Log, part, places, pushed}
 use Rattle.ballot_base.specs.Protocol.{received}
 use Rattle.ballot_base.specs.Replica.{ReplicaState, is_active, is_installing, others, progress_at}
-use Rattle.ballot_base.specs.Sending.{Outcome, message_to_followed, nothing_done}
-use Rattle.ballot_base.specs.Serving.{added, commit, commit_at, extended, follows, leads, least, max_places, on_append, on_commit, on_held, proposed, raised}
+use Rattle.ballot_base.specs.StepOutcome.{Outcome, message_to_followed, nothing_done}
+use Rattle.ballot_base.specs.Service.{added, commit, commit_at, extended, follows, leads, least, max_places, on_append, on_commit, on_held, proposed, raised}
 use Rattle.agreement.specs.cut_logs.Matches.{IsBased}
 use Rattle.agreement.specs.cut_logs.Whole.{whole, whole_body, whole_effect, whole_effects, whole_log}
 use Rattle.agreement.proofs.of_cut_logs.Changing.{whole_to_each}

@@ -1,4 +1,4 @@
--- Ways.antt: from every moment there is a way out: the messages of `way_out` come, and the next ballot is led to its start.
+-- Ways.antt: from every moment there is a way out: the messages of `recovery_messages` come, and the next ballot is led to its start.
 use Rattle.std.proofs.Common.{◌≡◌, ℕ, zero, suc, ◌+◌, ◌*◌, ◌<◌, List, [], ◌∷◌, ◌++◌, length, Some, refl, ap, sym, ◌∙◌, subst, arith, length-append}
 use Rattle.std.specs.Prelude.{slice_get}
 use Rattle.machine.specs.Machine.{Rules}
@@ -7,11 +7,11 @@ use Rattle.agreement.specs.whole_logs.Messages.Body.{Held}
 use Rattle.ballot_base.specs.declared.config.Config.{Config}
 use Rattle.agreement.specs.whole_logs.Replica.{ReplicaState}
 use Rattle.ballot_base.specs.Replica.{others}
-use Rattle.ballot_base.specs.Serving.{max_places}
+use Rattle.ballot_base.specs.Service.{max_places}
 use Rattle.agreement.specs.MasterState.{MasterState, assigning}
 use Rattle.agreement.specs.Moments.{Moment}
-use Rattle.recovery.specs.replicas.Deliveries.{NumbersAreApart, Delivered, NodeIs, activate_number, assigned_moment, numbers_from, way_out}
-use Rattle.recovery.specs.replicas.Following.{Follows, LeadsWhole}
+use Rattle.recovery.specs.replicas.Deliveries.{NumbersAreApart, Delivered, NodeIs, activate_number, assigned_moment, numbers_from, recovery_messages}
+use Rattle.recovery.specs.replicas.LedStates.{Follows, LeadsWhole}
 use Rattle.recovery.specs.replicas.Inside.{CanTake, fetching}
 use Rattle.recovery.proofs.of_replicas.Activating.{IsActivated, activated_alone, activated_all, with_active}
 use Rattle.recovery.proofs.of_replicas.AllCome.{then_come}
@@ -25,8 +25,8 @@ numbers_count k zero = refl
 numbers_count k (suc count) = ap suc (numbers_count (k + 1) count)
 
 -- how many there are
-pub way_out_count : (sent members index count : ℕ) → length (way_out sent members index count) ≡ 4 * count + 5
-way_out_count sent members index count =
+pub recovery_messages_count : (sent members index count : ℕ) → length (recovery_messages sent members index count) ≡ 4 * count + 5
+recovery_messages_count sent members index count =
     let one = length-append (numbers_from (sent + members + 2) count ++ numbers_from (sent + members + 2 + count) count)
     (activate_number sent members count ∷ (activate_number sent members count + 1)
     ∷ (numbers_from (activate_number sent members count + 2) count ++ numbers_from (activate_number sent members count + 2 + count) count)) in
@@ -67,7 +67,7 @@ module _ {S C O : Type 0} (rules : Rules S C O) (silent : (s : S) (b : ℕ) → 
   abbrev Out : Type 0
   Out = IsOut rules (a.master.given + 1) (log ++ rules.start_of (a.master.given + 1) ∷ []) index os
       (with_active (a.master.given + 1) config (assigning a.master config)) (assigned_moment config a)
-      (way_out (length a.world.sent) (length a.master.members) i (length os)) (length a.world.sent + length a.master.members + 4 + 5 * length os)
+      (recovery_messages (length a.world.sent) (length a.master.members) i (length os)) (length a.world.sent + length a.master.members + 4 + 5 * length os)
 
   f_is : Fetched
   f_is = fetched rules a index source i rp rs os log config first out stands fresh can gives_stands gives member each
@@ -103,11 +103,11 @@ module _ {S C O : Type 0} (rules : Rules S C O) (silent : (s : S) (b : ℕ) → 
 
       numbers : length a.world.sent ∷ (length a.world.sent + 1 + i) ∷ (length a.world.sent + 1 + length a.master.members)
           ∷ length f.after.world.sent ∷ (length f.after.world.sent + 1) ∷ []
-          ≡ way_out (length a.world.sent) (length a.master.members) i (length os)
+          ≡ recovery_messages (length a.world.sent) (length a.master.members) i (length os)
       numbers =
           ap (λ z. length a.world.sent ∷ (length a.world.sent + 1 + i) ∷ (length a.world.sent + 1 + length a.master.members) ∷ z ∷ (z + 1) ∷ [])
           (let z = f.last in let e : length f.after.world.sent ≡ activate_number (length a.world.sent) (length a.master.members) 0 = omega (arith, z) in e)
-          ∙ ap (λ (l : List ℕ). way_out (length a.world.sent) (length a.master.members) i (length l)) (sym none)
+          ∙ ap (λ (l : List ℕ). recovery_messages (length a.world.sent) (length a.master.members) i (length l)) (sym none)
 
   -- with others
   out_with : (x : ℕ) (xs : List ℕ) → os ≡ x ∷ xs → Fetched → Out
@@ -147,7 +147,7 @@ module _ {S C O : Type 0} (rules : Rules S C O) (silent : (s : S) (b : ℕ) → 
           ++ (length f.after.world.sent + (length (x ∷ xs) + length (x ∷ xs))) ∷ (length f.after.world.sent + (length (x ∷ xs) + length (x ∷ xs)) + 1)
           ∷ (numbers_from (length f.after.world.sent + (length (x ∷ xs) + length (x ∷ xs)) + 2) (length (x ∷ xs))
           ++ numbers_from (length f.after.world.sent + (length (x ∷ xs) + length (x ∷ xs)) + 2 + length (x ∷ xs)) (length (x ∷ xs)))))
-          (way_out (length a.world.sent) (length a.master.members) i (length os))
+          (recovery_messages (length a.world.sent) (length a.master.members) i (length os))
       numbers =
           ap (λ z. length a.world.sent ∷ (length a.world.sent + 1 + i) ∷ (length a.world.sent + 1 + length a.master.members)
           ∷ ((numbers_from z (length (x ∷ xs)) ++ numbers_from (z + length (x ∷ xs)) (length (x ∷ xs)))
@@ -155,7 +155,7 @@ module _ {S C O : Type 0} (rules : Rules S C O) (silent : (s : S) (b : ℕ) → 
           ∷ (numbers_from (z + (length (x ∷ xs) + length (x ∷ xs)) + 2) (length (x ∷ xs))
           ++ numbers_from (z + (length (x ∷ xs) + length (x ∷ xs)) + 2 + length (x ∷ xs)) (length (x ∷ xs)))))
           (let z = f.last in let e : length f.after.world.sent ≡ length a.world.sent + length a.master.members + 2 = omega (arith, z) in e)
-          ∙ ap (λ (l : List ℕ). way_out (length a.world.sent) (length a.master.members) i (length l)) (sym some)
+          ∙ ap (λ (l : List ℕ). recovery_messages (length a.world.sent) (length a.master.members) i (length l)) (sym some)
 
   pub is_out : Out
   is_out = by os refl

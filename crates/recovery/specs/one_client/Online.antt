@@ -1,7 +1,7 @@
 -- The CONNACK at the client: the client is online with its session present.
 use Rattle.std.specs.Prelude.{◌≡◌, ℕ, true, List, [], Result, Ok, Err}
 use Rattle.client.specs.Core.{Core, nothing_read}
-use Rattle.client.specs.Reading.{OnBytes}
+use Rattle.client.specs.Input.{OnBytes}
 use Rattle.client_base.specs.State.{is_online}
 use Rattle.client_base.specs.declared.error.ClientError.{ClientError}
 use Rattle.client_base.specs.declared.error.ClientError.TheVariants as errors

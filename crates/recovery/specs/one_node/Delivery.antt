@@ -4,7 +4,7 @@ use Rattle.lists.specs.Lists.{Each}
 use Rattle.ballot_base.specs.declared.message.Message.{Message}
 use Rattle.ballot_base.specs.Protocol.{received}
 use Rattle.ballot_base.specs.Replica.{is_active}
-use Rattle.ballot_base.specs.Sending.{Outcome}
+use Rattle.ballot_base.specs.StepOutcome.{Outcome}
 use Rattle.agreement.specs.cut_logs.World.{outputs}
 use Rattle.broker_spec.specs.declared.command.Command.{Command}
 use Rattle.broker_spec.specs.declared.command.Output.{Output}

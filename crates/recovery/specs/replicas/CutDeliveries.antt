@@ -1,5 +1,5 @@
 -- Messages that come to their receivers one after another, exactly, each named by its number, if
--- nodes cut their logs. Which numbers lead out is in `Deliveries` (`way_out`).
+-- nodes cut their logs. Which numbers lead out is in `Deliveries` (`recovery_messages`).
 use Rattle.std.specs.Prelude.{ℕ, ◌+◌, ◌≡◌, false, List, [], ◌∷◌, slice_get, Some}
 use Rattle.machine.specs.Machine.{Rules}
 use Rattle.agreement.specs.MasterState.{assigning}
@@ -8,7 +8,7 @@ use Rattle.ballot_base.specs.declared.message.Body.TheVariants.{Activate}
 use Rattle.ballot_base.specs.declared.message.Message.{Message}
 use Rattle.ballot_base.specs.Protocol.{received}
 use Rattle.ballot_base.specs.Replica.{ReplicaState}
-use Rattle.ballot_base.specs.Sending.{Outcome}
+use Rattle.ballot_base.specs.StepOutcome.{Outcome}
 use Rattle.agreement.specs.cut_logs.Masters.{activated, assigned}
 use Rattle.agreement.specs.cut_logs.Moments.{Moment}
 use Rattle.agreement.specs.cut_logs.Steps.{sends_from_master}

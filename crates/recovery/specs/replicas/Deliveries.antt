@@ -8,7 +8,7 @@ use Rattle.ballot_base.specs.declared.config.Config.{Config}
 use Rattle.agreement.specs.whole_logs.Messages.{Message}
 use Rattle.agreement.specs.whole_logs.Protocol.{received}
 use Rattle.agreement.specs.whole_logs.Replica.{ReplicaState}
-use Rattle.agreement.specs.whole_logs.Sending.{Outcome}
+use Rattle.agreement.specs.whole_logs.StepOutcome.{Outcome}
 use Rattle.agreement.specs.MasterState.{activated, assigned, assigning}
 use Rattle.agreement.specs.Moments.{Moment}
 use Rattle.agreement.specs.World.{moved, outputs}
@@ -91,8 +91,8 @@ activate_number sent members others = sent + members + 2 + (others + others)
 
 -- the messages of a way out, if the member at this index of the active ballot is asked for its log:
 -- NewBallot, Join, State; Install and Installed; Activate, Activated; Append and Held
-abbrev pub way_out : ℕ → ℕ → ℕ → ℕ → List ℕ
-way_out sent members index others =
+abbrev pub recovery_messages : ℕ → ℕ → ℕ → ℕ → List ℕ
+recovery_messages sent members index others =
     sent ∷ (sent + 1 + index) ∷ (sent + 1 + members)
     ∷ (asked_and_answered (sent + members + 2) others
     ++ activate_number sent members others ∷ (activate_number sent members others + 1)

@@ -1,7 +1,7 @@
 // The numbers of messages, by arithmetic.
 
 ghost use Rattle.std.specs.Prelude.{◌≡◌, ◌≤◌, ◌<◌, ◌+◌, ◌*◌, ◌^◌, ◌++◌, IfOk, OnOk};
-ghost use Rattle.recovery.specs.replicas.Deliveries.{asked_and_answered, numbers_from, way_out};
+ghost use Rattle.recovery.specs.replicas.Deliveries.{asked_and_answered, numbers_from, recovery_messages};
 
 use std::alloc::{AllocError, Global};
 
@@ -11,7 +11,7 @@ use std::alloc::{AllocError, Global};
 /// `sent` messages were sent before. The member at `index` among the `members` of the active ballot
 /// is asked for its log, and the new ballot has this many `others` besides its primary. Running out
 /// of memory is the only error.
-pub fn way_out(
+pub fn recovery_messages(
     alloc: Global,
     sent: u64,
     members: u64,
@@ -20,7 +20,7 @@ pub fn way_out(
 ) -> Result<Vec<u64>, AllocError>
     requires placed { index < members }
     requires bound { sent + members + 4 * others + 4 < 2 ^ 64 }
-    ensures { IfOk result (λ numbers. numbers.items ≡ way_out sent members index others) }
+    ensures { IfOk result (λ numbers. numbers.items ≡ recovery_messages sent members index others) }
 {
     let mut numbers = Vec::new(alloc);
     numbers.push(sent)?;

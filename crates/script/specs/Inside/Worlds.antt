@@ -3,7 +3,7 @@ use Rattle.std.specs.Prelude.{ℕ, Bool, ◌&&◌, nat_le, if◌then◌else◌, 
 use Rattle.ballot_base.specs.LawfulConfig.{max_node}
 use Rattle.script.specs.Fields.{Text, parse_clients, parse_number, parse_numbers}
 use Rattle.script.specs.Scripts.{are_distinct, is_lawful_opening}
-use Rattle.script.specs.Inside.LineReading.{with}
+use Rattle.script.specs.Inside.LineReader.{with}
 use Rattle.script.specs.declared.opening.Opening.{Opening}
 
 -- nodes, members, primary and clients

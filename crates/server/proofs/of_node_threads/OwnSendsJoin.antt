@@ -4,8 +4,8 @@ use Rattle.mailbox.specs.Ends.{LaneView}
 use Rattle.node.specs.declared.Item.{Item}
 use Rattle.node.specs.declared.Item.TheVariants.{Tick, Cut}
 use Rattle.post.specs.outbox.Queued.{IsQueued}
-use Rattle.server.specs.node_threads.Serving.{OwnLaneView, SendsOwn}
-use Rattle.server.specs.node_threads.Serving.SendsOwn.{starts, ticks, cuts, hands}
+use Rattle.server.specs.node_threads.LaneReports.{OwnLaneView, SendsOwn}
+use Rattle.server.specs.node_threads.LaneReports.SendsOwn.{starts, ticks, cuts, hands}
 
 pub own_join : (node : ℕ) (before sent after : List Item)
     → SendsOwn node before sent → SendsOwn node sent after → SendsOwn node before after

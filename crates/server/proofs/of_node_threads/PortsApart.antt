@@ -1,7 +1,7 @@
 -- PortsApart.antt: no two connections of a node have one port.
 use Rattle.std.proofs.Common.{◌≡◌, ◌+◌, ◌*◌, ap, arith}
 use Rattle.node.specs.declared.Port.{Port}
-use Rattle.server.specs.node_threads.Laws.{PortsDiffer}
+use Rattle.server.specs.node_threads.Theorems.{PortsDiffer}
 
 pub ports_apart : PortsDiffer
 ports_apart lane other count number low lower same =

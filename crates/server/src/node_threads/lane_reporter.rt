@@ -1,12 +1,12 @@
 // A connection's lane, by which the connection is reported to the node.
 
 ghost use Rattle.std.specs.Prelude.{◌≡◌, ◌≤◌, min};
-ghost use Rattle.server.specs.node_threads.Serving.{client_bytes};
+ghost use Rattle.server.specs.node_threads.LaneReports.{client_bytes};
 
 use crate::node_threads::served_node::ServedNode;
 use mailbox::Lane;
 use node::{HasState, NodeNaming};
-use node_base::connection::Hearer;
+use node_base::connection::ReportSink;
 use node_base::devices::{Gate, PIECE_BYTES};
 use std::alloc::Global;
 use std::sync::{Arc, Wait};
@@ -28,7 +28,7 @@ pub(crate) struct LaneReporter<'e, 'a, J: NodeNaming, S: HasState<J>, G: Gate> {
     pub(crate) lane: Lane<Item, J>,
 }
 
-impl<'e, 'a, J: NodeNaming, S: HasState<J>, G: Gate> Hearer for LaneReporter<'e, 'a, J, S, G> {
+impl<'e, 'a, J: NodeNaming, S: HasState<J>, G: Gate> ReportSink for LaneReporter<'e, 'a, J, S, G> {
     ghost heard = { λ reporter. reporter.lane.sent };
 
     // What decides is under a lock, of which no clause says anything.

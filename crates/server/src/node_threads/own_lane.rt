@@ -1,7 +1,7 @@
 // The lane by which everything is sent to a node that does not come from its clients.
 
 ghost use Rattle.std.specs.Prelude.{◌≡◌, []};
-ghost use Rattle.server.specs.node_threads.Serving.{SendsOwn};
+ghost use Rattle.server.specs.node_threads.LaneReports.{SendsOwn};
 
 use mailbox::Lane;
 use node::NodeNaming;
@@ -22,7 +22,7 @@ pub(crate) struct OwnLane<J: NodeNaming> {
 
 impl<J: NodeNaming> Model for OwnLane<J> {
     ghost use Rattle.std.specs.Prelude.{[]};
-    ghost use Rattle.server.specs.node_threads.Serving.{OwnLaneView, SendsOwn};
+    ghost use Rattle.server.specs.node_threads.LaneReports.{OwnLaneView, SendsOwn};
 
     ghost Value = { OwnLaneView };
 

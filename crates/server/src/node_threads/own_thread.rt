@@ -4,7 +4,7 @@
 
 ghost use Rattle.std.specs.Prelude.{◌≡◌};
 ghost use Rattle.post.specs.outbox.Queued.{IsQueued};
-ghost use Rattle.server.specs.node_threads.Serving.{SendsOwn};
+ghost use Rattle.server.specs.node_threads.LaneReports.{SendsOwn};
 
 use crate::node_threads::own_lane::OwnLane;
 use crate::node_threads::served_node::ServedNode;
@@ -142,7 +142,7 @@ impl<'a, J: NodeNaming, S: HasState<J>, G: Gate> Shared<'a, J, S, G> {
         }
     }
 
-    // Says whether the first packet of a connection did not come in time.
+    // Returns true if the first packet of a connection did not come in time.
     fn awaits_too_long<R: Wait>(&self, rt: &R, link: &Link, now: u64) -> bool {
         let standing = self.node.lock(rt).state().standing(link.port);
         is_overdue(standing, link.opened, now)

@@ -5,11 +5,11 @@ ghost use Rattle.lists.specs.Lists.{Each};
 ghost use Rattle.node.specs.State.{EachOpensAs};
 ghost use Rattle.server.specs.node_threads.Named.{AreNamed};
 
+use crate::node_threads::lane_slots::{LANES, LaneSlot, LaneSlots, THREADS, run};
 use crate::node_threads::node_context::{NodeContext, NodeContexts};
 use crate::node_threads::opened_node::OpenedNode;
 use crate::node_threads::own_lane::OwnLane;
 use crate::node_threads::shared::Shared;
-use crate::node_threads::working::{LANES, LaneSlot, LaneSlots, THREADS, run};
 use ballot_base::Config;
 use machine::Memory;
 use mailbox::Lane;

@@ -2,7 +2,7 @@
 
 ghost use Rattle.std.specs.Prelude.{◌≡◌, All, IfOk, OnErr, OnOk, map};
 ghost use Rattle.mailbox.specs.Ends.{ArrivesWhole, unmet};
-ghost use Rattle.node.specs.Running.{AreItsLanes, ReportsOn};
+ghost use Rattle.node.specs.LockedNode.{AreItsLanes, ReportsOn};
 ghost use Rattle.node.specs.State.{EachOpensAs};
 
 use crate::node_threads::node_context::NodeContext;

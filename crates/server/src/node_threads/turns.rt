@@ -2,7 +2,7 @@
 
 ghost use Rattle.std.specs.Prelude.{◌≡◌, ◌++◌, ◌∷◌, [], true, false};
 ghost use Rattle.mailbox.specs.Ends.{all_met, unmet};
-ghost use Rattle.node.specs.Running.{IsNext};
+ghost use Rattle.node.specs.LockedNode.{IsNext};
 ghost use Rattle.post.specs.outbox.Queued.{EachOpens};
 ghost use Rattle.server.specs.node_threads.Turns.{Turns};
 

@@ -63,7 +63,7 @@ where
 #[derive(Drop)]
 pub struct Pair {
     /// The stream of the subscriber.
-    pub hearer: TcpStream,
+    pub sink: TcpStream,
     /// The stream of the publisher.
     pub speaker: TcpStream,
 }
@@ -74,14 +74,14 @@ impl Pair {
     where
         R: Net<Stream = TcpStream>,
     {
-        let hearer = join(rt, listener, b'h', has_session)?;
+        let sink = join(rt, listener, b'h', has_session)?;
         let speaker = join(rt, listener, b's', has_session)?;
-        Ok(Pair { hearer, speaker })
+        Ok(Pair { sink, speaker })
     }
 
     /// Has the subscriber subscribe to `t/#` at QoS 2.
     pub fn subscribe(&mut self) -> Result<(), Came> {
-        exchange(&mut self.hearer, &SUBSCRIBE, &SUBSCRIBED)
+        exchange(&mut self.sink, &SUBSCRIBE, &SUBSCRIBED)
     }
 }
 

@@ -75,7 +75,7 @@ impl Large {
         }
         send(&mut pair.speaker, self.sent.as_slice())?;
         hear_into(
-            &mut pair.hearer,
+            &mut pair.sink,
             self.buffer.as_mut_slice(),
             self.sent.as_slice(),
         )

@@ -28,7 +28,7 @@ const PUBLISH_FIRST: [u8; ANSWERED] = [
 /// How many bytes they have.
 const ANSWERED: usize = 4 + 5 + 4 + 10;
 
-// Says whether these are the answers, in one of the two orders.
+// Returns true if these are the answers, in one of the two orders.
 fn are_answers(got: &[u8]) -> bool {
     got == ANSWERS.as_slice() || got == PUBLISH_FIRST.as_slice()
 }

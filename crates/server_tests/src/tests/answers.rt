@@ -69,7 +69,7 @@ fn silence_on<R: Clock>(rt: &R, start: Instant, stream: &mut TcpStream) -> Resul
     unless(ended_in_time(rt, start), "it ends after 1.5 to 10 seconds")
 }
 
-// Says whether 1.5 to 10 seconds have passed.
+// Returns true if 1.5 to 10 seconds have passed.
 fn ended_in_time<R: Clock>(rt: &R, start: Instant) -> bool {
     match start.elapsed(rt) {
         Ok(took) => took.as_millis() > 1_500 && took.as_millis() < 10_000,

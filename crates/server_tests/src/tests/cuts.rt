@@ -134,7 +134,7 @@ where
     named(taken, "the publications are sent and taken")
 }
 
-// Says whether the logs of these nodes were cut, and no others. A log that was cut begins at a
+// Returns true if the logs of these nodes were cut, and no others. A log that was cut begins at a
 // higher place than the first.
 fn are_cut_where_wanted(reports: &[NodeReport], are_cut: &[bool]) -> bool {
     reports.len() == are_cut.len()

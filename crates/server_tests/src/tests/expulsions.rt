@@ -93,7 +93,7 @@ where
     named(begin(rt, pair), "the subscriber is sent what is published")?;
     unless(is_ordered(rt, cluster, "h"), "the first order is taken")?;
     named(
-        hear_end_within(&mut pair.hearer, END_MILLIS),
+        hear_end_within(&mut pair.sink, END_MILLIS),
         "the subscriber is closed while it is connected",
     )?;
     named(
@@ -112,7 +112,7 @@ fn begin<R: AllocGlobal>(rt: &R, pair: &mut Pair) -> Result<(), Came> {
 fn begin_by(pair: &mut Pair, heard: &mut Heard) -> Result<(), Came> {
     pair.subscribe()?;
     deliver(&mut pair.speaker, publish(0x34, 1, b'x'))?;
-    heard.next_answer(&mut pair.hearer)?;
+    heard.next_answer(&mut pair.sink)?;
     Ok(())
 }
 
@@ -153,7 +153,7 @@ where
     exchange(&mut stream, &SUBSCRIBE, &SUBSCRIBED)
 }
 
-// Says whether the order to end the session of a client is taken.
+// Returns true if the order to end the session of a client is taken.
 fn is_ordered<R>(rt: &R, cluster: &Cluster, name: &str) -> bool
 where
     R: AllocGlobal + Wait + Clock,

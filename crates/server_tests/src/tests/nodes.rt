@@ -73,7 +73,7 @@ where
     cluster.assign(rt, Config { members, primary }).is_ok() && is_primary(rt, cluster, primary)
 }
 
-// Says whether a node becomes the active primary within thirty seconds.
+// Returns true if a node becomes the active primary within thirty seconds.
 fn is_primary<R: Wait + Clock>(rt: &R, cluster: &Cluster, number: u8) -> bool {
     for _ in 0..3_000 {
         if cluster

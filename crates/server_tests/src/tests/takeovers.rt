@@ -135,10 +135,10 @@ where
 fn begin_three(pair: &mut Pair, heard: &mut Heard) -> Result<(), Came> {
     pair.subscribe()?;
     deliver(&mut pair.speaker, publish(0x34, 1, b'x'))?;
-    heard.answer(&mut pair.hearer)?;
-    heard.next_answer(&mut pair.hearer)?;
+    heard.answer(&mut pair.sink)?;
+    heard.next_answer(&mut pair.sink)?;
     exchange(&mut pair.speaker, &publish(0x34, 2, b'y'), &[0x50, 2, 0, 2])?;
-    heard.next_answer(&mut pair.hearer)?;
+    heard.next_answer(&mut pair.sink)?;
     send(&mut pair.speaker, &publish(0x34, 3, b'z'))
 }
 
@@ -156,6 +156,6 @@ fn end_by(pair: &mut Pair, heard: &mut Heard) -> Result<(), Came> {
     exchange(&mut pair.speaker, &[0x62, 2, 0, 2], &[0x70, 2, 0, 2])?;
     deliver(&mut pair.speaker, publish(0x3C, 3, b'z'))?;
     deliver(&mut pair.speaker, publish(0x34, 4, b'!'))?;
-    heard.answer_until(&mut pair.hearer, b'!')?;
-    hear_nothing(&mut pair.hearer)
+    heard.answer_until(&mut pair.sink, b'!')?;
+    hear_nothing(&mut pair.sink)
 }

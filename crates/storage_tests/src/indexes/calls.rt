@@ -168,7 +168,7 @@ fn granted_instead(rows: &[(ClientId, QoS)], wanted: &[Grant<'_>]) -> Option<Cam
     }
 }
 
-// Says whether a client is granted at an index, at this QoS.
+// Returns true if a client is granted at an index, at this QoS.
 fn is_wanted_at(client: &ClientId, qos: QoS, wanted: &[Grant<'_>], index: usize) -> bool {
     match wanted.get(index) {
         Some((name, level)) => client.as_str() == *name && qos == *level,
@@ -181,7 +181,7 @@ pub(crate) fn shown(client: &ClientId, qos: QoS) -> Shown {
     (front_of(client.as_str()), qos)
 }
 
-/// Says whether these rows are the wanted ones, in order.
+/// Returns true if these rows are the wanted ones, in order.
 pub(crate) fn are_wanted(rows: &[(ClientId, QoS)], wanted: &[Grant<'_>]) -> bool {
     granted_instead(rows, wanted).is_none()
 }

@@ -56,8 +56,8 @@ fn topic_of(alloc: Global, text: &str) -> Option<TopicName> {
     }
 }
 
-// Appends what is granted. Says whether a try without memory left the rows unchanged, and the next
-// try had memory.
+// Appends what is granted. Returns true if a try without memory left the rows unchanged, and the
+// next try had memory.
 fn is_appended<I: SubIndex>(index: &I, topic: &TopicName, rows: &mut Vec<(ClientId, QoS)>) -> bool {
     let before = rows.len();
     index.granted(topic, rows).is_ok()
@@ -87,13 +87,13 @@ fn show<I: SubIndex>(alloc: Global, index: &I, rows: &mut Vec<(ClientId, QoS)>) 
     true
 }
 
-// Says whether these are granted at the topics.
+// Returns true if these are granted at the topics.
 fn shows<I: SubIndex>(alloc: Global, index: &I, wanted: &[Grant<'_>]) -> bool {
     let mut rows = Vec::new(alloc);
     show(alloc, index, &mut rows) && are_wanted(rows.as_slice(), wanted)
 }
 
-// Says whether as much is granted at the topics as before.
+// Returns true if as much is granted at the topics as before.
 fn shows_still<I: SubIndex>(alloc: Global, index: &I, before: &[(ClientId, QoS)]) -> bool {
     let mut rows = Vec::new(alloc);
     show(alloc, index, &mut rows) && rows.as_slice() == before

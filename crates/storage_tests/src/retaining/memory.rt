@@ -88,8 +88,8 @@ fn is_filled(alloc: Global, store: &mut RetainedStore, number: usize) -> bool {
     }
 }
 
-// Says whether as many topics are kept as may be, and another one is refused; again if memory was
-// refused for the question.
+// Returns true if as many topics are kept as may be, and another one is refused; again if memory
+// was refused for the question.
 fn is_full(alloc: Global, store: &mut RetainedStore) -> bool {
     let full = Some(Err(RetainedError::RetainedFull));
     (0..16_384).all(|number| is_filled(alloc, store, number))

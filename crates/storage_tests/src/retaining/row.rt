@@ -165,7 +165,7 @@ fn found_instead(
     }
 }
 
-// Says whether a topic, with what is kept of it, is the one that is to be found at an index.
+// Returns true if a topic, with what is kept of it, is the one that is to be found at an index.
 fn is_wanted_at(
     topic: &TopicName,
     kept: &RetainedPublication,

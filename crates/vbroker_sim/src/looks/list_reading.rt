@@ -76,13 +76,13 @@ impl ListReading {
         all.filter(|it| it.client == *client).count()
     }
 
-    /// Says whether another reading found the same sessions with the same entries.
+    /// Returns true if another reading found the same sessions with the same entries.
     pub fn is_like(&self, other: &ListReading) -> bool {
         are_alike(self.ended.as_slice(), other.ended.as_slice())
             && are_alike(self.sessions.as_slice(), other.sessions.as_slice())
     }
 
-    /// Says whether the publication of this number was taken.
+    /// Returns true if the publication of this number was taken.
     pub fn is_taken(&self, serial: u64) -> bool {
         self.taken.get(serial as usize).copied().unwrap_or(false)
     }
@@ -267,7 +267,7 @@ impl ListReading {
     }
 }
 
-// Says whether these are the same sessions with the same entries.
+// Returns true if these are the same sessions with the same entries.
 fn are_alike(some: &[Session], others: &[Session]) -> bool {
     some.len() == others.len()
         && some

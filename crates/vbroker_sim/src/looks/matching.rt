@@ -1,6 +1,6 @@
 // Which topics a filter matches (MQTT 4.7), written a second time.
 
-/// Says whether a filter matches a topic.
+/// Returns true if a filter matches a topic.
 pub fn is_match(filter: &str, topic: &str) -> bool {
     if topic.starts_with('$') && (filter.starts_with('#') || filter.starts_with('+')) {
         return false;

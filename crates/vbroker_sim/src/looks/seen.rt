@@ -57,7 +57,7 @@ impl Seen {
         self.is_confirmed = false;
     }
 
-    /// Says whether it may be out of step: it was expelled, and opened a connection before the
+    /// Returns true if it may be out of step: it was expelled, and opened a connection before the
     /// CONNACK of the one before had come. Nothing is promised to such a client then.
     pub fn may_stray(&self) -> bool {
         self.is_expelled && self.is_hasty
@@ -118,7 +118,7 @@ impl Seen {
         Some(Ok(()))
     }
 
-    // Says whether it is the next entry of the session in which it was accepted, or all that was
+    // Returns true if it is the next entry of the session in which it was accepted, or all that was
     // accepted there begins a later one.
     fn is_next(
         &mut self,
@@ -141,7 +141,7 @@ impl Seen {
         false
     }
 
-    // Says whether all that was accepted at QoS 2 in this session, as far as it was looked at,
+    // Returns true if all that was accepted at QoS 2 in this session, as far as it was looked at,
     // begins these entries.
     fn begins(&self, accepted: &[Accepted], entries: &[Entry]) -> bool {
         let count = self.looked.saturating_sub(self.from);
@@ -175,7 +175,7 @@ impl Seen {
     }
 }
 
-// Says whether its publisher may be out of step.
+// Returns true if its publisher may be out of step.
 fn is_stray(one: &Accepted, strays: &[bool]) -> bool {
     match made_by(&one.payload) {
         Some((index, _)) => strays.get(index as usize).copied().unwrap_or(false),
@@ -183,7 +183,7 @@ fn is_stray(one: &Accepted, strays: &[bool]) -> bool {
     }
 }
 
-// Says whether this is what was accepted.
+// Returns true if this is what was accepted.
 fn is_entry(one: &Accepted, entry: &Entry) -> bool {
     one.retain == entry.retain && one.topic == entry.topic && one.payload == entry.payload
 }

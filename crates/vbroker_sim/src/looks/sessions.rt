@@ -18,7 +18,7 @@ pub struct Entry {
 }
 
 impl Entry {
-    /// Says whether two entries are alike.
+    /// Returns true if two entries are alike.
     pub fn is_like(&self, other: &Entry) -> bool {
         self.retain == other.retain && self.topic == other.topic && self.payload == other.payload
     }
@@ -87,8 +87,8 @@ impl Session {
         self.filters.retain(|(held, _)| held != filter);
     }
 
-    /// Says whether the session gets a publication at QoS 2 at QoS 2: one of its filters at QoS 2
-    /// matches.
+    /// Returns true if the session gets a publication at QoS 2 at QoS 2: one of its filters at QoS
+    /// 2 matches.
     pub fn wants(&self, topic: &TopicName) -> bool {
         self.filters.iter().any(|(filter, qos)| {
             *qos == QoS::ExactlyOnce && is_match(filter.as_str(), topic.as_str())
@@ -105,7 +105,7 @@ impl Session {
         self.entries.push(entry).ok()
     }
 
-    /// Says whether two sessions are of the same client, with the same entries.
+    /// Returns true if two sessions are of the same client, with the same entries.
     pub fn is_like(&self, other: &Session) -> bool {
         self.client == other.client
             && self.entries.len() == other.entries.len()

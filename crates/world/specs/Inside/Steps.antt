@@ -5,11 +5,11 @@ use Rattle.master.specs.declared.event.Idle.{Idle}
 use Rattle.session_base.specs.declared.publication.Publication.{Publication}
 use Rattle.world_nodes.specs.Steps.{NodesLoseNothing}
 use Rattle.world_pipes.specs.declared.events.event.Event.{Event}
-use Rattle.world.specs.Asking.{EventAsks}
+use Rattle.world.specs.Requests.{EventAsks}
 use Rattle.world_pipes.specs.clients.NodesGoOn.{NodesGoOn}
 use Rattle.world.specs.Cannot.{CannotHappen}
-use Rattle.world.specs.Doing.{DoesEvent}
-use Rattle.world.specs.Happening.{HappensLosing}
+use Rattle.world.specs.EventSteps.{DoesEvent}
+use Rattle.world.specs.Events.{HappensLosing}
 use Rattle.world.specs.StandsFor.{FollowsModelAsking}
 use Rattle.world.specs.World.{WorldState}
 

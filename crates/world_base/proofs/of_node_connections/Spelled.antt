@@ -4,7 +4,7 @@ use Rattle.std.specs.Prelude.{OnOk}
 use Rattle.std.specs.Result.{is_ok}
 use Rattle.packet.specs.declared.packet.Packet.{Packet}
 use Rattle.packet.specs.Spelling.{IsPacket, AppendsSpelling, spelling}
-use Rattle.packet.specs.Laws.{SpellingSpells}
+use Rattle.packet.specs.Theorems.{SpellingSpells}
 
 -- what holds on success holds for an answer that is one
 pub when_ok : {A E : Type 0} (P : Type 0) (r : Result A E) → OnOk r P → is_ok r ≡ true → P

@@ -13,8 +13,8 @@ use Rattle.ballot_base.specs.declared.message.Effect.{Effect}
 use Rattle.ballot_base.specs.Losses.{AppendedStepOrLost, ReplicaStepOrLost, StepMessagesOrLost, halted, one_more}
 use Rattle.ballot_base.specs.Protocol.{Input, replica_step}
 use Rattle.ballot_base.specs.Replica.{CountedReplica, ReplicaState, is_active}
-use Rattle.ballot_base.specs.Sending.{Outcome, nothing_done}
-use Rattle.ballot_base.specs.Serving.{added, max_places, proposed}
+use Rattle.ballot_base.specs.StepOutcome.{Outcome, nothing_done}
+use Rattle.ballot_base.specs.Service.{added, max_places, proposed}
 use Rattle.world_base.specs.node_core.Core.{CoreState, rules, serves}
 use Rattle.world_base.specs.node_core.Inside.{NodeReplicaStepOrLost, Answered, HandledAll, ProposedBy, StepPartOrLost}
 use Rattle.world_base.specs.node_core.Lossy.{Account, HandlesAll, Drives, without_effects}

@@ -11,8 +11,8 @@ use Rattle.ballot_base.specs.declared.errors.error.ProposeError.TheVariants.{Not
 use Rattle.ballot_base.specs.declared.message.Effect.{Effect}
 use Rattle.ballot_base.specs.Losses.{AppendedStepOrLost, ReplicaStepOrLost, one_more}
 use Rattle.ballot_base.specs.Replica.{CountedReplica, ReplicaState, is_active}
-use Rattle.ballot_base.specs.Sending.{Outcome}
-use Rattle.ballot_base.specs.Serving.{max_places, proposed}
+use Rattle.ballot_base.specs.StepOutcome.{Outcome}
+use Rattle.ballot_base.specs.Service.{max_places, proposed}
 use Rattle.ballot_base.proofs.StepRows.{proposed-adds, proposed-full, added-stopped}
 use Rattle.world_base.specs.node_core.Core.{CoreState, rules, serves}
 use Rattle.world_base.specs.node_core.Effects.{has_room}

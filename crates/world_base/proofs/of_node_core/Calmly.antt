@@ -14,11 +14,11 @@ use Rattle.world_base.specs.node_connections.ConnectionChanges.{changed_where, c
 use Rattle.world_base.specs.declared.node_core.item.Item.{Item}
 use Rattle.world_base.specs.declared.node_core.item.Item.TheVariants.{Peer, Tick, Opened, Bytes, Ended, Expel, Cut, Crash}
 use Rattle.world_base.specs.node_core.Core.{CoreState, StepOutcome, serves}
-use Rattle.world_base.specs.node_core.Failing.{reports_all_failed, reports_failed}
-use Rattle.world_base.specs.node_connections.Pending.{pending_bytes}
-use Rattle.world_base.specs.node_core.Handing.{hands_over, left_by, listed_at}
+use Rattle.world_base.specs.node_core.FailedConnections.{reports_all_failed, reports_failed}
+use Rattle.world_base.specs.node_connections.PendingOutput.{pending_bytes}
+use Rattle.world_base.specs.node_core.PortOutput.{hands_over, left_by, listed_at}
 use Rattle.world_base.specs.node_core.Losses.{IsHeardQuietly, IsIgnored, ReadsNone, ItemTakesNoMemory, WaitsNothing, was_proposed}
-use Rattle.world_base.specs.node_core.Reading.{changes, port_closed, loses_open, open_at}
+use Rattle.world_base.specs.node_core.PacketInput.{changes, port_closed, loses_open, open_at}
 use Rattle.world_base.specs.node_core.Step.{acts_on, crashed, node_step, settled, does_item}
 use Rattle.world_base.specs.node_core.Effects.{handled_all, drives, outcome_of_input, without_messages, then_also}
 use Rattle.world_base.proofs.of_node_core.Failures.{failed_next}

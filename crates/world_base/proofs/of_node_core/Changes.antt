@@ -10,7 +10,7 @@ use Rattle.world_base.specs.node_connections.Connections.{is_open_at, is_open_na
 use Rattle.world_base.specs.node_connections.ConnectionChanges.{changed_where}
 use Rattle.world_base.specs.node_core.Core.{CoreState}
 use Rattle.world_base.specs.node_core.Inside.{RunningStep}
-use Rattle.world_base.specs.node_core.Reading.{changes}
+use Rattle.world_base.specs.node_core.PacketInput.{changes}
 use Rattle.world_base.specs.node_core.Effects.{changes_named}
 use Rattle.world_base.proofs.of_node_core.Indices.{none_changed, index_changed}
 

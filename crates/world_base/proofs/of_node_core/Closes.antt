@@ -6,7 +6,7 @@ use Rattle.broker_spec.specs.declared.command.Command.TheVariants as commands
 use Rattle.broker_spec.specs.declared.command.Output.{Output}
 use Rattle.ballot_base.specs.Logs.{places}
 use Rattle.ballot_base.specs.declared.message.Effect.{Effect}
-use Rattle.ballot_base.specs.Serving.{max_places}
+use Rattle.ballot_base.specs.Service.{max_places}
 use Rattle.ballot_base.proofs.StepRows.{proposed-full}
 use Rattle.world_base.specs.declared.node_connections.port.Port.{Port}
 use Rattle.world_base.specs.declared.node_connections.connection.Connection.{Connection}
@@ -14,7 +14,7 @@ use Rattle.world_base.specs.node_connections.Connections.{is_proposed}
 use Rattle.world_base.specs.node_connections.ConnectionChanges.{closed_connection}
 use Rattle.world_base.specs.node_core.Core.{CoreState, StepOutcome, rules, serves}
 use Rattle.world_base.specs.node_core.Inside.{RunningStep, DoesExactly, DoesOutcome}
-use Rattle.world_base.specs.node_core.Reading.{changes, port_closed, open_at}
+use Rattle.world_base.specs.node_core.PacketInput.{changes, port_closed, open_at}
 use Rattle.world_base.specs.node_core.Effects.{without_messages, then_also, proposes, has_room}
 use Rattle.world_base.proofs.of_node_core.Asked.{left_true}
 use Rattle.world_base.proofs.of_node_core.StepsJoin.{turns_idle, turns_join, turns_as, turns_after, turns_without_messages}

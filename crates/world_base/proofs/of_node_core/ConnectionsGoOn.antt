@@ -20,10 +20,10 @@ use Rattle.world_base.specs.declared.node_connections.connection.ConnectionStage
 use Rattle.world_base.specs.node_connections.Connections.{is_open_named, is_closed, is_proposed}
 use Rattle.world_base.specs.node_connections.ConnectionChanges.{changed_where, closed_connection, failing, max_pending, with_queued, putting}
 use Rattle.world_base.specs.node_core.Core.{CoreState}
-use Rattle.world_base.specs.node_core.Going.{AreNamedApart, EachGoesOn, ConnectionGoesOn, bytes_by, bytes_for}
+use Rattle.world_base.specs.node_core.ConnectionSteps.{AreNamedApart, EachGoesOn, ConnectionGoesOn, bytes_by, bytes_for}
 use Rattle.world_base.specs.node_core.Lossy.{HandlesAll, Performs}
 use Rattle.world_base.specs.node_core.Lossy.HandlesAll.{nothing, does, sends, loses}
-use Rattle.world_base.specs.node_connections.Refusing.{connect_refused}
+use Rattle.world_base.specs.node_connections.Refusals.{connect_refused}
 use Rattle.world_base.specs.node_core.Effects.{changes_named}
 
 -- ---- one connection

@@ -3,7 +3,7 @@ use Rattle.std.proofs.Common.{◌≡◌, ℕ, ◌⊎◌, inl, inr, ◌+◌, ◌-
 use Rattle.std.proofs.lemmas.Bool.{cases_Bool}
 use Rattle.broker_base.specs.State.{State}
 use Rattle.broker_spec.specs.declared.command.Command.{Command}
-use Rattle.ballot_base.specs.Cutting.{can_cut, cut}
+use Rattle.ballot_base.specs.Compaction.{can_cut, cut}
 use Rattle.ballot_base.specs.Losses.{one_more}
 use Rattle.ballot_base.specs.Replica.{CountedReplica, ReplicaState}
 use Rattle.world_base.specs.node_core.Core.{CoreState, rules}

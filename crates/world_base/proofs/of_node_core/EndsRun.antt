@@ -11,18 +11,18 @@ use Rattle.world_base.specs.declared.node_connections.connection.Connection.{Con
 use Rattle.world_base.specs.node_connections.Connections.{has_failed, is_proposed}
 use Rattle.world_base.specs.node_connections.ConnectionChanges.{closed_connection, failing, with_unread}
 use Rattle.world_base.specs.node_core.Core.{CoreState}
-use Rattle.world_base.specs.node_core.Failing.{closes_failed}
+use Rattle.world_base.specs.node_core.FailedConnections.{closes_failed}
 use Rattle.world_base.specs.node_core.Inside.{ProposedBy, ReportsLost, RunningStep, StepPartOrLost}
 use Rattle.world_base.specs.node_connections.Silent.{lowest_silent}
 use Rattle.world_base.specs.node_core.Lossy.{Account, Then, without_effects}
 use Rattle.world_base.specs.node_core.LossyProposals.{Declines, ProposesCommand}
 use Rattle.world_base.specs.node_core.LossyStep.{HoldsBytes}
 use Rattle.world_base.specs.node_core.LossyEndings.{EndsConnection, EndsSilent, ReportsFailed}
-use Rattle.world_base.specs.node_core.LossyReading.{TakesOr, Shuts}
+use Rattle.world_base.specs.node_core.LossyPacketInput.{TakesOr, Shuts}
 use Rattle.world_base.specs.node_core.LossyEndings.EndsConnection.{none_open, unproposed, proposed}
 use Rattle.world_base.specs.node_core.LossyEndings.EndsSilent.{none_silent, ends_one}
 use Rattle.world_base.specs.node_core.LossyEndings.ReportsFailed.{none_failed, tells_one}
-use Rattle.world_base.specs.node_core.Reading.{changes, open_at}
+use Rattle.world_base.specs.node_core.PacketInput.{changes, open_at}
 use Rattle.world_base.proofs.of_node_core.Accounts.{ran_as, ran_without_effects, ran_then}
 use Rattle.world_base.proofs.of_node_core.Answering.{as_proposes}
 

@@ -8,7 +8,7 @@ use Rattle.ballot_base.specs.declared.message.Effect.{Effect}
 use Rattle.world_base.specs.declared.node_connections.connection.Connection.{Connection}
 use Rattle.world_base.specs.node_connections.Connections.{has_failed}
 use Rattle.world_base.specs.node_core.Core.{CoreState, StepOutcome}
-use Rattle.world_base.specs.node_core.Failing.{closes_failed, reports_failed}
+use Rattle.world_base.specs.node_core.FailedConnections.{closes_failed, reports_failed}
 use Rattle.world_base.specs.node_core.Inside.{RunningStep, DoesOutcome}
 use Rattle.world_base.specs.node_core.Effects.{without_messages, proposes}
 use Rattle.world_base.proofs.of_node_core.StepsJoin.{turns_idle, turns_after}

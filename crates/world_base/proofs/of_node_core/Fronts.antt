@@ -25,8 +25,8 @@ use Rattle.world_base.specs.node_core.Core.{CoreState, StepOutcome}
 use Rattle.world_base.specs.node_connections.Fronts.{IsFaultOfBytes}
 use Rattle.world_base.specs.node_connections.Fronts.{TakesFront}
 use Rattle.world_base.specs.node_core.Inside.{RunningStep, DoesOutcome}
-use Rattle.world_base.specs.node_core.Reading.{takes_first_packet, changes, loses, open_at, reads, reads_next, proposes_packet}
-use Rattle.world_base.specs.node_connections.Refusing.{connect_refused}
+use Rattle.world_base.specs.node_core.PacketInput.{takes_first_packet, changes, loses, open_at, reads, reads_next, proposes_packet}
+use Rattle.world_base.specs.node_connections.Refusals.{connect_refused}
 use Rattle.world_base.specs.node_core.Effects.{proposes, without_messages}
 use Rattle.world_base.proofs.of_node_core.StepsJoin.{turns_idle, turns_without_messages, turns_after}
 

@@ -23,11 +23,11 @@ use Rattle.world_base.specs.node_connections.Fronts.{TakesFront}
 use Rattle.world_base.specs.node_core.Inside.{TakesPacket, StepPartOrLost, ReportsLost}
 use Rattle.world_base.specs.node_core.Lossy.{without_effects}
 use Rattle.world_base.specs.node_core.LossyEndings.{EndsConnection}
-use Rattle.world_base.specs.node_core.LossyReading.{TakesFirstPacket, ProposesConnect, MayEnd, ReadsNext, ProposesPacket}
+use Rattle.world_base.specs.node_core.LossyPacketInput.{TakesFirstPacket, ProposesConnect, MayEnd, ReadsNext, ProposesPacket}
 use Rattle.world_base.specs.node_core.LossyEndings.EndsConnection.{none_open}
-use Rattle.world_base.specs.node_core.LossyReading.ReadsNext.{waits, first, later, refuses, ends}
-use Rattle.world_base.specs.node_core.Reading.{changes, open_at}
-use Rattle.world_base.specs.node_connections.Refusing.{connect_refused}
+use Rattle.world_base.specs.node_core.LossyPacketInput.ReadsNext.{waits, first, later, refuses, ends}
+use Rattle.world_base.specs.node_core.PacketInput.{changes, open_at}
+use Rattle.world_base.specs.node_connections.Refusals.{connect_refused}
 use Rattle.world_base.proofs.of_node_core.Accounts.{ran_as, ran_without_effects}
 use Rattle.world_base.proofs.of_node_core.EndsRun.{ran_lost, ran_none_open}
 use Rattle.world_base.proofs.of_node_core.Fronts.{becomes_itself, becomes_same}

@@ -12,7 +12,7 @@ use Rattle.broker_spec.specs.declared.command.Command.TheVariants as commands
 use Rattle.broker_spec.specs.declared.command.Output.{Output}
 use Rattle.ballot_base.specs.Protocol.{Input}
 use Rattle.ballot_base.specs.Protocol.Input.{Receives, Ticks}
-use Rattle.ballot_base.specs.Sending.{Outcome}
+use Rattle.ballot_base.specs.StepOutcome.{Outcome}
 use Rattle.world_base.specs.declared.node_connections.port.Port.{Port}
 use Rattle.world_base.specs.declared.node_core.item.Item.{Item}
 use Rattle.world_base.specs.declared.node_core.item.Item.TheVariants.{Peer, Tick, Opened, Bytes, Ended, Expel, Cut, Crash}
@@ -20,21 +20,21 @@ use Rattle.world_base.specs.declared.node_connections.connection.Connection.{Con
 use Rattle.world_base.specs.node_connections.Connections.{fresh, has_failed, is_at, is_open_at, is_closed}
 use Rattle.world_base.specs.node_connections.ConnectionChanges.{noted_proposed, closed_connection, failing, with_unread, left_with}
 use Rattle.world_base.specs.node_core.Core.{CoreState, serves}
-use Rattle.world_base.specs.node_core.Failing.{closes_failed}
-use Rattle.world_base.specs.node_core.Going.{AGapIsClosed, AreNamedApart, EachGoesOn, GoOn, ConnectionGoesOn, OpensAtMostOne}
+use Rattle.world_base.specs.node_core.FailedConnections.{closes_failed}
+use Rattle.world_base.specs.node_core.ConnectionSteps.{AGapIsClosed, AreNamedApart, EachGoesOn, GoOn, ConnectionGoesOn, OpensAtMostOne}
 use Rattle.world_base.specs.node_core.Lossy.{Account, Drives, HandledStepOrLost, Repeated, TakesCommand, Then, without_effects}
 use Rattle.world_base.specs.node_core.LossyProposals.{Declines, ProposesCommand}
 use Rattle.world_base.specs.node_core.LossyProposals.Declines.{no_room, forgets, stops}
 use Rattle.world_base.specs.node_core.LossyStep.{ActsOn, LogCutOrLost, HoldsBytes, AcceptsConnection, DoesItem}
 use Rattle.world_base.specs.node_core.LossyEndings.{EndsConnection, EndsSilent, ReportsFailed}
-use Rattle.world_base.specs.node_core.LossyReading.{TakesOr, TakesFirstPacket, ClosesConnection, ReadsNext, Shuts}
+use Rattle.world_base.specs.node_core.LossyPacketInput.{TakesOr, TakesFirstPacket, ClosesConnection, ReadsNext, Shuts}
 use Rattle.world_base.specs.node_core.LossyStep.LogCutOrLost.{nothing_to_cut, cuts_log, forgets_cut}
 use Rattle.world_base.specs.node_core.LossyEndings.EndsConnection.{none_open, unproposed, proposed}
 use Rattle.world_base.specs.node_core.LossyEndings.EndsSilent.{none_silent, ends_one}
 use Rattle.world_base.specs.node_core.LossyEndings.ReportsFailed.{none_failed, tells_one}
-use Rattle.world_base.specs.node_core.LossyReading.ReadsNext.{waits, first, later, refuses, ends}
-use Rattle.world_base.specs.node_core.Reading.{changes, open_at, unread_of}
-use Rattle.world_base.specs.node_connections.Refusing.{connect_refused}
+use Rattle.world_base.specs.node_core.LossyPacketInput.ReadsNext.{waits, first, later, refuses, ends}
+use Rattle.world_base.specs.node_core.PacketInput.{changes, open_at, unread_of}
+use Rattle.world_base.specs.node_connections.Refusals.{connect_refused}
 use Rattle.world_base.specs.node_core.Step.{next_name, with_next_connection}
 use Rattle.world_base.proofs.of_node_core.ConnectionsGoOn.{apart_on, changed_on, delivers_on, each_both, each_itself, goes_closed, goes_failing, goes_refused, goes_still}
 

@@ -5,7 +5,7 @@ use Rattle.world_base.specs.declared.node_connections.port.Port.{Port}
 use Rattle.world_base.specs.declared.node_connections.connection.Connection.{Connection}
 use Rattle.world_base.specs.node_connections.Connections.{is_at, is_listed}
 use Rattle.world_base.specs.node_connections.ConnectionChanges.{nothing_pending}
-use Rattle.world_base.specs.node_core.Handing.{hands_over, listed_at}
+use Rattle.world_base.specs.node_core.PortOutput.{hands_over, listed_at}
 use Rattle.world_base.specs.node_core.Inside.{RunningStep}
 use Rattle.world_base.proofs.of_node_core.Indices.{index_changed}
 

@@ -12,7 +12,7 @@ use Rattle.ballot_base.specs.declared.message.Message.{Message}
 use Rattle.ballot_base.specs.Protocol.{replica_step}
 use Rattle.ballot_base.specs.Protocol.Input.{Receives}
 use Rattle.ballot_base.specs.Replica.{CountedReplica, ReplicaState}
-use Rattle.ballot_base.specs.Sending.{Outcome, nothing_done}
+use Rattle.ballot_base.specs.StepOutcome.{Outcome, nothing_done}
 use Rattle.ballot_base.specs.Unread.{is_unread}
 use Rattle.world_base.specs.node_connections.Connections.{has_failed}
 use Rattle.world_base.specs.declared.node_core.item.Item.{Item}

@@ -9,7 +9,7 @@ use Rattle.ballot_base.specs.declared.message.Effect.{Effect}
 use Rattle.ballot_base.specs.declared.message.Message.{Message}
 use Rattle.ballot_base.specs.Protocol.{Input}
 use Rattle.ballot_base.specs.Protocol.Input.{Receives, Ticks}
-use Rattle.ballot_base.specs.Sending.{Outcome}
+use Rattle.ballot_base.specs.StepOutcome.{Outcome}
 use Rattle.world_base.specs.declared.node_connections.port.Port.{Port}
 use Rattle.world_base.specs.declared.node_core.item.Item.{Item}
 use Rattle.world_base.specs.declared.node_core.item.Item.TheVariants.{Peer, Tick, Opened, Bytes, Ended, Expel, Cut, Crash}
@@ -17,7 +17,7 @@ use Rattle.world_base.specs.declared.node_connections.connection.Connection.{Con
 use Rattle.world_base.specs.node_connections.Connections.{has_failed, is_open_at, is_proposed}
 use Rattle.world_base.specs.node_connections.ConnectionChanges.{changed_where, closed_connection, with_unread}
 use Rattle.world_base.specs.node_core.Core.{CoreState, StepOutcome}
-use Rattle.world_base.specs.node_core.Failing.{reports_all_failed}
+use Rattle.world_base.specs.node_core.FailedConnections.{reports_all_failed}
 use Rattle.world_base.specs.node_core.Inside.{StepPartOrLost, RunningStep, DoesOutcome, WithoutFailure}
 use Rattle.world_base.specs.node_core.KeepAlive.{ends_all_silent, ends_silent}
 use Rattle.world_base.specs.node_core.Losses.{DoesNothing, IsHeardQuietly, IsIgnored, ReadsNone, ItemTakesNoMemory, was_proposed}
@@ -25,13 +25,13 @@ use Rattle.world_base.specs.node_core.Lossy.{Account, Drives, Repeated, without_
 use Rattle.world_base.specs.node_core.Lossy.HandlesAll.{nothing}
 use Rattle.world_base.specs.node_core.LossyStep.{ActsOn, ReportsAllFailed, ReadsPackets, DoesItem}
 use Rattle.world_base.specs.node_core.LossyEndings.{EndsSilent}
-use Rattle.world_base.specs.node_core.LossyReading.{ReadsNext}
-use Rattle.ballot_base.specs.Cutting.{can_cut}
+use Rattle.world_base.specs.node_core.LossyPacketInput.{ReadsNext}
+use Rattle.ballot_base.specs.Compaction.{can_cut}
 use Rattle.world_base.specs.node_core.LossyProposals.Declines.{no_room}
 use Rattle.world_base.specs.node_core.LossyStep.LogCutOrLost.{nothing_to_cut}
 use Rattle.world_base.specs.node_core.LossyEndings.EndsConnection.{none_open}
 use Rattle.world_base.specs.node_core.LossyEndings.EndsSilent.{none_silent}
-use Rattle.world_base.specs.node_core.Reading.{changes, port_closed, open_at, reads_all, reads_next, unread_of}
+use Rattle.world_base.specs.node_core.PacketInput.{changes, port_closed, open_at, reads_all, reads_next, unread_of}
 use Rattle.world_base.specs.node_core.Step.{accepts_connection, acts_on, cuts, with_next_connection, does_item}
 use Rattle.world_base.specs.node_core.Effects.{drives, after_replica_step, without_messages, repeated, then_also}
 use Rattle.world_base.proofs.of_node_core.Accounts.{ran_without_effects, ran_then}

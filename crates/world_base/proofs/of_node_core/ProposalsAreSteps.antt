@@ -9,8 +9,8 @@ use Rattle.ballot_base.specs.Logs.{places}
 use Rattle.ballot_base.specs.declared.message.Effect.{Effect}
 use Rattle.ballot_base.specs.Losses.{ReplicaStepOrLost, StepMessagesOrLost, Thinned, halted, one_more}
 use Rattle.ballot_base.specs.Replica.{CountedReplica, is_active}
-use Rattle.ballot_base.specs.Sending.{Outcome}
-use Rattle.ballot_base.specs.Serving.{added, max_places, proposed}
+use Rattle.ballot_base.specs.StepOutcome.{Outcome}
+use Rattle.ballot_base.specs.Service.{added, max_places, proposed}
 use Rattle.ballot_base.proofs.StepRows.{proposed-adds, proposed-full}
 use Rattle.world_base.specs.node_core.Core.{CoreState, rules, serves}
 use Rattle.world_base.specs.node_core.Lossy.{Account, HandledStepOrLost}

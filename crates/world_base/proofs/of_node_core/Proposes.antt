@@ -6,8 +6,8 @@ use Rattle.broker_spec.specs.declared.command.Command.{Command}
 use Rattle.broker_spec.specs.declared.command.Output.{Output}
 use Rattle.ballot_base.specs.declared.message.Effect.{Effect}
 use Rattle.ballot_base.specs.Protocol.{Input}
-use Rattle.ballot_base.specs.Sending.{Outcome}
-use Rattle.ballot_base.specs.Serving.{proposed}
+use Rattle.ballot_base.specs.StepOutcome.{Outcome}
+use Rattle.ballot_base.specs.Service.{proposed}
 use Rattle.world_base.specs.node_core.Core.{StepOutcome, rules, serves}
 use Rattle.world_base.specs.node_core.Inside.{RunningStep, StepsReplica, DoesOutcome}
 use Rattle.world_base.specs.node_core.Effects.{handled_all, drives, outcome_of_input, after_replica_step, proposes}

@@ -9,7 +9,7 @@ use Rattle.world_base.specs.node_core.Core.{CoreState, StepOutcome}
 use Rattle.world_base.specs.node_core.Inside.{RunningStep, DoesOutcome}
 use Rattle.world_base.specs.node_core.KeepAlive.{ends_silent}
 use Rattle.world_base.specs.node_connections.Silent.{lowest_silent}
-use Rattle.world_base.specs.node_core.Reading.{port_closed}
+use Rattle.world_base.specs.node_core.PacketInput.{port_closed}
 use Rattle.world_base.specs.node_core.Effects.{without_messages}
 
 -- more time went by than is allowed

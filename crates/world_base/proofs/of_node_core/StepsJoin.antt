@@ -7,7 +7,7 @@ use Rattle.std.proofs.lemmas.List.Elements.{filter-append}
 use Rattle.broker_spec.specs.declared.command.Command.{Command}
 use Rattle.broker_spec.specs.declared.command.Output.{Output}
 use Rattle.ballot_base.specs.declared.message.Effect.{Effect}
-use Rattle.ballot_base.specs.Sending.{is_message}
+use Rattle.ballot_base.specs.StepOutcome.{is_message}
 use Rattle.world_base.specs.node_core.Core.{CoreState, StepOutcome}
 use Rattle.world_base.specs.node_core.Inside.{RunningStep, DoesExactly, DoesOutcome}
 use Rattle.world_base.specs.node_core.Effects.{without_messages, then_also, handled_all, with_effect}

@@ -11,7 +11,7 @@ use Rattle.world_base.specs.declared.node_connections.front.Front.{Front}
 use Rattle.world_base.specs.declared.node_connections.front.Front.TheVariants as fronts
 use Rattle.world_base.specs.node_connections.Connections.{awaits_first_packet}
 use Rattle.world_base.specs.node_connections.ConnectionChanges.{left_with, closed_connection}
-use Rattle.world_base.specs.node_connections.Refusing.{connect_refused}
+use Rattle.world_base.specs.node_connections.Refusals.{connect_refused}
 
 -- a fault of the bytes
 abbrev pub IsFaultOfBytes : Result (Packet × List ℕ) Stop → Type 0

@@ -11,8 +11,8 @@ use Rattle.ballot_base.specs.declared.message.Effect.{Effect}
 use Rattle.ballot_base.specs.declared.message.Effect.TheVariants.{To, Out}
 use Rattle.ballot_base.specs.Protocol.{Input, replica_step}
 use Rattle.ballot_base.specs.Replica.{ReplicaState}
-use Rattle.ballot_base.specs.Sending.{Outcome, is_message, nothing_done}
-use Rattle.ballot_base.specs.Serving.{proposed, max_places}
+use Rattle.ballot_base.specs.StepOutcome.{Outcome, is_message, nothing_done}
+use Rattle.ballot_base.specs.Service.{proposed, max_places}
 use Rattle.world_base.specs.declared.node_connections.connection.Connection.{Connection}
 use Rattle.world_base.specs.node_connections.Connections.{is_open_named}
 use Rattle.world_base.specs.node_connections.ConnectionChanges.{closed_connection, with_queued, changed_where}

@@ -9,13 +9,13 @@ use Rattle.broker_spec.specs.declared.command.Output.{Output}
 use Rattle.ballot_base.specs.declared.message.Effect.{Effect}
 use Rattle.ballot_base.specs.Losses.{ReplicaStepOrLost, StepMessagesOrLost}
 use Rattle.ballot_base.specs.Replica.{CountedReplica}
-use Rattle.ballot_base.specs.Sending.{Outcome}
-use Rattle.ballot_base.specs.Serving.{added}
+use Rattle.ballot_base.specs.StepOutcome.{Outcome}
+use Rattle.ballot_base.specs.Service.{added}
 use Rattle.packet.specs.declared.packet.Packet.{Packet}
 use Rattle.world_base.specs.node_core.Core.{CoreState, StepOutcome, rules}
 use Rattle.world_base.specs.declared.node_connections.port.Port.{Port}
 use Rattle.world_base.specs.node_connections.Connections.{has_failed}
-use Rattle.world_base.specs.node_core.LossyReading.{TakesFirstPacket, ProposesPacket}
+use Rattle.world_base.specs.node_core.LossyPacketInput.{TakesFirstPacket, ProposesPacket}
 use Rattle.world_base.specs.node_core.Lossy.{Account, HandlesAll, TakesCommand, without_effects}
 use Rattle.world_base.specs.node_core.LossyProposals.{Declines, ProposesCommand}
 use Rattle.world_base.specs.node_core.Effects.{has_room}

@@ -3,7 +3,7 @@
 use Rattle.std.specs.Prelude.{ℕ, length, Option, Some, None}
 use Rattle.world_base.specs.declared.node_connections.port.Port.{Port}
 use Rattle.world_base.specs.node_core.Core.{CoreState, StepOutcome}
-use Rattle.world_base.specs.node_core.Reading.{port_closed}
+use Rattle.world_base.specs.node_core.PacketInput.{port_closed}
 use Rattle.world_base.specs.node_core.Effects.{without_messages, repeated}
 pub use Rattle.world_base.specs.node_connections.Silent.{lower, lower_silent, lowest_silent}
 

@@ -5,11 +5,11 @@ use Rattle.lists.specs.Lists.{Each}
 use Rattle.broker_spec.specs.declared.command.Command.{Command}
 use Rattle.broker_spec.specs.declared.command.Output.{Output}
 use Rattle.ballot_base.specs.declared.message.Effect.{Effect}
-use Rattle.ballot_base.specs.Cutting.{can_cut}
+use Rattle.ballot_base.specs.Compaction.{can_cut}
 use Rattle.ballot_base.specs.Losses.{SendsAndAddsNothing, greatest_count, one_more}
 use Rattle.ballot_base.specs.Protocol.{Input}
 use Rattle.ballot_base.specs.Protocol.Input.{Receives, Ticks}
-use Rattle.ballot_base.specs.Sending.{nothing_done}
+use Rattle.ballot_base.specs.StepOutcome.{nothing_done}
 use Rattle.world_base.specs.declared.node_core.item.Item.{Item}
 use Rattle.world_base.specs.declared.node_core.item.Item.TheVariants.{Peer, Tick, Opened, Bytes, Ended, Expel, Cut, Crash}
 use Rattle.world_base.specs.declared.node_connections.connection.Connection.{Connection}
@@ -19,7 +19,7 @@ use Rattle.ballot_base.specs.Unread.{is_unread}
 use Rattle.world_base.specs.node_core.Core.{CoreState, CountedCore, StepOutcome, rules}
 use Rattle.world_base.specs.node_connections.Silent.{lowest_silent}
 use Rattle.world_base.specs.node_core.LossyStep.{RunsOn}
-use Rattle.world_base.specs.node_core.Reading.{open_at}
+use Rattle.world_base.specs.node_core.PacketInput.{open_at}
 use Rattle.world_base.specs.node_core.Step.{accepts_connection, node_step}
 use Rattle.world_base.specs.node_core.Effects.{has_room, outcome_of_input}
 

@@ -10,8 +10,8 @@ use Rattle.ballot_base.specs.declared.message.Message.{Message}
 use Rattle.ballot_base.specs.Losses.{ReplicaStepOrLost, StepMessagesOrLost}
 use Rattle.ballot_base.specs.Protocol.{Input}
 use Rattle.ballot_base.specs.Replica.{CountedReplica}
-use Rattle.ballot_base.specs.Sending.{Outcome}
-use Rattle.ballot_base.specs.Serving.{added}
+use Rattle.ballot_base.specs.StepOutcome.{Outcome}
+use Rattle.ballot_base.specs.Service.{added}
 use Rattle.world_base.specs.node_connections.ConnectionChanges.{failing}
 use Rattle.world_base.specs.node_core.Core.{CoreState, rules}
 use Rattle.world_base.specs.node_core.Effects.{changes_named, has_room, outcome_of_input, performed_by}

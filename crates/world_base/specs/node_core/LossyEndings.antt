@@ -7,11 +7,11 @@ use Rattle.world_base.specs.declared.node_connections.connection.Connection.{Con
 use Rattle.world_base.specs.node_connections.Connections.{has_failed, is_proposed}
 use Rattle.world_base.specs.node_connections.ConnectionChanges.{closed_connection}
 use Rattle.world_base.specs.node_core.Core.{CoreState}
-use Rattle.world_base.specs.node_core.Failing.{closes_failed}
+use Rattle.world_base.specs.node_core.FailedConnections.{closes_failed}
 use Rattle.world_base.specs.node_connections.Silent.{lowest_silent}
 use Rattle.world_base.specs.node_core.Lossy.{Account, without_effects}
 use Rattle.world_base.specs.node_core.LossyProposals.{ProposesCommand}
-use Rattle.world_base.specs.node_core.Reading.{changes, open_at}
+use Rattle.world_base.specs.node_core.PacketInput.{changes, open_at}
 
 -- the connection of a port is closed as lost, and reported to the broker if its Connect was
 -- proposed

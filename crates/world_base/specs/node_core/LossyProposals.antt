@@ -2,7 +2,7 @@
 use Rattle.std.specs.Prelude.{◌≡◌, ◌⊎◌, true, false}
 use Rattle.broker_spec.specs.declared.command.Command.{Command}
 use Rattle.ballot_base.specs.Losses.{halted, one_more}
-use Rattle.ballot_base.specs.Serving.{proposed}
+use Rattle.ballot_base.specs.Service.{proposed}
 use Rattle.world_base.specs.node_core.Core.{CoreState, rules, serves}
 use Rattle.world_base.specs.node_core.Effects.{has_room}
 use Rattle.world_base.specs.node_core.Lossy.{Account, without_effects, HandledStepOrLost, TakesCommand}

@@ -10,15 +10,15 @@ use Rattle.world_base.specs.declared.node_connections.port.Port.{Port}
 use Rattle.world_base.specs.declared.node_core.item.Item.{Item}
 use Rattle.world_base.specs.declared.node_core.item.Item.TheVariants.{Peer, Tick, Opened, Bytes, Ended, Expel, Cut, Crash}
 use Rattle.world_base.specs.node_connections.ConnectionChanges.{with_unread}
-use Rattle.ballot_base.specs.Cutting.{can_cut}
+use Rattle.ballot_base.specs.Compaction.{can_cut}
 use Rattle.ballot_base.specs.Losses.{one_more}
 use Rattle.world_base.specs.node_core.Core.{CoreState, rules}
 use Rattle.world_base.specs.node_core.Lossy.{Account, Drives, Repeated, Then, without_effects}
 use Rattle.world_base.specs.node_core.LossyProposals.{ProposesCommand}
-use Rattle.world_base.specs.node_core.Reading.{changes, open_at, unread_of}
+use Rattle.world_base.specs.node_core.PacketInput.{changes, open_at, unread_of}
 use Rattle.world_base.specs.node_core.Step.{crashed, with_next_connection, settled, with_cut}
 use Rattle.world_base.specs.node_core.LossyEndings.{EndsConnection, EndsSilent, ReportsFailed}
-use Rattle.world_base.specs.node_core.LossyReading.{ReadsNext}
+use Rattle.world_base.specs.node_core.LossyPacketInput.{ReadsNext}
 
 -- ---- an item
 

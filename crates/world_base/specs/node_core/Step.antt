@@ -3,7 +3,7 @@ use Rattle.std.specs.Prelude.{ℕ, ◌+◌, Bool, not, ◌&&◌, ◌==◌, if◌
 use Rattle.std.specs.List.{list_any}
 use Rattle.broker_spec.specs.Connection.{ConnectionName, is_connection_name}
 use Rattle.broker_spec.specs.declared.command.Command.TheVariants as commands
-use Rattle.ballot_base.specs.Cutting.{can_cut, cut}
+use Rattle.ballot_base.specs.Compaction.{can_cut, cut}
 use Rattle.ballot_base.specs.Losses.{halted}
 use Rattle.ballot_base.specs.Protocol.Input.{Receives, Ticks}
 use Rattle.world_base.specs.declared.node_connections.port.Port.{Port}
@@ -12,9 +12,9 @@ use Rattle.world_base.specs.declared.node_core.item.Item.TheVariants.{Peer, Tick
 use Rattle.world_base.specs.node_connections.Connections.{is_at, is_listed, fresh}
 use Rattle.world_base.specs.node_connections.ConnectionChanges.{with_unread, closed_connection}
 use Rattle.world_base.specs.node_core.Core.{CoreState, StepOutcome, rules, serves}
-use Rattle.world_base.specs.node_core.Failing.{reports_all_failed}
+use Rattle.world_base.specs.node_core.FailedConnections.{reports_all_failed}
 use Rattle.world_base.specs.node_core.KeepAlive.{ends_all_silent}
-use Rattle.world_base.specs.node_core.Reading.{changes, port_closed, reads_all}
+use Rattle.world_base.specs.node_core.PacketInput.{changes, port_closed, reads_all}
 use Rattle.world_base.specs.node_core.Effects.{without_messages, then_also, drives, proposes}
 
 -- how many connections it accepted in the ballot that it joined

@@ -3,11 +3,11 @@
 ghost use Rattle.std.specs.Prelude.{◌≡◌, ◌++◌, [], false, true, IsOk, OnOk, OnErr};
 ghost use Rattle.world_base.specs.node_connections.Connections.{fresh, has_failed, is_at, awaits_first_packet, is_listed, is_open_at, is_open_named, is_closed, is_proposed, is_silent};
 ghost use Rattle.world_base.specs.node_connections.ConnectionChanges.{noted_proposed, closed_connection, failing, with_queued, nothing_pending, with_unread, putting};
-ghost use Rattle.world_base.specs.node_connections.Pending.{handed_after, is_idle};
+ghost use Rattle.world_base.specs.node_connections.PendingOutput.{handed_after, is_idle};
 ghost use Rattle.world_base.specs.node_connections.Fronts.{TakesFront};
 ghost use Rattle.world_base.specs.node_connections.Stands.{standing_of};
 ghost use Rattle.packet.specs.Spelling.{spelling};
-ghost use Rattle.world_base.specs.node_connections.Refusing.{connect_refused};
+ghost use Rattle.world_base.specs.node_connections.Refusals.{connect_refused};
 
 use crate::node_connections::front::Front;
 use crate::node_connections::handed::Handed;
@@ -39,14 +39,14 @@ pub enum ConnectionStage {
 }
 
 impl ConnectionStage {
-    /// Says whether the first packet of the connection is awaited.
+    /// Returns true if the first packet of the connection is awaited.
     pub fn awaits_first_packet(self) -> bool
         ensures { result ≡ awaits_first_packet self }
     {
         self == ConnectionStage::Awaits
     }
 
-    /// Says whether the connection is open, and its CONNECT was proposed or is about to be.
+    /// Returns true if the connection is open, and its CONNECT was proposed or is about to be.
     pub fn is_proposed(self) -> bool
         ensures { result ≡ is_proposed self }
     {
@@ -90,28 +90,28 @@ impl Connection {
         }
     }
 
-    /// Says whether it is of this port.
+    /// Returns true if it is of this port.
     pub fn is_at(&self, port: Port) -> bool
         ensures { result ≡ is_at port self.now }
     {
         self.port.0 == port.0
     }
 
-    /// Says whether this is the open connection of a port.
+    /// Returns true if this is the open connection of a port.
     pub fn is_open_at(&self, port: Port) -> bool
         ensures { result ≡ is_open_at port self.now }
     {
         !self.is_closed() && self.port.0 == port.0
     }
 
-    /// Says whether this is the open connection of a name.
+    /// Returns true if this is the open connection of a name.
     pub fn is_open_named(&self, name: ConnectionName) -> bool
         ensures { result ≡ is_open_named name self.now }
     {
         !self.is_closed() && self.name == name
     }
 
-    /// Says whether it is closed.
+    /// Returns true if it is closed.
     pub fn is_closed(&self) -> bool
         ensures { result ≡ is_closed self.now.stage }
     {
@@ -121,29 +121,29 @@ impl Connection {
         )
     }
 
-    /// Says whether it is closed as lost, and the loss is still to be reported to the broker.
+    /// Returns true if it is closed as lost, and the loss is still to be reported to the broker.
     pub fn has_failed(&self) -> bool
         ensures { result ≡ has_failed self.now }
     {
         self.stage == ConnectionStage::Failed
     }
 
-    /// Says whether its first packet is awaited.
+    /// Returns true if its first packet is awaited.
     pub fn awaits_first_packet(&self) -> bool
         ensures { result ≡ awaits_first_packet self.now.stage }
     {
         self.stage.awaits_first_packet()
     }
 
-    /// Says whether it is open, and its CONNECT was proposed or is about to be.
+    /// Returns true if it is open, and its CONNECT was proposed or is about to be.
     pub fn is_proposed(&self) -> bool
         ensures { result ≡ is_proposed self.now.stage }
     {
         self.stage.is_proposed()
     }
 
-    /// Says whether it is open, and no whole packet came for more than one and a half times of its
-    /// keep alive (MQTT 3.1.2.10).
+    /// Returns true if it is open, and no whole packet came for more than one and a half times of
+    /// its keep alive (MQTT 3.1.2.10).
     pub fn is_silent(&self, now: u64) -> bool
         ensures { result ≡ is_silent now self.now }
     {
@@ -151,14 +151,14 @@ impl Connection {
         !self.is_closed() && self.keep_alive > 0 && now.saturating_sub(self.last_packet) > allowed
     }
 
-    /// Says whether it is listed: it is open, or has bytes to hand over.
+    /// Returns true if it is listed: it is open, or has bytes to hand over.
     pub fn is_listed(&self) -> bool
         ensures { result ≡ is_listed self.now }
     {
         !self.is_closed() || !self.pending.is_empty()
     }
 
-    /// Says whether it is open, and has nothing to hand over.
+    /// Returns true if it is open, and has nothing to hand over.
     pub fn is_idle(&self) -> bool
         ensures { result ≡ is_idle self.now }
     {
@@ -176,7 +176,7 @@ impl Connection {
         }
     }
 
-    /// Says whether its CONNECT is awaited, was proposed, or the connection is closed.
+    /// Returns true if its CONNECT is awaited, was proposed, or the connection is closed.
     pub fn standing(&self) -> Standing
         ensures { result ≡ standing_of (Some self.now) }
     {
@@ -247,7 +247,7 @@ impl Connection {
 
     /// Queues a packet, or closes the connection as lost if there is no room for it, or if its
     /// bytes cannot be written: memory ran out, or the packet has no bytes, since it has an empty
-    /// list or is over the size limit. Says whether they could be written.
+    /// list or is over the size limit. Returns true if they could be written.
     pub fn put_or_fail(&mut self, packet: &Packet) -> bool
         ensures whole { result ≡ true → self.new ≡ with_queued (spelling packet.now) self.old }
         ensures lost { result ≡ false → self.new ≡ failing self.old }

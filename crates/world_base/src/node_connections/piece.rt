@@ -55,7 +55,7 @@ impl Piece {
         self.bytes.as_slice()
     }
 
-    /// Says whether there is no byte.
+    /// Returns true if there is no byte.
     pub fn is_empty(&self) -> bool
         ensures { result ≡ (length self.now == 0) }
     {

@@ -3,7 +3,7 @@
 ghost use Rattle.std.specs.Prelude.{◌≡◌, ◌≤◌, ◌↔◌, ◌++◌, false, not, [], if◌then◌else◌, IfOk, IsOk, IsErrOf, OnErr, OnOk};
 ghost use Rattle.std.specs.Option.{is_some};
 ghost use Rattle.ballot_base.specs.LawfulConfig.{is_lawful};
-ghost use Rattle.ballot_base.specs.Cutting.{can_cut};
+ghost use Rattle.ballot_base.specs.Compaction.{can_cut};
 ghost use Rattle.ballot_base.specs.Logs.{places};
 ghost use Rattle.ballot_base.specs.Losses.{one_more};
 ghost use Rattle.ballot_base.specs.Replica.{status_of};
@@ -11,8 +11,8 @@ ghost use Rattle.broker_spec.specs.Connection.{is_connection_name};
 ghost use Rattle.world_base.specs.node_core.Core.{opening_core};
 ghost use Rattle.world_base.specs.node_core.Step.{next_name};
 ghost use Rattle.lists.specs.Lists.{IsPrefixOf};
-ghost use Rattle.world_base.specs.node_connections.Pending.{handed_after, pending_bytes};
-ghost use Rattle.world_base.specs.node_core.Handing.{hands_over, idle_ports, listed_at};
+ghost use Rattle.world_base.specs.node_connections.PendingOutput.{handed_after, pending_bytes};
+ghost use Rattle.world_base.specs.node_core.PortOutput.{hands_over, idle_ports, listed_at};
 ghost use Rattle.world_base.specs.node_connections.Stands.{standing_of};
 ghost use Rattle.world_base.specs.node_core.Effects.{has_room};
 ghost use Rattle.world_base.specs.node_core.Losses.{DoesNothing, ItemStepOrLost};
@@ -98,15 +98,15 @@ impl NodeCore {
         self.stepping.snapshot()
     }
 
-    /// Says whether a proposal would be taken, such as that of an [`Item::Expel`]: the replica is
-    /// the running primary of an active ballot, and its log has room.
+    /// Returns true if a proposal would be taken, such as that of an [`Item::Expel`]: the replica
+    /// is the running primary of an active ballot, and its log has room.
     pub fn has_room(&self) -> bool
         ensures { result ≡ has_room self.now.core }
     {
         self.stepping.has_room()
     }
 
-    /// Says whether an [`Item::Cut`] has something to cut: the replica runs, and has applied
+    /// Returns true if an [`Item::Cut`] has something to cut: the replica runs, and has applied
     /// commands since it last cut its log.
     pub fn can_cut(&self) -> bool
         ensures { result ≡ can_cut self.now.core.replica.state }
@@ -122,7 +122,7 @@ impl NodeCore {
         self.losses
     }
 
-    /// Says whether the node has a connection at a port: one that is open, or that is closed and
+    /// Returns true if the node has a connection at a port: one that is open, or that is closed and
     /// has bytes to hand over.
     pub fn has_port(&self, port: Port) -> bool
         ensures { result ≡ is_some (listed_at port self.now.core) }
@@ -137,7 +137,7 @@ impl NodeCore {
         self.stepping.standing(port)
     }
 
-    /// Says whether the numbers of the ballot are used up, so that no further connection is
+    /// Returns true if the numbers of the ballot are used up, so that no further connection is
     /// accepted in it.
     pub fn has_no_name_left(&self) -> bool
         ensures { result ≡ not (is_connection_name (next_name self.now.core)) }
@@ -145,7 +145,7 @@ impl NodeCore {
         self.stepping.has_no_name_left()
     }
 
-    /// Says whether a message of another node has an effect on the node; one without effect is
+    /// Returns true if a message of another node has an effect on the node; one without effect is
     /// ignored.
     pub fn heeds(&self, message: &Message<Command>) -> bool
         ensures { (result ≡ false) ↔ DoesNothing (Item.Peer message.now) self.now.core }

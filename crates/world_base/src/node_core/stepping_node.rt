@@ -5,18 +5,18 @@ ghost use Rattle.std.specs.List.{position};
 ghost use Rattle.std.specs.Option.{is_some};
 ghost use Rattle.broker_spec.specs.Connection.{is_connection_name, max_count};
 ghost use Rattle.ballot_base.specs.LawfulConfig.{is_lawful};
-ghost use Rattle.ballot_base.specs.Cutting.{can_cut};
+ghost use Rattle.ballot_base.specs.Compaction.{can_cut};
 ghost use Rattle.ballot_base.specs.Logs.{places};
 ghost use Rattle.ballot_base.specs.Replica.{status_of};
 ghost use Rattle.world_base.specs.node_connections.Connections.{has_failed, is_open_at, is_open_named};
 ghost use Rattle.world_base.specs.node_connections.ConnectionChanges.{noted_proposed, closed_connection, failing, with_unread, with_queued};
 ghost use Rattle.world_base.specs.node_core.Core.{opening_core, serves};
-ghost use Rattle.world_base.specs.node_core.Handing.{listed_at};
+ghost use Rattle.world_base.specs.node_core.PortOutput.{listed_at};
 ghost use Rattle.world_base.specs.node_core.Inside.{DoesExactly};
 ghost use Rattle.world_base.specs.node_connections.Silent.{lowest_silent};
 ghost use Rattle.packet.specs.Spelling.{spelling};
-ghost use Rattle.world_base.specs.node_core.Reading.{changes, open_at, unread_of};
-ghost use Rattle.world_base.specs.node_connections.Refusing.{connect_refused};
+ghost use Rattle.world_base.specs.node_core.PacketInput.{changes, open_at, unread_of};
+ghost use Rattle.world_base.specs.node_connections.Refusals.{connect_refused};
 ghost use Rattle.world_base.specs.node_core.Step.{accepted, accepts_connection, next_name, with_next_connection, settled};
 ghost use Rattle.world_base.specs.node_core.Effects.{changes_named, has_room};
 
@@ -110,7 +110,7 @@ impl SteppingNode {
         self.has_lost = false;
     }
 
-    /// Says whether something was lost in this step.
+    /// Returns true if something was lost in this step.
     pub(crate) fn has_lost(&self) -> bool
         ensures { result ≡ self.now.has_lost }
     {
@@ -143,28 +143,28 @@ impl SteppingNode {
         self.replica.snapshot()
     }
 
-    /// Says whether the replica has something to cut.
+    /// Returns true if the replica has something to cut.
     pub(crate) fn can_cut(&self) -> bool
         ensures { result ≡ can_cut self.now.core.replica.state }
     {
         self.replica.can_cut()
     }
 
-    /// Says whether a connection of this port is listed.
+    /// Returns true if a connection of this port is listed.
     pub(crate) fn has_port(&self, port: Port) -> bool
         ensures { result ≡ is_some (listed_at port self.now.core) }
     {
         has_port(&self.connections, port)
     }
 
-    /// Says whether the node serves clients.
+    /// Returns true if the node serves clients.
     pub(crate) fn serves(&self) -> bool
         ensures { result ≡ serves self.now.core }
     {
         self.replica.status().serves()
     }
 
-    /// Says whether a proposal would be taken: by an active primary whose log has room.
+    /// Returns true if a proposal would be taken: by an active primary whose log has room.
     pub(crate) fn has_room(&self) -> bool
         ensures { result ≡ has_room self.now.core }
     {
@@ -323,7 +323,7 @@ impl SteppingNode {
         ConnectionName::new(self.replica.status().ballot, self.accepted() + 1)
     }
 
-    /// Says whether the numbers of this ballot are used up, so that no connection gets a name.
+    /// Returns true if the numbers of this ballot are used up, so that no connection gets a name.
     pub(crate) fn has_no_name_left(&self) -> bool
         ensures { result ≡ not (is_connection_name (next_name self.now.core)) }
     {

@@ -11,8 +11,8 @@ use Rattle.ballot_base.specs.declared.message.Message.{Message}
 use Rattle.ballot_base.specs.Protocol.{received, replica_step}
 use Rattle.ballot_base.specs.Protocol.Input.{Proposes}
 use Rattle.ballot_base.specs.Replica.{CountedReplica, ReplicaState, is_active}
-use Rattle.ballot_base.specs.Sending.{Outcome}
-use Rattle.ballot_base.specs.Serving.{max_places}
+use Rattle.ballot_base.specs.StepOutcome.{Outcome}
+use Rattle.ballot_base.specs.Service.{max_places}
 use Rattle.packet.specs.declared.connect.Connect.{Connect}
 use Rattle.packet.specs.Spelling.{spelling}
 use Rattle.broker_spec.specs.declared.command.Command.{Command}
@@ -23,10 +23,10 @@ use Rattle.broker_spec.specs.declared.command.Output.TheVariants.{Send}
 use Rattle.ballot_base.specs.declared.message.Effect.TheVariants.{Out}
 use Rattle.broker_base.specs.State.{State}
 use Rattle.ballot_base.specs.declared.config.Config.{Config}
-use Rattle.recovery.specs.one_node.Answering.{PutsOutFirst}
-use Rattle.recovery.specs.one_node.Asking.{proposal_at, with_asked_connect}
+use Rattle.recovery.specs.one_node.FirstAnswer.{PutsOutFirst}
+use Rattle.recovery.specs.one_node.ConnectRequest.{proposal_at, with_asked_connect}
 use Rattle.recovery.specs.one_node.Delivery.{ReportsItsLosses, heard_by}
-use Rattle.recovery.specs.one_node.Waiting.{AwaitsAnswer}
+use Rattle.recovery.specs.one_node.AwaitedAnswer.{AwaitsAnswer}
 use Rattle.recovery.specs.one_node.Welcome.{IsWelcomedBack}
 use Rattle.headline.specs.node_group.Group.{replica_of}
 use Rattle.headline.specs.node_moves.Moves.NodeCall.{takes, hands_out}
@@ -38,7 +38,7 @@ use Rattle.world_base.specs.declared.node_core.Port.{Port}
 use Rattle.world_base.specs.node_connections.Connections.{is_open_named}
 use Rattle.world_base.specs.node_connections.ConnectionChanges.{max_pending}
 use Rattle.world_base.specs.node_core.Core.{CoreState, CountedCore, StepOutcome, rules, serves}
-use Rattle.world_base.specs.node_core.Handing.{hands_over}
+use Rattle.world_base.specs.node_core.PortOutput.{hands_over}
 use Rattle.world_base.specs.node_core.Step.{node_step}
 use Rattle.world_base.specs.node_core.Effects.{has_room}
 use Rattle.headline.proofs.of_node_moves.LossesReported.{each_loss_is_reported}
@@ -53,13 +53,13 @@ use Rattle.world_nodes.specs.ExactSteps.{after_node_call}
 use Rattle.world_nodes.specs.Nodes.{NodesState, cores_of}
 use Rattle.recovery.specs.replicas.CutDeliveries.{Delivered, after_outcome}
 use Rattle.recovery.specs.replicas.Deliveries.{NumbersAreApart, NodeIs, numbers_from}
-use Rattle.recovery.specs.replicas.Following.{Follows}
+use Rattle.recovery.specs.replicas.LedStates.{Follows}
 use Rattle.lists.specs.Lists.{In}
-use Rattle.recovery.specs.replicas.Answering.{AnswersCommand, IsHeldByAll}
+use Rattle.recovery.specs.replicas.NextAnswer.{AnswersCommand, IsHeldByAll}
 use Rattle.recovery.proofs.of_replicas.CutGroupsAnswer.{cut_groups_answer}
 use Rattle.world_nodes.specs.recoveries.Answered.{CanAsk, OthersLetTheClientBeAnswered, PutsOutAtLast, SoleMemberAnswersTheClient, begun_log, last_answer, session_present}
-use Rattle.world_nodes.specs.recoveries.Coming.{AreCalm, Come, IsSeen}
-use Rattle.world_nodes.specs.recoveries.Coming.Come.{all_came as none_comes, to_node as comes_to_node, to_master as comes_to_master, hands}
+use Rattle.world_nodes.specs.recoveries.Deliveries.{AreCalm, Come, IsSeen}
+use Rattle.world_nodes.specs.recoveries.Deliveries.Come.{all_came as none_comes, to_node as comes_to_node, to_master as comes_to_master, hands}
 use Rattle.world_nodes.proofs.of_recoveries.LeadsOn.{LeadsAt, leads_on, leads_proposing}
 use Rattle.world_nodes.proofs.of_recoveries.NodesFollow.{IsCalmOrLow, deliveries_are_followed, hands_calm, hands_keep, hands_seen, master_comes, node_comes, nodes_set, replica_at, set_calm, some_one}
 

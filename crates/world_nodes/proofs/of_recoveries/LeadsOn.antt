@@ -5,16 +5,16 @@ use Rattle.std.specs.List.{list_any}
 use Rattle.std.proofs.lemmas.Bool.{and_parts, both_ways, cases_lt, ltb-true, or_cases}
 use Rattle.ballot_base.specs.declared.message.Body.{Body}
 use Rattle.ballot_base.specs.declared.message.Body.TheVariants.{NewBallot, Join, State, Install, Installed, Activate, Activated, Superseded, Append, Held, Commit}
-use Rattle.ballot_base.specs.Changing.{answers_installed, lacks, waits_for, on_install, on_join, on_new_ballot, on_state}
-use Rattle.ballot_base.specs.Activating.{on_activated, on_installed, on_superseded}
+use Rattle.ballot_base.specs.Transfer.{answers_installed, lacks, waits_for, on_install, on_join, on_new_ballot, on_state}
+use Rattle.ballot_base.specs.Activation.{on_activated, on_installed, on_superseded}
 use Rattle.ballot_base.specs.Logs.{Log, places, pushed}
 use Rattle.machine.specs.Machine.{Rules}
 use Rattle.ballot_base.specs.Protocol.{received}
 use Rattle.ballot_base.specs.Replica.{ReplicaState, is_active, is_backup, is_fetching, is_installing}
 use Rattle.ballot_base.specs.declared.status.Role.TheVariants.{Active, Backup}
-use Rattle.ballot_base.specs.Sending.{Outcome, message_to, nothing_done}
-use Rattle.ballot_base.specs.Taking.{taken}
-use Rattle.ballot_base.specs.Serving.{added, commit, commit_at, follows, leads, least, max_places, on_append, on_commit, on_held, proposed, raised}
+use Rattle.ballot_base.specs.StepOutcome.{Outcome, message_to, nothing_done}
+use Rattle.ballot_base.specs.TakenLog.{taken}
+use Rattle.ballot_base.specs.Service.{added, commit, commit_at, follows, leads, least, max_places, on_append, on_commit, on_held, proposed, raised}
 use Rattle.ballot_base.proofs.StepRows.{commit_at-goes, commit_at-stays}
 
 -- it is the active primary of this ballot, in which its log was installed, and it runs

@@ -16,13 +16,13 @@ use Rattle.agreement.proofs.of_cut_logs.MomentsKept.{StandsFor, moments_stand}
 use Rattle.agreement.proofs.of_cut_logs.Views.{get_whole}
 use Rattle.world_nodes.specs.ExactSteps.{after_giving}
 use Rattle.world_nodes.specs.Nodes.{NodesState}
-use Rattle.recovery.specs.replicas.Deliveries.{way_out}
-use Rattle.recovery.specs.replicas.Laws.{CanBeLed, StartsGiveNothing}
+use Rattle.recovery.specs.replicas.Deliveries.{recovery_messages}
+use Rattle.recovery.specs.replicas.Theorems.{CanBeLed, StartsGiveNothing}
 use Rattle.recovery.proofs.of_replicas.Premises.{joined_below}
 use Rattle.recovery.specs.replicas.CutDeliveries.{assigned_moment}
-use Rattle.recovery.specs.replicas.CutLaws.{LeadsOut}
-use Rattle.recovery.proofs.of_replicas.CutGroupsLed.{cut_groups_have_ways_out}
-use Rattle.world_nodes.specs.recoveries.Coming.{AreCalm, Come, IsSeen}
+use Rattle.recovery.specs.replicas.CutTheorems.{LeadsOut}
+use Rattle.recovery.proofs.of_replicas.CutGroupsLed.{cut_groups_have_recoveries}
+use Rattle.world_nodes.specs.recoveries.Deliveries.{AreCalm, Come, IsSeen}
 use Rattle.world_nodes.specs.recoveries.Led.{AreLedOut, NodesAreLedOut}
 use Rattle.world_nodes.proofs.of_recoveries.NodesFollow.{deliveries_are_followed, replica_at}
 
@@ -51,20 +51,20 @@ low_before config a moments came n s at node there =
     stands = moments_stand rules config a moments came
 
 -- and there is a way out
-pub way_of : (config : Config) (a : Moment State Command Output) (moments : List (Moment State Command Output)) → Moments rules config (a ∷ moments) → (new : Config) (index source : ℕ)
+pub recovery_of : (config : Config) (a : Moment State Command Output) (moments : List (Moment State Command Output)) → Moments rules config (a ∷ moments) → (new : Config) (index source : ℕ)
     (log : List Command) → CanBeLed (whole_moment a) new index source log → LeadsOut rules config (a ∷ moments) a new index log
-way_of config a moments came new index source log can = cut_groups_have_ways_out rules starts_give_nothing config a moments came new index source log can
+recovery_of config a moments came new index source log can = cut_groups_have_recoveries rules starts_give_nothing config a moments came new index source log can
 
 pub nodes_are_led_out : NodesAreLedOut
-nodes_are_led_out config a moments came new index source log can n end s comes = by (way_of config a moments came new index source log can)
+nodes_are_led_out config a moments came new index source log can n end s comes = by (recovery_of config a moments came new index source log can)
   where
     fresh : AreCalm (a.master.given + 1) (after_giving new n)
     fresh at node there = inr (low_before config a moments came n s at node there)
 
-    same : way_out (length n.sent) (length n.master.members) index (length new.members - 1)
-        ≡ way_out (length a.world.sent) (length a.master.members) index (length new.members - 1)
-    same = ap (λ (l : List (ℕ × Message Command)). way_out (length l) (length n.master.members) index (length new.members - 1)) (sym s.sent)
-        ∙ ap (λ (m : MasterState). way_out (length a.world.sent) (length m.members) index (length new.members - 1)) (sym s.master)
+    same : recovery_messages (length n.sent) (length n.master.members) index (length new.members - 1)
+        ≡ recovery_messages (length a.world.sent) (length a.master.members) index (length new.members - 1)
+    same = ap (λ (l : List (ℕ × Message Command)). recovery_messages (length l) (length n.master.members) index (length new.members - 1)) (sym s.sent)
+        ∙ ap (λ (m : MasterState). recovery_messages (length a.world.sent) (length m.members) index (length new.members - 1)) (sym s.master)
 
     by : LeadsOut rules config (a ∷ moments) a new index log → AreLedOut config (a ∷ moments) a new index log n end
     by way =

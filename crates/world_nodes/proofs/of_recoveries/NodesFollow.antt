@@ -11,7 +11,7 @@ use Rattle.ballot_base.specs.declared.message.Message.{Message}
 use Rattle.ballot_base.specs.Protocol.{received}
 use Rattle.ballot_base.specs.Protocol.Input.{Receives}
 use Rattle.ballot_base.specs.Replica.{CountedReplica, ReplicaState, is_active}
-use Rattle.ballot_base.specs.Sending.{Outcome}
+use Rattle.ballot_base.specs.StepOutcome.{Outcome}
 use Rattle.broker_spec.specs.declared.command.Command.{Command}
 use Rattle.broker_spec.specs.declared.command.Output.{Output}
 use Rattle.broker_base.specs.State.{State}
@@ -28,7 +28,7 @@ use Rattle.world_base.specs.declared.node_core.Port.{Port}
 use Rattle.world_base.specs.node_connections.Connections.{has_failed, is_at, is_listed}
 use Rattle.world_base.specs.node_connections.ConnectionChanges.{changed_where, nothing_pending}
 use Rattle.world_base.specs.node_core.Core.{CoreState, CountedCore, rules}
-use Rattle.world_base.specs.node_core.Handing.{hands_over, left_by, listed_at}
+use Rattle.world_base.specs.node_core.PortOutput.{hands_over, left_by, listed_at}
 use Rattle.world_base.specs.node_core.Step.{node_step}
 use Rattle.headline.proofs.of_node_group.Placed.{get_mapped, set_mapped, set_same}
 use Rattle.headline.proofs.of_node_moves.ReplicaLeads.{StaysOr, step_stays}
@@ -37,8 +37,8 @@ use Rattle.world_nodes.specs.ExactSteps.{after_answer, after_node_call}
 use Rattle.world_nodes.specs.Nodes.{NodesState, cores_of}
 use Rattle.recovery.specs.replicas.CutDeliveries.{Delivered, after_activate, after_outcome}
 use Rattle.recovery.specs.replicas.CutDeliveries.Delivered.{all_came, to_master, to_node}
-use Rattle.world_nodes.specs.recoveries.Coming.Come.{all_came as none_comes, to_node as comes_to_node, to_master as comes_to_master, hands}
-use Rattle.world_nodes.specs.recoveries.Coming.{AreCalm, AreFollowed, Come, DeliveriesAreFollowed, IsSeen, KeepNames}
+use Rattle.world_nodes.specs.recoveries.Deliveries.Come.{all_came as none_comes, to_node as comes_to_node, to_master as comes_to_master, hands}
+use Rattle.world_nodes.specs.recoveries.Deliveries.{AreCalm, AreFollowed, Come, DeliveriesAreFollowed, IsSeen, KeepNames}
 use Rattle.recovery.specs.one_node.Delivery.{ReportsItsLosses, IsDelivery, heard_by}
 use Rattle.recovery.proofs.of_one_node.OneDelivery.{a_step_is_a_delivery}
 

@@ -12,7 +12,7 @@ use Rattle.broker_spec.specs.declared.command.Output.{Output}
 use Rattle.broker_base.specs.State.{State}
 use Rattle.recovery.specs.one_node.Delivery.{ReportsItsLosses}
 use Rattle.recovery.specs.one_node.Opening.{first_name_of_node, with_first_connection}
-use Rattle.recovery.specs.one_node.Waiting.{AwaitsConnect}
+use Rattle.recovery.specs.one_node.AwaitedAnswer.{AwaitsConnect}
 use Rattle.headline.specs.node_group.Group.{replica_of}
 use Rattle.headline.specs.node_moves.Moves.NodeCall.{takes, hands_out}
 use Rattle.agreement.specs.cut_logs.Moments.{Moment}
@@ -22,7 +22,7 @@ use Rattle.world_base.specs.declared.node_core.item.Item.TheVariants.{Opened}
 use Rattle.world_base.specs.declared.node_core.Port.{Port}
 use Rattle.world_base.specs.node_connections.Connections.{is_open_named}
 use Rattle.world_base.specs.node_core.Core.{CoreState, CountedCore, StepOutcome, serves}
-use Rattle.world_base.specs.node_core.Handing.{hands_over}
+use Rattle.world_base.specs.node_core.PortOutput.{hands_over}
 use Rattle.world_base.specs.node_core.Step.{node_step}
 use Rattle.world_base.specs.node_core.Effects.{without_messages}
 use Rattle.headline.proofs.of_node_moves.LossesReported.{each_loss_is_reported}
@@ -30,9 +30,9 @@ use Rattle.recovery.proofs.of_one_node.AnswerAwaited.{first_awaits_connect, hand
 use Rattle.recovery.proofs.of_one_node.FirstOpened.{first_is_opened}
 use Rattle.world_nodes.specs.ExactSteps.{after_node_call}
 use Rattle.world_nodes.specs.Nodes.{NodesState, cores_of}
-use Rattle.recovery.specs.replicas.Following.{LeadsWhole}
-use Rattle.world_nodes.specs.recoveries.Coming.{AreCalm, Come, IsSeen}
-use Rattle.world_nodes.specs.recoveries.Coming.Come.{all_came as none_comes, hands}
+use Rattle.recovery.specs.replicas.LedStates.{LeadsWhole}
+use Rattle.world_nodes.specs.recoveries.Deliveries.{AreCalm, Come, IsSeen}
+use Rattle.world_nodes.specs.recoveries.Deliveries.Come.{all_came as none_comes, hands}
 use Rattle.world_nodes.specs.recoveries.Opened.{CanOpen, ConnectionsOpenFirst, IsOpened, first_of}
 use Rattle.world_nodes.proofs.of_recoveries.NodesFollow.{IsCalmOrLow, hands_calm, hands_keep, hands_seen, nodes_set, set_calm, set_same_replica, some_one}
 

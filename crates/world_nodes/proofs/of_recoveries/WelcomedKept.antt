@@ -15,7 +15,7 @@ use Rattle.broker_spec.specs.Sends.{resent_outputs}
 use Rattle.broker_spec.specs.Times.{entries_of}
 use Rattle.broker_spec.proofs.ClientsInOrder.{same_self}
 use Rattle.recovery.proofs.of_one_node.ComesBack.{at_connect, gives_after, nobody_owns, none_current}
-use Rattle.world_nodes.specs.Asking.{is_welcome, welcomes_back}
+use Rattle.world_nodes.specs.RecoveryChecks.{is_welcome, welcomes_back}
 use Rattle.world_nodes.specs.recoveries.Opened.{WelcomedAreKept}
 
 -- a session is there and not clean

@@ -4,7 +4,7 @@ use Rattle.lists.specs.Lists.{In}
 use Rattle.ballot_base.specs.declared.message.Body.TheVariants.{Held}
 use Rattle.ballot_base.specs.declared.config.Config.{Config}
 use Rattle.ballot_base.specs.declared.message.Message.{Message}
-use Rattle.ballot_base.specs.Serving.{max_places}
+use Rattle.ballot_base.specs.Service.{max_places}
 use Rattle.packet.specs.declared.connack.Connack.TheVariants as connacks
 use Rattle.packet.specs.declared.connect.Connect.{Connect}
 use Rattle.packet.specs.declared.packet.Packet.{Packet}
@@ -18,8 +18,8 @@ use Rattle.broker_spec.specs.Connection.{ConnectionName}
 use Rattle.broker_spec.specs.declared.command.Output.{Output}
 use Rattle.broker_spec.specs.Sessions.{clean_session_of}
 use Rattle.broker_base.specs.State.{State}
-use Rattle.recovery.specs.one_node.Answering.{PutsOutFirst}
-use Rattle.recovery.specs.one_node.Waiting.{AwaitsConnect}
+use Rattle.recovery.specs.one_node.FirstAnswer.{PutsOutFirst}
+use Rattle.recovery.specs.one_node.AwaitedAnswer.{AwaitsConnect}
 use Rattle.headline.specs.node_group.Group.{replica_of}
 use Rattle.headline.specs.node_moves.Moves.NodeCall.{takes}
 use Rattle.agreement.specs.cut_logs.Moments.{Moment, Moments, whole_moment}
@@ -31,8 +31,8 @@ use Rattle.world_base.specs.node_core.Step.{node_step}
 use Rattle.world_nodes.specs.ExactSteps.{after_node_call}
 use Rattle.world_nodes.specs.Nodes.{NodesState}
 use Rattle.recovery.specs.replicas.Deliveries.{NumbersAreApart, NodeIs, numbers_from}
-use Rattle.recovery.specs.replicas.Following.{Follows, LeadsWhole}
-use Rattle.world_nodes.specs.recoveries.Coming.{AreCalm, Come, IsSeen}
+use Rattle.recovery.specs.replicas.LedStates.{Follows, LeadsWhole}
+use Rattle.world_nodes.specs.recoveries.Deliveries.{AreCalm, Come, IsSeen}
 
 -- CONNACK 0 with session present (MQTT 3.2.2.2)
 abbrev pub session_present : Packet

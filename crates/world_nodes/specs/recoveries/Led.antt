@@ -8,10 +8,10 @@ use Rattle.agreement.specs.cut_logs.Moments.{Moment, Moments, whole_moment}
 use Rattle.world_base.specs.node_core.Core.{rules}
 use Rattle.world_nodes.specs.ExactSteps.{after_giving}
 use Rattle.world_nodes.specs.Nodes.{NodesState}
-use Rattle.recovery.specs.replicas.Deliveries.{way_out}
-use Rattle.recovery.specs.replicas.Laws.{CanBeLed}
-use Rattle.recovery.specs.replicas.CutLaws.{LeadsOut}
-use Rattle.world_nodes.specs.recoveries.Coming.{AreCalm, Come, IsSeen, KeepNames}
+use Rattle.recovery.specs.replicas.Deliveries.{recovery_messages}
+use Rattle.recovery.specs.replicas.Theorems.{CanBeLed}
+use Rattle.recovery.specs.replicas.CutTheorems.{LeadsOut}
+use Rattle.world_nodes.specs.recoveries.Deliveries.{AreCalm, Come, IsSeen, KeepNames}
 
 -- the moment to which the way out leads is seen then, each node is calm or has not joined the new
 -- ballot, and none has given a name
@@ -33,5 +33,6 @@ NodesAreLedOut =
     CanBeLed (whole_moment moment) new index source log → (state end : NodesState) →
     IsSeen moment state →
     Come (after_giving new state)
-    (way_out (length state.sent) (length state.master.members) index (length new.members - 1)) end →
+    (recovery_messages (length state.sent) (length state.master.members) index
+    (length new.members - 1)) end →
     AreLedOut config (moment ∷ moments) moment new index log state end

@@ -9,7 +9,7 @@ use Rattle.broker_spec.specs.declared.command.Output.{Output}
 use Rattle.broker_spec.specs.Sessions.{clean_session_of}
 use Rattle.broker_spec.specs.Place.{Client}
 use Rattle.broker_base.specs.State.{State}
-use Rattle.recovery.specs.one_node.Waiting.{AwaitsConnect}
+use Rattle.recovery.specs.one_node.AwaitedAnswer.{AwaitsConnect}
 use Rattle.headline.specs.node_group.Group.{replica_of}
 use Rattle.headline.specs.node_moves.Moves.NodeCall.{takes}
 use Rattle.agreement.specs.cut_logs.Moments.{Moment}
@@ -18,11 +18,11 @@ use Rattle.world_base.specs.declared.node_core.item.Item.TheVariants.{Opened}
 use Rattle.world_base.specs.declared.node_core.Port.{Port}
 use Rattle.world_base.specs.node_connections.Connections.{is_at, is_open_named}
 use Rattle.world_base.specs.node_core.Core.{CountedCore}
-use Rattle.world_nodes.specs.Asking.{welcomes_back}
+use Rattle.world_nodes.specs.RecoveryChecks.{welcomes_back}
 use Rattle.world_nodes.specs.ExactSteps.{after_node_call}
 use Rattle.world_nodes.specs.Nodes.{NodesState}
-use Rattle.recovery.specs.replicas.Following.{LeadsWhole}
-use Rattle.world_nodes.specs.recoveries.Coming.{AreCalm, Come, IsSeen}
+use Rattle.recovery.specs.replicas.LedStates.{LeadsWhole}
+use Rattle.world_nodes.specs.recoveries.Deliveries.{AreCalm, Come, IsSeen}
 
 -- the first name that is given in a ballot
 abbrev pub first_of : ℕ → ConnectionName

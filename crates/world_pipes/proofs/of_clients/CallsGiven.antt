@@ -1,7 +1,7 @@
 -- CallsGiven.antt: what calls of a client do to it.
 use Rattle.std.proofs.Common.{◌≡◌, ℕ, List, refl, sym, ap, ◌∙◌, subst, Bool, Result, Ok, Err}
 use Rattle.session_base.specs.declared.publication.Publication.{Publication}
-use Rattle.world_pipes.specs.Following.{FollowsAll, FollowsLosing, after_losing}
+use Rattle.world_pipes.specs.ModelSteps.{FollowsAll, FollowsLosing, after_losing}
 use Rattle.world_pipes.specs.Steps.{ClientTrace}
 use Rattle.world_pipes.specs.Piped.{Piped, Calls}
 use Rattle.client_base.specs.declared.error.ClientError.{ClientError}
@@ -11,7 +11,7 @@ use Rattle.world_pipes.specs.StandsFor.{ClientStandsFor}
 use Rattle.client.specs.Core.{publication_with}
 use Rattle.client_base.specs.Steps.{Call, keeper_step}
 use Rattle.packet_base.specs.declared.qos.QoS.{QoS}
-use Rattle.world_pipes.specs.clients.Calling.{IsCall}
+use Rattle.world_pipes.specs.clients.ClientCalls.{IsCall}
 
 -- a client that loses its connection
 pub losing_goes : (old new : Piped) → FollowsLosing old new → FollowsAll old new

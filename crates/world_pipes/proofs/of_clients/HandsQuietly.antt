@@ -3,16 +3,16 @@ use Rattle.std.proofs.Common.{◌≡◌, ◌-◌, ℕ, zero, suc, List, [], ◌�
 use Rattle.std.proofs.lemmas.Option.{none-some, same_Some}
 use Rattle.master.specs.declared.event.Idle.{Idle}
 use Rattle.world_base.specs.node_core.Core.{CountedCore}
-use Rattle.world_base.specs.node_core.Handing.{hands_over}
+use Rattle.world_base.specs.node_core.PortOutput.{hands_over}
 use Rattle.world_base.specs.node_core.Losses.{WaitsNothing}
 use Rattle.world_base.specs.declared.node_core.Handed.{Handed}
 use Rattle.world_base.specs.declared.node_core.Port.{Port}
 use Rattle.world_base.proofs.of_node_core.Calmly.{hands_over_waits, nothing_handed}
 use Rattle.world_nodes.specs.ExactSteps.{HandsOutExactly}
-use Rattle.world_nodes.specs.Running.{numbered_node}
+use Rattle.world_nodes.specs.RunningNodes.{numbered_node}
 use Rattle.world_nodes.specs.Nodes.{NodesState}
 use Rattle.world_nodes.specs.Quiet.{WaitsAtNone}
-use Rattle.world_pipes.specs.clients.Handing.{StaysQuiet}
+use Rattle.world_pipes.specs.clients.NodeOutput.{StaysQuiet}
 
 set_there : {X : Type 0} (xs : List X) (i : ℕ) (x y z : X) → slice_get xs i ≡ Some x → slice_get (slice_set xs i y) i ≡ Some z → z ≡ y
 set_there [] i x y z there found = absurd (none-some x there)

@@ -11,17 +11,17 @@ use Rattle.world_base.specs.declared.node_core.item.Item.{Item}
 use Rattle.world_base.specs.declared.node_core.item.Item.TheVariants.{Opened}
 use Rattle.world_base.specs.declared.node_core.Port.{Port}
 use Rattle.world_base.specs.node_core.Core.{CountedCore}
-use Rattle.world_base.specs.node_core.Handing.{listed_at}
+use Rattle.world_base.specs.node_core.PortOutput.{listed_at}
 use Rattle.headline.specs.node_moves.Moves.NodeCall.{takes}
 use Rattle.headline.proofs.of_node_group.Placed.{get_of_set}
 use Rattle.world_nodes.specs.ExactSteps.{NodeDoesCall, after_node_call}
-use Rattle.world_nodes.specs.Running.{numbered_node, running, unless_stopped}
+use Rattle.world_nodes.specs.RunningNodes.{numbered_node, running, unless_stopped}
 use Rattle.world_nodes.specs.Nodes.{NodesState}
 use Rattle.world_nodes.specs.Steps.{ActsWithLosses, NodeItemOrLost}
 use Rattle.client_base.specs.Steps.{Call, keeper_step}
-use Rattle.world_pipes.specs.Following.{ConnectingFollows}
+use Rattle.world_pipes.specs.ModelSteps.{ConnectingFollows}
 use Rattle.world_pipes.specs.Piped.{SendsConnect as Opens, Piped, taken_back}
-use Rattle.world_pipes.proofs.TakenBack.{taken_back_ways, taking_back_follows}
+use Rattle.world_pipes.proofs.TakenBack.{taken_back_pairs, taking_back_follows}
 use Rattle.world_pipes.specs.clients.SlotsAreValid.{connection_targets}
 use Rattle.world_pipes.specs.clients.Opening.{HearsOfOne, Reaches}
 
@@ -42,7 +42,7 @@ set_there nodes (suc n) core later e =
     (get_of_set nodes n core later (unstopped (slice_get nodes n) core e))
 
 pub still_there : (node : ℕ) (item : Item) (old new : NodesState) → NodeItemOrLost node item old new → numbered_node new.nodes node ≡ None → ⊥
-still_there node item old new t none = by t.way
+still_there node item old new t none = by t.pair
   where
     at_once : (later : CountedCore) → new.nodes ≡ slice_set old.nodes (node - 1) later → ⊥
     at_once later is = none-some later (sym none ∙ ap (λ (l : List CountedCore). numbered_node l node) is ∙ set_there old.nodes node t.core later t.runs)
@@ -91,7 +91,7 @@ reaches false node port old new client mid later opens follows hears is =
 
 -- without one its connections lead to the same nodes
 pub back_leads : (taken : Bool) (node : ℕ) (port : Port) (client mid later : Piped) → Opens (node - 1) port (keeper_step Call.Opens client.core.state) client (Ok tt) mid
-    → later ≡ (if taken then mid else taken_back mid) → taken ≡ false → connection_targets later.ways ≡ connection_targets client.ways
+    → later ≡ (if taken then mid else taken_back mid) → taken ≡ false → connection_targets later.pairs ≡ connection_targets client.pairs
 back_leads true node port client mid later opens is none = absurd (both_ways true none refl)
 back_leads false node port client mid later opens is none =
-    ap (λ (p : Piped). connection_targets p.ways) is ∙ ap connection_targets (taken_back_ways (node - 1) port client mid opens)
+    ap (λ (p : Piped). connection_targets p.pairs) is ∙ ap connection_targets (taken_back_pairs (node - 1) port client mid opens)

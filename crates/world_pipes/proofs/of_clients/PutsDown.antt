@@ -8,14 +8,14 @@ use Rattle.world_base.specs.declared.node_core.Handed.{Handed}
 use Rattle.world_base.specs.declared.node_core.Port.{Port}
 use Rattle.world_base.specs.node_core.Core.{CountedCore}
 use Rattle.headline.specs.node_moves.Moves.NodeCall.{hands_out}
-use Rattle.world_nodes.specs.Running.{numbered_node}
+use Rattle.world_nodes.specs.RunningNodes.{numbered_node}
 use Rattle.world_nodes.specs.Nodes.{NodesState}
 use Rattle.world_nodes.specs.HandingOver.{HandoverOrLost}
 use Rattle.world_nodes.proofs.Exactly.{gives_acts}
-use Rattle.world_pipes.specs.declared.way.Way.{Way}
+use Rattle.world_pipes.specs.declared.pair.PipePair.{PipePair}
 use Rattle.world_pipes.specs.Piped.{Piped}
 use Rattle.world_pipes.specs.clients.SlotsAreValid.{connection_targets}
-use Rattle.world_pipes.specs.clients.Handing.{with_down, HandsOverBytes, is_more, is_reported_open, bytes_put_out, BytesDownOrLost, MayHandDown, MayPutDown, PipeBytesDownOrLost, tells_open}
+use Rattle.world_pipes.specs.clients.NodeOutput.{with_down, HandsOverBytes, is_more, is_reported_open, bytes_put_out, BytesDownOrLost, MayHandDown, MayPutDown, PipeBytesDownOrLost, tells_open}
 use Rattle.world_pipes.specs.clients.NodesGoOn.{NodesGoOn}
 use Rattle.world_pipes.proofs.of_clients.NodesGoOn.{acts_go, nodes_forget, nodes_stay, staying_goes}
 use Rattle.world_pipes.proofs.of_clients.LeadsKept.{leads_set}
@@ -61,39 +61,39 @@ handing_goes node port old new before after rises (inr hands) = record { rises =
 of_some : {X : Type 0} (P : X → Type 0) (o : Option X) (x : X) → o ≡ Some x → IfSome o P → P x
 of_some P o x e i = subst (λ (z : Option _). IfSome z P) e i
 
-exchanged : (old mid later : Piped) (at : ℕ) (none handed : List ℕ) → IfSome (slice_get old.ways at) (λ way. mid ≡ with_down at way none old)
-    → IfSome (slice_get mid.ways at) (λ way. later ≡ with_down at way handed mid) → (way : Way) → slice_get old.ways at ≡ Some way → later ≡ with_down at way handed old
-exchanged old mid later at none handed first second way found =
-    let bare : Way = record way { down = none } in
-    let one : mid ≡ with_down at way none old = of_some (λ (w : Way). mid ≡ with_down at w none old) (slice_get old.ways at) way found first in
-    let there : slice_get mid.ways at ≡ Some bare = ap (λ (p : Piped). slice_get p.ways at) one ∙ get_set old.ways at way bare found in
-    let two : later ≡ with_down at bare handed mid = of_some (λ (w : Way). later ≡ with_down at w handed mid) (slice_get mid.ways at) bare there second in
+exchanged : (old mid later : Piped) (at : ℕ) (none handed : List ℕ) → IfSome (slice_get old.pairs at) (λ pair. mid ≡ with_down at pair none old)
+    → IfSome (slice_get mid.pairs at) (λ pair. later ≡ with_down at pair handed mid) → (pair : PipePair) → slice_get old.pairs at ≡ Some pair → later ≡ with_down at pair handed old
+exchanged old mid later at none handed first second pair found =
+    let bare : PipePair = record pair { down = none } in
+    let one : mid ≡ with_down at pair none old = of_some (λ (w : PipePair). mid ≡ with_down at w none old) (slice_get old.pairs at) pair found first in
+    let there : slice_get mid.pairs at ≡ Some bare = ap (λ (p : Piped). slice_get p.pairs at) one ∙ get_set old.pairs at pair bare found in
+    let two : later ≡ with_down at bare handed mid = of_some (λ (w : PipePair). later ≡ with_down at w handed mid) (slice_get mid.pairs at) bare there second in
     two ∙ ap (λ (p : Piped). with_down at bare handed p) one
-    ∙ ap (λ (l : List Way). let p : Piped = record old { ways = l } in p) (set-set old.ways at bare (record way { down = handed }))
+    ∙ ap (λ (l : List PipePair). let p : Piped = record old { pairs = l } in p) (set-set old.pairs at bare (record pair { down = handed }))
 
 pub puts : (node : ℕ) (port : Port) (nodes after : NodesState) (old mid later : Piped) (at : ℕ) (none moved handed : List ℕ) (is_open : Bool)
-    → IfSome (slice_get old.ways at) (λ way. mid ≡ with_down at way none old) → IfSome (slice_get old.ways at) (λ way. moved ≡ way.down)
-    → IfSome (slice_get mid.ways at) (λ way. later ≡ with_down at way handed mid) → BytesDownOrLost node port nodes moved after handed is_open
+    → IfSome (slice_get old.pairs at) (λ pair. mid ≡ with_down at pair none old) → IfSome (slice_get old.pairs at) (λ pair. moved ≡ pair.down)
+    → IfSome (slice_get mid.pairs at) (λ pair. later ≡ with_down at pair handed mid) → BytesDownOrLost node port nodes moved after handed is_open
     → PipeBytesDownOrLost at node port nodes old after later is_open
-puts node port nodes after old mid later at none moved handed is_open first given second hands way found = (
+puts node port nodes after old mid later at none moved handed is_open first given second hands pair found = (
   handed,
-  subst (λ (l : List ℕ). BytesDownOrLost node port nodes l after handed is_open) (of_some (λ (w : Way). moved ≡ w.down) (slice_get old.ways at) way found given) hands,
-  exchanged old mid later at none handed first second way found,
+  subst (λ (l : List ℕ). BytesDownOrLost node port nodes l after handed is_open) (of_some (λ (w : PipePair). moved ≡ w.down) (slice_get old.pairs at) pair found given) hands,
+  exchanged old mid later at none handed first second pair found,
 )
 
 pub may_put : (node : ℕ) (port : Port) (nodes after : NodesState) (old mid later : Piped) (at : ℕ) (none moved handed : List ℕ)
-    → IfSome (slice_get old.ways at) (λ way. mid ≡ with_down at way none old) → IfSome (slice_get old.ways at) (λ way. moved ≡ way.down)
-    → IfSome (slice_get mid.ways at) (λ way. later ≡ with_down at way handed mid) → MayHandDown node port nodes moved after handed
+    → IfSome (slice_get old.pairs at) (λ pair. mid ≡ with_down at pair none old) → IfSome (slice_get old.pairs at) (λ pair. moved ≡ pair.down)
+    → IfSome (slice_get mid.pairs at) (λ pair. later ≡ with_down at pair handed mid) → MayHandDown node port nodes moved after handed
     → MayPutDown at node port nodes old after later
-may_put node port nodes after old mid later at none moved handed first given second hands way found = (
+may_put node port nodes after old mid later at none moved handed first given second hands pair found = (
   handed,
-  subst (λ (l : List ℕ). MayHandDown node port nodes l after handed) (of_some (λ (w : Way). moved ≡ w.down) (slice_get old.ways at) way found given) hands,
-  exchanged old mid later at none handed first second way found,
+  subst (λ (l : List ℕ). MayHandDown node port nodes l after handed) (of_some (λ (w : PipePair). moved ≡ w.down) (slice_get old.pairs at) pair found given) hands,
+  exchanged old mid later at none handed first second pair found,
 )
 
-pub same_leads : (old mid later : Piped) (at : ℕ) (none handed : List ℕ) (way : Way) → slice_get old.ways at ≡ Some way
-    → IfSome (slice_get old.ways at) (λ way. mid ≡ with_down at way none old) → IfSome (slice_get mid.ways at) (λ way. later ≡ with_down at way handed mid)
-    → connection_targets later.ways ≡ connection_targets old.ways
-same_leads old mid later at none handed way found first second =
-    ap (λ (p : Piped). connection_targets p.ways) (exchanged old mid later at none handed first second way found)
-    ∙ leads_set old.ways at way (record way { down = handed }) found refl
+pub same_leads : (old mid later : Piped) (at : ℕ) (none handed : List ℕ) (pair : PipePair) → slice_get old.pairs at ≡ Some pair
+    → IfSome (slice_get old.pairs at) (λ pair. mid ≡ with_down at pair none old) → IfSome (slice_get mid.pairs at) (λ pair. later ≡ with_down at pair handed mid)
+    → connection_targets later.pairs ≡ connection_targets old.pairs
+same_leads old mid later at none handed pair found first second =
+    ap (λ (p : Piped). connection_targets p.pairs) (exchanged old mid later at none handed first second pair found)
+    ∙ leads_set old.pairs at pair (record pair { down = handed }) found refl

@@ -5,16 +5,16 @@ use Rattle.client_base.specs.declared.error.ClientError.{ClientError}
 use Rattle.world_base.specs.node_core.Core.{CountedCore}
 use Rattle.world_base.specs.declared.node_core.item.Item.TheVariants as items
 use Rattle.world_base.specs.declared.node_core.Port.{Port}
-use Rattle.world_nodes.specs.Running.{numbered_node}
+use Rattle.world_nodes.specs.RunningNodes.{numbered_node}
 use Rattle.world_nodes.specs.Nodes.{NodesState}
 use Rattle.world_nodes.specs.Steps.{NodeItemOrLost}
 use Rattle.world_pipes.specs.Piped.{SendsConnect, Piped, taken_back}
 use Rattle.std.specs.Option.{is_some}
-use Rattle.world_base.specs.node_core.Handing.{listed_at}
+use Rattle.world_base.specs.node_core.PortOutput.{listed_at}
 use Rattle.world_base.specs.declared.node_core.item.Item.TheVariants.{Opened}
 use Rattle.headline.specs.node_moves.Moves.NodeCall.{takes}
 use Rattle.world_nodes.specs.ExactSteps.{NodeDoesCall}
-use Rattle.world_pipes.specs.Following.{ConnectingFollows, FollowsAll}
+use Rattle.world_pipes.specs.ModelSteps.{ConnectingFollows, FollowsAll}
 
 -- There is no new connection: the client runs out of memory, or its node does not take the
 -- connection, and it is removed.

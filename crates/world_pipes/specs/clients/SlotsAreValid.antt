@@ -1,27 +1,27 @@
 -- What holds for every `World`, by its fields.
 use Rattle.std.specs.Prelude.{◌≡◌, ◌≤◌, ℕ, suc, List, [], ◌∷◌, Some, if◌then◌else◌, length, map, slice_get}
 use Rattle.world_base.specs.declared.node_core.Port.{Port}
-use Rattle.world_pipes.specs.declared.way.Way.{Way}
+use Rattle.world_pipes.specs.declared.pair.PipePair.{PipePair}
 use Rattle.world_pipes.specs.declared.clients.connection_slot.ConnectionSlot.{ConnectionSlot}
 use Rattle.world_pipes.specs.declared.clients.world_client.WorldClient.{WorldClient}
 
 -- where connections lead: each to the index of its node, by its port, the oldest first
-abbrev pub connection_targets : List Way → List (ℕ × Port)
-connection_targets ways = map (λ (way : Way). (way.node, way.port)) ways
+abbrev pub connection_targets : List PipePair → List (ℕ × Port)
+connection_targets pairs = map (λ (pair : PipePair). (pair.node, pair.port)) pairs
 
 -- where the connections of each client lead
 abbrev pub targets_of_clients : List WorldClient → List (List (ℕ × Port))
 targets_of_clients clients = map (λ (client : WorldClient).
-    connection_targets client.piped.ways) clients
+    connection_targets client.piped.pairs) clients
 
 -- The connection of this number is at a client's index, and leads to its node, by the port of its
 -- number.
 pub record LeadsThere (all : List (List (ℕ × Port))) (number : ℕ)
     (slot : ConnectionSlot) : Type 0 where
-  pub ways : List (ℕ × Port)
+  pub pairs : List (ℕ × Port)
   pub node : ℕ
-  pub client : slice_get all slot.client ≡ Some ways
-  pub way : slice_get ways slot.at ≡ Some (node, record { 0 = number })
+  pub client : slice_get all slot.client ≡ Some pairs
+  pub pair : slice_get pairs slot.at ≡ Some (node, record { 0 = number })
   pub numbered : suc node ≡ slot.node
 
 -- each slot leads to its client's connection, and each port that was used has a slot
@@ -31,8 +31,8 @@ pub record SlotsAreValid (all : List (List (ℕ × Port)))
   pub known : (index : ℕ) (slot : ConnectionSlot) → slice_get connections index ≡ Some slot →
       LeadsThere all (suc index) slot
   -- no port above the number of connections was used
-  pub used : (index at node : ℕ) (port : Port) (ways : List (ℕ × Port)) →
-      slice_get all index ≡ Some ways → slice_get ways at ≡ Some (node, port)
+  pub used : (index at node : ℕ) (port : Port) (pairs : List (ℕ × Port)) →
+      slice_get all index ≡ Some pairs → slice_get pairs at ≡ Some (node, port)
       → port.0 ≤ length connections
 
 -- ---- whose end is open

@@ -3,7 +3,7 @@ use Rattle.std.specs.Prelude.{ℕ, Bool, true, false, List, [], ◌∷◌, ◌++
 use Rattle.recovery.specs.replicas.Deliveries.{asked_and_answered}
 use Rattle.world_pipes.specs.declared.events.event.Event.{Event}
 use Rattle.world_pipes.specs.declared.events.event.Event.TheVariants as events
-use Rattle.world_pipes.specs.declared.events.scheduling.TheConstants.{CONNACK_BYTES, CONNECT_BYTES}
+use Rattle.world_pipes.specs.declared.events.schedule.TheConstants.{CONNACK_BYTES, CONNECT_BYTES}
 
 -- how many bytes a client's CONNECT has besides its identifier
 abbrev pub connect_bytes : ℕ

@@ -17,8 +17,8 @@ pub fn open_pipe(nodes: &mut Nodes, piped: &mut PipedClient, node: u8, port: Por
     requires free { is_holding piped.old ≡ false }
     ensures nodes { NodesGoOn nodes.old nodes.new }
     ensures reaches { Reaches result node port nodes.old piped.old nodes.new piped.new }
-    ensures leads { result ≡ false → connection_targets piped.new.ways
-        ≡ connection_targets piped.old.ways }
+    ensures leads { result ≡ false → connection_targets piped.new.pairs
+        ≡ connection_targets piped.old.pairs }
 {
     match piped.open(node as usize - 1, port) {
         Ok(()) => keep_if_taken(nodes, piped, node, port),

@@ -20,7 +20,7 @@ pub struct WorldClient {
 }
 
 impl WorldClient {
-    /// Says whether it has this identifier.
+    /// Returns true if it has this identifier.
     pub fn is_named(&self, name: &ClientId) -> bool
         ensures { result ≡ is_named name.now self.now }
     {

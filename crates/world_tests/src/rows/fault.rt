@@ -141,7 +141,7 @@ fn first_fault_of_agreed(world: &World, list: &[Said]) -> Came {
     Came::Agreed(at, "none")
 }
 
-// Says whether a command is the one of the list at this index.
+// Returns true if a command is the one of the list at this index.
 fn is_said_at(command: &Command, list: &[Said], at: usize) -> bool {
     match list.get(at) {
         Some(said) => is_said(command, said),

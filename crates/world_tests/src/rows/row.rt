@@ -150,7 +150,7 @@ fn config_of(alloc: Global, members: &[u8], primary: u8) -> Option<Config> {
     })
 }
 
-/// Says whether a row holds for a world.
+/// Returns true if a row holds for a world.
 pub fn is_right(alloc: Global, world: &mut World, row: &Row) -> bool {
     match row {
         Row::Does(action, sent, agreed) => {
@@ -170,12 +170,12 @@ pub fn is_right(alloc: Global, world: &mut World, row: &Row) -> bool {
     }
 }
 
-// Says whether the bytes that wait are these.
+// Returns true if the bytes that wait are these.
 fn are_same(waiting: &[u8], bytes: &[u8]) -> bool {
     waiting == bytes
 }
 
-// Says whether these commands are agreed, in this order.
+// Returns true if these commands are agreed, in this order.
 fn agrees_on(world: &World, list: &[Said]) -> bool {
     let (recorded, kept) = world.agreed();
     match list.get(..recorded.len()) {
@@ -184,7 +184,7 @@ fn agrees_on(world: &World, list: &[Said]) -> bool {
     }
 }
 
-// Says whether these are the commands, in this order.
+// Returns true if these are the commands, in this order.
 fn are_said(commands: &[Command], list: &[Said]) -> bool {
     for (command, said) in commands.iter().zip(list.iter()) {
         if !is_said(command, said) {
@@ -194,7 +194,7 @@ fn are_said(commands: &[Command], list: &[Said]) -> bool {
     commands.len() == list.len()
 }
 
-/// Says whether a command is this one.
+/// Returns true if a command is this one.
 pub(crate) fn is_said(command: &Command, said: &Said) -> bool {
     match (command, said) {
         (Command::Connect(_, client, false), Said::Connect(name)) => client.as_str() == *name,

@@ -89,7 +89,7 @@ impl Course {
         }
     }
 
-    // Says whether many messages wait to come.
+    // Returns true if many messages wait to come.
     fn is_behind(&self, world: &World) -> bool {
         self.next.saturating_add(64) < world.messages()
     }
@@ -236,7 +236,7 @@ pub fn crash_primary(world: &mut World, course: &mut Course) -> bool {
     crashed
 }
 
-// Says whether no ballot waits, and a member of the active one other than this one runs.
+// Returns true if no ballot waits, and a member of the active one other than this one runs.
 fn is_one_left(world: &World, course: &Course, node: u8) -> bool {
     let (ballot, members) = world.active();
     ballot == course.given
@@ -245,7 +245,7 @@ fn is_one_left(world: &World, course: &Course, node: u8) -> bool {
             .any(|member| *member != node && runs(course, *member))
 }
 
-// Says whether a node runs.
+// Returns true if a node runs.
 fn runs(course: &Course, node: u8) -> bool {
     matches!(
         course.runs.get((node as usize).saturating_sub(1)),

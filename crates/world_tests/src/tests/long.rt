@@ -37,7 +37,7 @@ enum Fault {
     Client(&'static str),
 }
 
-// Says whether all events come, two primaries crash, nothing is lost, and the agreed list only
+// Returns true if all events come, two primaries crash, nothing is lost, and the agreed list only
 // grows.
 fn let_all_come(alloc: Global, world: &mut World, course: &mut Course) -> bool {
     let mut crashed = 0;
@@ -51,8 +51,8 @@ fn let_all_come(alloc: Global, world: &mut World, course: &mut Course) -> bool {
     crashed == 2 && world.losses() == 0 && course.only_grows
 }
 
-// Says whether a client accepted publications at QoS 2 all in one session, each once: those of each
-// publisher in the order in which it made them. What was retained comes again with each
+// Returns true if a client accepted publications at QoS 2 all in one session, each once: those of
+// each publisher in the order in which it made them. What was retained comes again with each
 // subscription (MQTT 3.3.1.3).
 fn took_each_once(alloc: Global, world: &World, client: &str) -> bool {
     let Some(name) = named(alloc, client) else {
@@ -71,7 +71,7 @@ fn took_each_once(alloc: Global, world: &World, client: &str) -> bool {
     count > 100
 }
 
-// Says whether a publication that was accepted is newer than the ones before it of the same
+// Returns true if a publication that was accepted is newer than the ones before it of the same
 // publisher.
 fn is_new(accepted: &Accepted, last: &mut [Option<u64>; 4], count: &mut u32) -> bool {
     if accepted.retain || accepted.qos != QoS::ExactlyOnce {

@@ -39,7 +39,7 @@ fn step_and_compare(world: &mut World, event: &Event, wanted: &(u64, u64)) -> (b
     (happened && leads_here, before <= agreed)
 }
 
-// Says whether all comes as usual or a loss is counted; the agreed list never becomes shorter.
+// Returns true if all comes as usual or a loss is counted; the agreed list never becomes shorter.
 fn is_whole_or_counted(world: &mut World, events: &[Event]) -> bool {
     let mut is_whole = true;
     let mut only_grows = true;
@@ -55,7 +55,7 @@ fn is_whole_or_counted(world: &mut World, events: &[Event]) -> bool {
         }
 }
 
-// Says whether the client accepted nothing, and was accepted if nothing was lost.
+// Returns true if the client accepted nothing, and was accepted if nothing was lost.
 fn took_nothing(alloc: Global, world: &World) -> bool {
     let Some(name) = named(alloc, "a") else {
         return true;
@@ -66,7 +66,7 @@ fn took_nothing(alloc: Global, world: &World) -> bool {
     }
 }
 
-// Says whether all comes as usual or a loss is counted, and the client accepted nothing.
+// Returns true if all comes as usual or a loss is counted, and the client accepted nothing.
 fn is_well(alloc: Global, world: &mut World) -> bool {
     match events(alloc) {
         Some(events) => {

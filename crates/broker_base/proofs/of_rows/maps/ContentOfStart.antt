@@ -8,14 +8,14 @@ use Rattle.std.specs.Cmp.Lexicographic.{bytes_decides}
 use Rattle.broker_spec.specs.Place.{Client, same_client}
 use Rattle.broker_base.specs.ClientSession.{ClientSession}
 use Rattle.broker_base.specs.State.{Sessions, keyed, session_in}
-use Rattle.broker_base.specs.StateLaws.{AreByClient}
+use Rattle.broker_base.specs.StateTheorems.{AreByClient}
 use Rattle.broker_spec.proofs.ClientsInOrder.{same_is, same_self}
 use Rattle.broker_base.proofs.SessionsStayByClient.{ComesBefore}
 use Rattle.subs_base.specs.Content.{Content, without_client}
 use Rattle.broker_base.specs.rows.Served.{left_off}
-use Rattle.broker_base.specs.rows.ConnectLaws.{all_left_off}
+use Rattle.broker_base.specs.rows.ConnectTheorems.{all_left_off}
 use Rattle.broker_base.specs.rows.Indexed.{subscribed_in, content_in, all_dropped, clean_clients}
-use Rattle.broker_base.specs.rows.IndexLaws.{StartDropsTheClean}
+use Rattle.broker_base.specs.rows.IndexTheorems.{StartDropsTheClean}
 use Rattle.broker_base.proofs.of_rows.ConnectSteps.{no_session}
 
 -- ---- what is dropped

@@ -5,7 +5,7 @@ use Rattle.broker_base.specs.State.{put_session}
 use Rattle.subs_base.specs.Content.{without_client}
 use Rattle.broker_base.specs.rows.Touched.{written}
 use Rattle.broker_base.specs.rows.Indexed.{content_in}
-use Rattle.broker_base.specs.rows.IndexLaws.{WritingKeepsContent, SubscribingSets, UnsubscribingClears, LeavingDropsTheClean, BeginningDrops}
+use Rattle.broker_base.specs.rows.IndexTheorems.{WritingKeepsContent, SubscribingSets, UnsubscribingClears, LeavingDropsTheClean, BeginningDrops}
 use Rattle.broker_base.proofs.of_rows.maps.SessionWritten.{session_written, session_put}
 use Rattle.broker_base.proofs.of_rows.maps.ContentAfter.{content_stays, content_set, content_cleared, content_dropped}
 

@@ -7,10 +7,10 @@ use Rattle.broker_spec.specs.Place.{Client, same_client}
 use Rattle.broker_spec.specs.Sessions.{any_connection}
 use Rattle.broker_base.specs.ClientSession.{ClientSession}
 use Rattle.broker_base.specs.State.{Sessions, session_in}
-use Rattle.broker_base.specs.StateLaws.{AreByClient, IsNobodys, ConnectionsAreApart}
+use Rattle.broker_base.specs.StateTheorems.{AreByClient, IsNobodys, ConnectionsAreApart}
 use Rattle.broker_base.specs.rows.Touched.{written}
 use Rattle.broker_base.specs.rows.Owners.{owners_in, without_owner}
-use Rattle.broker_base.specs.rows.ExpelLaws.{ExpelRemovesTheOwner, ExpelDropsTheClient}
+use Rattle.broker_base.specs.rows.ExpelTheorems.{ExpelRemovesTheOwner, ExpelDropsTheClient}
 use Rattle.broker_base.proofs.of_rows.LeavingSteps.{same_own}
 use Rattle.broker_base.proofs.of_rows.OneRow.{written_here, written_after}
 use Rattle.broker_base.proofs.of_rows.OwnersRow.{on_is}

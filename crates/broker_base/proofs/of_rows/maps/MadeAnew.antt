@@ -4,12 +4,12 @@ use Rattle.std.specs.Prelude.{bytes_eq}
 use Rattle.std.specs.List.Sorted.{IsStrictlySortedBy}
 use Rattle.std.specs.Cmp.Lexicographic.{bytes_decides}
 use Rattle.session_base.specs.Subscriptions.{GrantedSubscription}
-use Rattle.session_base.specs.KeepingLaws.{AreFiltersApart}
+use Rattle.session_base.specs.KeepingTheorems.{AreFiltersApart}
 use Rattle.broker_spec.specs.Connection.{ConnectionName, same_connection}
 use Rattle.broker_spec.specs.Place.{Client, same_client}
 use Rattle.broker_spec.specs.Sessions.{any_connection}
 use Rattle.broker_base.specs.State.{Sessions, session_in}
-use Rattle.broker_base.specs.StateLaws.{AllSound, AreByClient, ConnectionsAreApart}
+use Rattle.broker_base.specs.StateTheorems.{AllSound, AreByClient, ConnectionsAreApart}
 use Rattle.broker_spec.proofs.ClientsInOrder.{same_is}
 use Rattle.broker_base.proofs.ConnectionsOfSessions.{same_turned}
 use Rattle.broker_base.proofs.SessionsStayByClient.{ComesBefore}
@@ -17,8 +17,8 @@ use Rattle.subs_base.specs.Content.{Content, no_subscriptions, with_row}
 use Rattle.broker_base.specs.rows.Owners.{Owners, owners_in, no_owners, owned_by, all_owned}
 use Rattle.broker_base.specs.rows.Indexed.{subscribed_in, all_set, all_subscribed}
 use Rattle.broker_spec.specs.Subscriptions.{qos_asked}
-use Rattle.broker_base.specs.rows.OwnerLaws.{OwnersMadeAnew}
-use Rattle.broker_base.specs.rows.IndexLaws.{IndexMadeAnew}
+use Rattle.broker_base.specs.rows.OwnerTheorems.{OwnersMadeAnew}
+use Rattle.broker_base.specs.rows.IndexTheorems.{IndexMadeAnew}
 use Rattle.broker_base.proofs.of_rows.OwnersRow.{on_is}
 use Rattle.broker_base.proofs.of_rows.ConnectSteps.{no_session}
 use Rattle.broker_base.proofs.of_rows.publications.GreatestGranted.{none_held}

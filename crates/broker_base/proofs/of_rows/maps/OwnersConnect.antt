@@ -11,12 +11,12 @@ use Rattle.broker_spec.specs.Sessions.{any_connection}
 use Rattle.broker_base.specs.ClientSession.{ClientSession}
 use Rattle.broker_base.specs.State.{Sessions, session_in, put_session}
 use Rattle.broker_base.specs.StepAnswers.{connection_of}
-use Rattle.broker_base.specs.StateLaws.{AreByClient, IsNobodys, ConnectionsAreApart}
+use Rattle.broker_base.specs.StateTheorems.{AreByClient, IsNobodys, ConnectionsAreApart}
 use Rattle.broker_spec.proofs.ClientsInOrder.{equal_is}
 use Rattle.broker_base.proofs.ConnectionsOfSessions.{same_turned}
 use Rattle.broker_base.proofs.SessionsStayByClient.{before_more}
 use Rattle.broker_base.specs.rows.Owners.{Owners, owners_in, with_owner, without_owner}
-use Rattle.broker_base.specs.rows.OwnerLaws.{ConnectingSetsTheOwner, ResumingSetsTheOwner}
+use Rattle.broker_base.specs.rows.OwnerTheorems.{ConnectingSetsTheOwner, ResumingSetsTheOwner}
 use Rattle.broker_base.proofs.of_rows.OwnersRow.{connection_is, on_is}
 use Rattle.broker_base.proofs.of_rows.CommandOfNobody.{nobody_owns}
 use Rattle.broker_base.proofs.of_rows.ConnectSteps.{no_session, insertion_writes}

@@ -8,14 +8,14 @@ use Rattle.broker_spec.specs.Place.{Client}
 use Rattle.broker_spec.specs.Sessions.{any_connection}
 use Rattle.broker_base.specs.ClientSession.{ClientSession}
 use Rattle.broker_base.specs.State.{Sessions, keyed, owner_in}
-use Rattle.broker_base.specs.StateLaws.{AreByClient, IsNobodys, ConnectionsAreApart}
+use Rattle.broker_base.specs.StateTheorems.{AreByClient, IsNobodys, ConnectionsAreApart}
 use Rattle.broker_spec.proofs.ClientsInOrder.{same_self, less_turned}
 use Rattle.broker_base.proofs.ConnectionsOfSessions.{same_turned}
 use Rattle.broker_base.specs.rows.Touched.{written}
 use Rattle.broker_base.specs.rows.Served.{left_off}
-use Rattle.broker_base.specs.rows.ConnectLaws.{all_left_off}
+use Rattle.broker_base.specs.rows.ConnectTheorems.{all_left_off}
 use Rattle.broker_base.specs.rows.Owners.{owners_in, without_owner}
-use Rattle.broker_base.specs.rows.OwnerLaws.{LeavingRemovesTheOwner, StartRemovesTheOwners}
+use Rattle.broker_base.specs.rows.OwnerTheorems.{LeavingRemovesTheOwner, StartRemovesTheOwners}
 use Rattle.broker_base.proofs.of_rows.OneRow.{written_here, written_after}
 use Rattle.broker_base.proofs.of_rows.OwnersRow.{connection_is, on_is, before_owner}
 use Rattle.broker_base.proofs.of_rows.maps.OwnersStay.{owners_row}

@@ -9,7 +9,7 @@ use Rattle.broker_base.specs.State.{Sessions, session_in, owner_in}
 use Rattle.broker_base.specs.rows.Touched.{written}
 use Rattle.broker_base.specs.rows.Published.{session_changed}
 use Rattle.broker_base.specs.rows.Owners.{owners_in}
-use Rattle.broker_base.specs.rows.OwnerLaws.{WritingKeepsOwners}
+use Rattle.broker_base.specs.rows.OwnerTheorems.{WritingKeepsOwners}
 use Rattle.broker_base.proofs.of_rows.publications.OneChanged.{changed_next}
 
 -- the client is that of the row, or of one after it

@@ -10,8 +10,8 @@ use Rattle.broker_base.specs.rows.Published.{session_changed, received_on, deliv
 use Rattle.broker_base.specs.rows.Indexed.{subscribed_in, content_in}
 use Rattle.broker_spec.specs.Subscriptions.{qos_asked}
 use Rattle.broker_base.specs.rows.Owners.{owners_in}
-use Rattle.broker_base.specs.rows.OwnerLaws.{PublishingKeepsOwners}
-use Rattle.broker_base.specs.rows.IndexLaws.{PublishingKeepsContent}
+use Rattle.broker_base.specs.rows.OwnerTheorems.{PublishingKeepsOwners}
+use Rattle.broker_base.specs.rows.IndexTheorems.{PublishingKeepsContent}
 use Rattle.broker_base.proofs.of_rows.publications.OneChanged.{changed_as}
 use Rattle.broker_base.proofs.of_rows.maps.OwnersStay.{owners_changed}
 

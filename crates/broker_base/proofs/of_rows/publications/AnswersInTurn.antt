@@ -11,7 +11,7 @@ use Rattle.session_base.specs.Subscriptions.{granted_qos}
 use Rattle.broker_spec.specs.Place.{Client}
 use Rattle.broker_base.specs.ClientSession.{ClientSession}
 use Rattle.broker_base.specs.State.{Sessions, session_in}
-use Rattle.broker_base.specs.StateLaws.{AreByClient}
+use Rattle.broker_base.specs.StateTheorems.{AreByClient}
 use Rattle.subs_base.specs.Granted.{Row, row_of}
 use Rattle.broker_base.specs.rows.Published.{granted_rows, session_changed, received_on, delivered_on, copy_answered, answered_in_turn}
 use Rattle.broker_base.proofs.of_rows.publications.OneChanged.{changed_as, other_stays}

@@ -7,7 +7,7 @@ use Rattle.packet.specs.declared.packet.Packet.TheVariants as packets
 use Rattle.retained.specs.Retained.{RetainedTopics}
 use Rattle.session_base.specs.Publication.{publication_of}
 use Rattle.packet_base.specs.QoS.{lower_qos}
-use Rattle.session_base.specs.Sending.{copies_sent}
+use Rattle.session_base.specs.EntryPackets.{copies_sent}
 use Rattle.broker_spec.specs.Connection.{ConnectionName}
 use Rattle.broker_spec.specs.Place.{Client, Mark, Place}
 use Rattle.session_base.specs.Subscriptions.{granted_qos}
@@ -15,7 +15,7 @@ use Rattle.broker_spec.specs.Entries.{copy_of}
 use Rattle.broker_base.specs.ClientSession.{ClientSession}
 use Rattle.broker_base.specs.State.{Sessions, session_in}
 use Rattle.broker_base.specs.StepAnswers.{sent_on, copies_answered}
-use Rattle.broker_base.specs.StateLaws.{AreByClient}
+use Rattle.broker_base.specs.StateTheorems.{AreByClient}
 use Rattle.broker_spec.specs.declared.command.Command.TheVariants as commands
 use Rattle.broker_spec.specs.declared.command.Output.{Output}
 use Rattle.subs_base.specs.Granted.{row_of}

@@ -9,9 +9,9 @@ use Rattle.session_base.specs.declared.publication.Publication.{Publication}
 use Rattle.session_base.specs.Publication.{is_answered, publish_for}
 use Rattle.session_base.specs.Queue.{Flight, Queue, started_flight, enqueue, fill, filled, room}
 use Rattle.session_base.specs.Copies.{copies_left}
-use Rattle.session_base.specs.Sending.{fill_sends, copies_sent}
+use Rattle.session_base.specs.EntryPackets.{fill_sends, copies_sent}
 use Rattle.broker_spec.specs.Entries.{queued}
-use Rattle.broker_base.specs.rows.CopyLaws.{CopiesJoin, CopiesTakeRoom, CopiesFindRoom}
+use Rattle.broker_base.specs.rows.CopyTheorems.{CopiesJoin, CopiesTakeRoom, CopiesFindRoom}
 
 -- ---- two parts
 

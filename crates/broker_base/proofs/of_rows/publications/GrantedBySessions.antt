@@ -13,15 +13,15 @@ use Rattle.session_base.specs.Subscriptions.{granted_qos}
 use Rattle.broker_base.specs.ClientSession.{ClientSession}
 use Rattle.broker_base.specs.State.{Sessions, session_in}
 use Rattle.broker_base.proofs.SessionsStayByClient.{ComesBefore}
-use Rattle.broker_base.specs.StateLaws.{AreByClient}
+use Rattle.broker_base.specs.StateTheorems.{AreByClient}
 use Rattle.broker_spec.proofs.ClientsInOrder.{same_is}
 use Rattle.subs_base.specs.Content.{Content}
 use Rattle.subs_base.specs.Granted.{Row, clients_of_rows, IsGreatest, IsGranted, row_of}
 use Rattle.subs_base.proofs.GrantsOneList.{one_list}
 use Rattle.broker_base.specs.rows.Published.{granted_rows}
 use Rattle.broker_base.specs.rows.Indexed.{subscribed_in, content_in}
-use Rattle.session_base.specs.KeepingLaws.{AreFiltersApart}
-use Rattle.broker_base.specs.StateLaws.{AllSound}
+use Rattle.session_base.specs.KeepingTheorems.{AreFiltersApart}
+use Rattle.broker_base.specs.StateTheorems.{AllSound}
 use Rattle.broker_base.proofs.of_rows.FindsEach.{Finds, finds_each}
 use Rattle.broker_base.proofs.of_rows.publications.GreatestGranted.{reaches, comes}
 

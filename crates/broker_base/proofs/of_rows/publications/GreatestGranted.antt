@@ -9,7 +9,7 @@ use Rattle.packet_base.specs.declared.qos.QoS.{QoS}
 use Rattle.packet_base.specs.QoS.{qos_number, greater_qos}
 use Rattle.session_base.specs.Subscriptions.{GrantedSubscription, is_subscribed, granted_qos}
 use Rattle.broker_spec.specs.Subscriptions.{qos_asked}
-use Rattle.session_base.specs.KeepingLaws.{AreFiltersApart}
+use Rattle.session_base.specs.KeepingTheorems.{AreFiltersApart}
 
 -- ---- the greater of two
 

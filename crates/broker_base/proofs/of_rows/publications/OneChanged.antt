@@ -9,7 +9,7 @@ use Rattle.broker_spec.proofs.ClientsInOrder.{same_is}
 use Rattle.broker_base.proofs.SessionsStayByClient.{ComesBefore}
 use Rattle.broker_base.specs.rows.Touched.{written}
 use Rattle.broker_base.specs.rows.Published.{session_changed}
-use Rattle.broker_base.specs.rows.PublishLaws.{ChangeIsOfOneRow}
+use Rattle.broker_base.specs.rows.PublishTheorems.{ChangeIsOfOneRow}
 use Rattle.broker_base.proofs.of_rows.OneRow.{written_here, written_after}
 use Rattle.broker_base.proofs.of_rows.ServedStep.{written_same}
 

@@ -11,11 +11,11 @@ use Rattle.session_base.specs.Publication.{publication_of}
 use Rattle.session_base.specs.Subscriptions.{granted_qos}
 use Rattle.broker_spec.specs.Connection.{ConnectionName}
 use Rattle.broker_spec.specs.Place.{Client, by_bytes, same_client}
-use Rattle.broker_spec.specs.EntryLaws.{place_of_taken}
+use Rattle.broker_spec.specs.EntryTheorems.{place_of_taken}
 use Rattle.broker_base.specs.ClientSession.{ClientSession}
 use Rattle.broker_base.specs.State.{Sessions, keyed}
 use Rattle.broker_base.specs.Step.{sessions_left}
-use Rattle.broker_base.specs.StateLaws.{AreByClient}
+use Rattle.broker_base.specs.StateTheorems.{AreByClient}
 use Rattle.broker_spec.proofs.ClientsInOrder.{same_self, same_is, less_turned}
 use Rattle.broker_base.proofs.SessionsStayByClient.{ComesBefore}
 use Rattle.subs_base.specs.Granted.{Row, row_of}

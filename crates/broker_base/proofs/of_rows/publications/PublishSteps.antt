@@ -11,9 +11,9 @@ use Rattle.broker_base.specs.ClientSession.{ClientSession}
 use Rattle.broker_base.specs.State.{State}
 use Rattle.broker_base.specs.Decisions.{is_one_topic_over, is_refused_in, repeats_taken, owned_mark, packet_mark_in}
 use Rattle.broker_base.specs.Step.{step_at}
-use Rattle.broker_base.specs.StateLaws.{AreByClient}
+use Rattle.broker_base.specs.StateTheorems.{AreByClient}
 use Rattle.broker_spec.specs.declared.command.Command.TheVariants as commands
-use Rattle.broker_base.specs.rows.PublishLaws.{is_refused_by_rows, RefusedStep, TakenStep}
+use Rattle.broker_base.specs.rows.PublishTheorems.{is_refused_by_rows, RefusedStep, TakenStep}
 use Rattle.broker_base.proofs.of_rows.publications.RoomOfGranted.{full_of_granted}
 use Rattle.broker_base.proofs.of_rows.publications.AnswersOfGranted.{answers_of_granted}
 use Rattle.broker_base.proofs.of_rows.publications.PublishLeft.{publish_left}

@@ -10,7 +10,7 @@ use Rattle.broker_base.specs.ClientSession.{ClientSession}
 use Rattle.broker_base.specs.State.{Sessions, session_in}
 use Rattle.subs_base.specs.Granted.{Row}
 use Rattle.broker_base.specs.rows.Published.{granted_rows, session_changed, received_on, delivered_on, session_lacks_room}
-use Rattle.broker_base.specs.rows.PublishLaws.{HaveRoomInTurn, RoomLastsToItsTurn}
+use Rattle.broker_base.specs.rows.PublishTheorems.{HaveRoomInTurn, RoomLastsToItsTurn}
 use Rattle.broker_base.proofs.of_rows.publications.OneChanged.{changed_as, other_stays}
 use Rattle.broker_base.proofs.of_rows.publications.PublishLeft.{GrantedAfter}
 use Rattle.broker_base.proofs.of_rows.publications.AnswersInTurn.{AreRising, granted_rise}

@@ -12,7 +12,7 @@ use Rattle.broker_spec.specs.Marks.{is_queued_at}
 use Rattle.broker_base.specs.ClientSession.{ClientSession}
 use Rattle.broker_base.specs.State.{Sessions, session_in}
 use Rattle.broker_base.specs.Decisions.{row_lacks_room}
-use Rattle.broker_base.specs.StateLaws.{AreByClient}
+use Rattle.broker_base.specs.StateTheorems.{AreByClient}
 use Rattle.subs_base.specs.Granted.{row_of}
 use Rattle.broker_base.specs.rows.Published.{granted_rows, session_lacks_room}
 use Rattle.broker_base.proofs.of_rows.FindsEach.{Finds, finds_each}

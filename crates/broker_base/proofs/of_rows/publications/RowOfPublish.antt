@@ -13,7 +13,7 @@ use Rattle.session_base.specs.Subscriptions.{granted_qos}
 use Rattle.session_base.specs.Queue.{Queue}
 use Rattle.broker_spec.specs.Connection.{ConnectionName}
 use Rattle.broker_spec.specs.Place.{Client, Mark, same_client, only_if}
-use Rattle.broker_spec.specs.EntryLaws.{place_of_taken}
+use Rattle.broker_spec.specs.EntryTheorems.{place_of_taken}
 use Rattle.broker_spec.specs.Received.{receives}
 use Rattle.broker_spec.specs.Entries.{copy_of}
 use Rattle.broker_base.specs.ClientSession.{ClientSession}

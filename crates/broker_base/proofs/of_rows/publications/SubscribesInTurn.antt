@@ -8,13 +8,13 @@ use Rattle.session_base.specs.Session.{SessionState, with_granted, with_queue}
 use Rattle.session_base.specs.Subscriptions.{with_subscription, with_subscriptions}
 use Rattle.session_base.specs.Queue.{room}
 use Rattle.session_base.specs.Copies.{copies_left}
-use Rattle.session_base.specs.Sending.{copies_sent}
+use Rattle.session_base.specs.EntryPackets.{copies_sent}
 use Rattle.broker_spec.specs.Place.{Limits}
 use Rattle.broker_spec.specs.Subscriptions.{as_granted, granted_of}
 use Rattle.broker_spec.specs.Entries.{copies_for, copies_for_all}
 use Rattle.broker_spec.specs.Marks.{is_one_too_many, entries_for, grants}
-use Rattle.broker_base.specs.rows.PacketLaws.{subscribed_to}
-use Rattle.broker_base.specs.rows.CopyLaws.{is_granted_in, granted_in_turn, subscribed_in_turn, sent_in_turn, SubscribesInTurn}
+use Rattle.broker_base.specs.rows.PacketTheorems.{subscribed_to}
+use Rattle.broker_base.specs.rows.CopyTheorems.{is_granted_in, granted_in_turn, subscribed_in_turn, sent_in_turn, SubscribesInTurn}
 use Rattle.broker_base.proofs.of_rows.publications.CopiesInParts.{copies_join, copies_take_room}
 
 module _ (limits : Limits) (w : ℕ) (content : RetainedTopics) where

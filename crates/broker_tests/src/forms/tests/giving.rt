@@ -86,7 +86,7 @@ pub(crate) fn is_frozen(broker: &BrokerMachine, bytes: &mut Vec<u8>) -> bool {
     broker.freeze(bytes).is_ok()
 }
 
-/// Says whether a broker is frozen to these bytes.
+/// Returns true if a broker is frozen to these bytes.
 pub(crate) fn has_bytes(alloc: Global, broker: &BrokerMachine, wanted: &[u8]) -> bool {
     let mut bytes = Vec::new(alloc);
     is_frozen(broker, &mut bytes) && bytes.as_slice() == wanted

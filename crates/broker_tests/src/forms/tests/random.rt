@@ -122,8 +122,8 @@ fn came_instead(
     }
 }
 
-// Replaces a broker by the one that is thawed from the bytes. Says whether there is one, and it is
-// frozen to the same bytes again.
+// Replaces a broker by the one that is thawed from the bytes. Returns true if there is one, and it
+// is frozen to the same bytes again.
 fn is_thawed_from(alloc: Global, broker: &mut BrokerMachine, bytes: &[u8]) -> bool {
     match BrokerMachine::thaw(alloc, bytes) {
         Ok(thawed) => {

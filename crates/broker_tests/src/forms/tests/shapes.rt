@@ -157,7 +157,7 @@ fn are_released(bytes: &mut Vec<u8>, count: u8) -> bool {
     bytes.extend_from_slice(&[0, 0, 0, 0]).is_ok() && is_whole
 }
 
-// Says whether a broker of this form with this many entries of a session in flight is read, if
+// Returns true if a broker of this form with this many entries of a session in flight is read, if
 // there is memory.
 fn is_read(alloc: Global, front: &[u8], count: u8) -> Option<bool> {
     let mut bytes = Vec::new(alloc);

@@ -38,7 +38,7 @@ fewer_distinct xs ys (IsFewer.skips {x = x} {ys = qs} f) d = fewer_distinct xs q
 
 pub fewer_puback : (i : ℕ) (own : List Own) → IsFewer (ids_of_own (map (own_at_puback i) own)) (ids_of_own own)
 fewer_puback i [] = IsFewer.none
-fewer_puback i (Own.Unsent k p id ∷ own) = IsFewer.keeps (fewer_puback i own)
+fewer_puback i (Own.Queued k p id ∷ own) = IsFewer.keeps (fewer_puback i own)
 fewer_puback i (Own.Sent k p id ∷ own) = by ((i == id) && is_qos1 p.qos) (fewer_puback i own)
   where
     by : (b : Bool) → IsFewer (ids_of_own (map (own_at_puback i) own)) (ids_of_own own)
@@ -50,7 +50,7 @@ fewer_puback i (Own.Done k p ∷ own) = fewer_puback i own
 
 pub fewer_pubrec : (i : ℕ) (own : List Own) → IsFewer (ids_of_own (map (own_at_pubrec i) own)) (ids_of_own own)
 fewer_pubrec i [] = IsFewer.none
-fewer_pubrec i (Own.Unsent k p id ∷ own) = IsFewer.keeps (fewer_pubrec i own)
+fewer_pubrec i (Own.Queued k p id ∷ own) = IsFewer.keeps (fewer_pubrec i own)
 fewer_pubrec i (Own.Sent k p id ∷ own) = by ((i == id) && not (is_qos1 p.qos)) (fewer_pubrec i own)
   where
     by : (b : Bool) → IsFewer (ids_of_own (map (own_at_pubrec i) own)) (ids_of_own own)
@@ -62,7 +62,7 @@ fewer_pubrec i (Own.Done k p ∷ own) = fewer_pubrec i own
 
 pub fewer_pubcomp : (i : ℕ) (own : List Own) → IsFewer (ids_of_own (map (own_at_pubcomp i) own)) (ids_of_own own)
 fewer_pubcomp i [] = IsFewer.none
-fewer_pubcomp i (Own.Unsent k p id ∷ own) = IsFewer.keeps (fewer_pubcomp i own)
+fewer_pubcomp i (Own.Queued k p id ∷ own) = IsFewer.keeps (fewer_pubcomp i own)
 fewer_pubcomp i (Own.Sent k p id ∷ own) = IsFewer.keeps (fewer_pubcomp i own)
 fewer_pubcomp i (Own.Released k p id ∷ own) = by (i == id) (fewer_pubcomp i own)
   where

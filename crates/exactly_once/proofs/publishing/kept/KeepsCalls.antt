@@ -26,8 +26,8 @@ use Rattle.exactly_once.specs.Story.StoryStep.{takes, others_take, receives, ope
 use Rattle.exactly_once.specs.Carried.{is_qos2}
 use Rattle.exactly_once.specs.Inside.Projections.{items_of_own, as_publisher}
 use Rattle.exactly_once.specs.Inside.Shape.{HeldInShape, HasShape, IsSoundStory}
-use Rattle.exactly_once.specs.Inside.OwnShape.{OwnInShape, AreNumberedFrom, none_unsent}
-use Rattle.exactly_once.proofs.publishing.kept.MoreOwn.{ids_more, numbered_more, unsent_more, released_front}
+use Rattle.exactly_once.specs.Inside.OwnShape.{OwnInShape, AreNumberedFrom, none_queued}
+use Rattle.exactly_once.proofs.publishing.kept.MoreOwn.{ids_more, numbered_more, queued_more, released_front}
 use Rattle.exactly_once.proofs.publishing.kept.NewItem.{items_more}
 use Rattle.exactly_once.proofs.publishing.kept.KeepsOwn.{lost_keeps}
 use Rattle.exactly_once.proofs.publishing.kept.KeepsPackets.{receives_keeps}
@@ -39,7 +39,7 @@ pub record IsNext (keeper : Keeper) (o : Own) : Type 0 where
   pub ids : (ids_of_own (o ∷ []) ≡ least_free (ids_in_use keeper) ∷ []) ⊎ (ids_of_own (o ∷ []) ≡ [])
   pub numbered : AreNumberedFrom (next_own_number keeper) (o ∷ [])
   pub unreleased : (j : ℕ) → has_released j (items_of_own (o ∷ [])) ≡ false
-  pub online_sent : keeper.is_online ≡ true → none_unsent (o ∷ []) ≡ true
+  pub online_sent : keeper.is_online ≡ true → none_queued (o ∷ []) ≡ true
 
 pub ids_next : (keeper : Keeper) (o : Own) → IsDistinct (ids_in_use keeper) → (ids_of_own (o ∷ []) ≡ least_free (ids_in_use keeper) ∷ []) ⊎ (ids_of_own (o ∷ []) ≡ [])
     → IsDistinct (ids_of_own (keeper.own ++ o ∷ []) ++ map id_of_request keeper.requests)
@@ -61,7 +61,7 @@ next_keeps keeper o s next =
       numbered = numbered_more (length keeper.earlier) keeper.own (o ∷ []) s.numbered next.numbered;
       releases_apart = s.releases_apart;
       releases_are = λ j. s.releases_are j ∙ sym (ap (has_released j) (items_more keeper.own (o ∷ [])) ∙ released_front j (items_of_own keeper.own) (items_of_own (o ∷ [])) (next.unreleased j));
-      online_sent = λ on. unsent_more keeper.own (o ∷ []) (s.online_sent on) (next.online_sent on);
+      online_sent = λ on. queued_more keeper.own (o ∷ []) (s.online_sent on) (next.online_sent on);
     }
 
 -- an item that is not released, if it is one
@@ -82,16 +82,16 @@ publishes_keeps keeper p s = by keeper.is_online refl (is_answered p.qos)
     same = refl
 
     by : (on : Bool) → keeper.is_online ≡ on → (a : Bool)
-        → OwnInShape (record keeper { own = keeper.own ++ (if a then (if on then Own.Sent n p id else Own.Unsent n p id) else Own.Done n p) ∷ [] })
+        → OwnInShape (record keeper { own = keeper.own ++ (if a then (if on then Own.Sent n p id else Own.Queued n p id) else Own.Done n p) ∷ [] })
     by true e true =
         next_keeps keeper (Own.Sent n p id) s
         (record { ids = inl refl; numbered = (same, tt); unreleased = λ j. no_release (is_qos2 p.qos) j (SenderItem.Sent n id) refl; online_sent = λ on. refl })
     by false e true =
-        next_keeps keeper (Own.Unsent n p id) s
-        (record { ids = inl refl; numbered = (same, tt); unreleased = λ j. no_release (is_qos2 p.qos) j (SenderItem.Waits n) refl; online_sent = λ on. absurd (both_ways keeper.is_online e on) })
+        next_keeps keeper (Own.Queued n p id) s
+        (record { ids = inl refl; numbered = (same, tt); unreleased = λ j. no_release (is_qos2 p.qos) j (SenderItem.Queued n) refl; online_sent = λ on. absurd (both_ways keeper.is_online e on) })
     by on e false =
         next_keeps keeper (Own.Done n p) s
-        (record { ids = inr refl; numbered = (same, tt); unreleased = λ j. no_release (is_qos2 p.qos) j (SenderItem.Finished n) refl; online_sent = λ on. refl })
+        (record { ids = inr refl; numbered = (same, tt); unreleased = λ j. no_release (is_qos2 p.qos) j (SenderItem.Done n) refl; online_sent = λ on. refl })
 
 -- ---- one more request
 

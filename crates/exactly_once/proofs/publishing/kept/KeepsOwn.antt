@@ -10,7 +10,7 @@ use Rattle.client_base.specs.Written.{sent_all}
 use Rattle.client_base.specs.Handled.{discarded, lost}
 use Rattle.exactly_once.specs.Inside.OwnShape.{OwnInShape}
 use Rattle.exactly_once.proofs.publishing.kept.Fewer.{IsFewer, fewer_itself, fewer_both, fewer_distinct, fewer_requests}
-use Rattle.exactly_once.proofs.publishing.kept.MoreOwn.{ids_sent, numbered_sent, unsent_sent, released_sent}
+use Rattle.exactly_once.proofs.publishing.kept.MoreOwn.{ids_sent, numbered_sent, queued_sent, released_sent}
 
 pub fewer_none : (xs : List ℕ) → IsFewer [] xs
 fewer_none [] = IsFewer.none
@@ -54,7 +54,7 @@ confirmed_keeps kept s =
       numbered = numbered_sent (length kept.earlier) kept.own s.numbered;
       releases_apart = s.releases_apart;
       releases_are = λ j. s.releases_are j ∙ released_sent j kept.own;
-      online_sent = λ e. unsent_sent kept.own;
+      online_sent = λ e. queued_sent kept.own;
     }
 
 pub discarded_keeps : (keeper : Keeper) (b : Bool) → OwnInShape keeper → OwnInShape (if b then discarded keeper else keeper)

@@ -10,18 +10,18 @@ use Rattle.client_base.specs.Keeper.{Own, Keeper, ids_of_own, ids_in_use}
 use Rattle.client_base.specs.State.{id_of_request}
 use Rattle.exactly_once.specs.Carried.{is_qos2}
 use Rattle.exactly_once.specs.Inside.Projections.{items_of_own}
-use Rattle.exactly_once.specs.Inside.OwnShape.{none_unsent}
+use Rattle.exactly_once.specs.Inside.OwnShape.{none_queued}
 use Rattle.exactly_once.proofs.publishing.Starting.{NoneWaits}
-use Rattle.exactly_once.proofs.publishing.Unsent.{not_busy}
+use Rattle.exactly_once.proofs.publishing.Queued.{not_busy}
 
 -- the items after another publication
 pub items_more : (own more : List Own) → items_of_own (own ++ more) ≡ items_of_own own ++ items_of_own more
 items_more [] more = refl
-items_more (Own.Unsent k p id ∷ own) more = by (is_qos2 p.qos) (items_more own more)
+items_more (Own.Queued k p id ∷ own) more = by (is_qos2 p.qos) (items_more own more)
   where
     by : (b : Bool) → items_of_own (own ++ more) ≡ items_of_own own ++ items_of_own more
-        → (if b then SenderItem.Waits k ∷ items_of_own (own ++ more) else items_of_own (own ++ more)) ≡ (if b then SenderItem.Waits k ∷ items_of_own own else items_of_own own) ++ items_of_own more
-    by true ih = ap (λ l. SenderItem.Waits k ∷ l) ih
+        → (if b then SenderItem.Queued k ∷ items_of_own (own ++ more) else items_of_own (own ++ more)) ≡ (if b then SenderItem.Queued k ∷ items_of_own own else items_of_own own) ++ items_of_own more
+    by true ih = ap (λ l. SenderItem.Queued k ∷ l) ih
     by false ih = ih
 items_more (Own.Sent k p id ∷ own) more = by (is_qos2 p.qos) (items_more own more)
   where
@@ -38,8 +38,8 @@ items_more (Own.Released k p id ∷ own) more = by (is_qos2 p.qos) (items_more o
 items_more (Own.Done k p ∷ own) more = by (is_qos2 p.qos) (items_more own more)
   where
     by : (b : Bool) → items_of_own (own ++ more) ≡ items_of_own own ++ items_of_own more
-        → (if b then SenderItem.Finished k ∷ items_of_own (own ++ more) else items_of_own (own ++ more)) ≡ (if b then SenderItem.Finished k ∷ items_of_own own else items_of_own own) ++ items_of_own more
-    by true ih = ap (λ l. SenderItem.Finished k ∷ l) ih
+        → (if b then SenderItem.Done k ∷ items_of_own (own ++ more) else items_of_own (own ++ more)) ≡ (if b then SenderItem.Done k ∷ items_of_own own else items_of_own own) ++ items_of_own more
+    by true ih = ap (λ l. SenderItem.Done k ∷ l) ih
     by false ih = ih
 
 -- nothing unsent, so nothing waits
@@ -47,12 +47,12 @@ skips : (b : Bool) (item : SenderItem ℕ) (items : List (SenderItem ℕ)) → N
 skips true item items n m = n
 skips false item items n m = m
 
-pub none_waits : (own : List Own) → none_unsent own ≡ true → NoneWaits (items_of_own own)
+pub none_waits : (own : List Own) → none_queued own ≡ true → NoneWaits (items_of_own own)
 none_waits [] e = tt
-none_waits (Own.Unsent k p id ∷ own) e = absurd (both_ways false refl e)
+none_waits (Own.Queued k p id ∷ own) e = absurd (both_ways false refl e)
 none_waits (Own.Sent k p id ∷ own) e = let n = none_waits own e in skips (is_qos2 p.qos) (SenderItem.Sent k id) (items_of_own own) n n
 none_waits (Own.Released k p id ∷ own) e = let n = none_waits own e in skips (is_qos2 p.qos) (SenderItem.Released k id) (items_of_own own) n n
-none_waits (Own.Done k p ∷ own) e = let n = none_waits own e in skips (is_qos2 p.qos) (SenderItem.Finished k) (items_of_own own) n n
+none_waits (Own.Done k p ∷ own) e = let n = none_waits own e in skips (is_qos2 p.qos) (SenderItem.Done k) (items_of_own own) n n
 
 -- the identifier that it gets is free
 pub new_is_free : (keeper : Keeper) → has_id (least_free (ids_in_use keeper)) (busy (items_of_own keeper.own)) ≡ false

@@ -11,11 +11,11 @@ use Rattle.client_base.specs.Handshakes.{own_at_pubrec, own_at_puback, own_at_pu
 use Rattle.exactly_once.specs.Carried.{is_qos2}
 use Rattle.exactly_once.specs.Inside.Projections.{items_of_own}
 use Rattle.exactly_once.specs.Inside.OwnShape.{AreNumberedFrom}
-use Rattle.exactly_once.proofs.publishing.Unsent.{not_busy}
+use Rattle.exactly_once.proofs.publishing.Queued.{not_busy}
 
 pub numbered_puback : (i n : ℕ) (own : List Own) → AreNumberedFrom n own → AreNumberedFrom n (map (own_at_puback i) own)
 numbered_puback i n [] h = tt
-numbered_puback i n (Own.Unsent k p id ∷ own) h = (h.0, numbered_puback i (suc n) own h.1)
+numbered_puback i n (Own.Queued k p id ∷ own) h = (h.0, numbered_puback i (suc n) own h.1)
 numbered_puback i n (Own.Sent k p id ∷ own) h = by ((i == id) && is_qos1 p.qos) (numbered_puback i (suc n) own h.1)
   where
     by : (b : Bool) → AreNumberedFrom (suc n) (map (own_at_puback i) own) → AreNumberedFrom n ((if b then Own.Done k p else Own.Sent k p id) ∷ map (own_at_puback i) own)
@@ -26,7 +26,7 @@ numbered_puback i n (Own.Done k p ∷ own) h = (h.0, numbered_puback i (suc n) o
 
 pub numbered_pubcomp : (i n : ℕ) (own : List Own) → AreNumberedFrom n own → AreNumberedFrom n (map (own_at_pubcomp i) own)
 numbered_pubcomp i n [] h = tt
-numbered_pubcomp i n (Own.Unsent k p id ∷ own) h = (h.0, numbered_pubcomp i (suc n) own h.1)
+numbered_pubcomp i n (Own.Queued k p id ∷ own) h = (h.0, numbered_pubcomp i (suc n) own h.1)
 numbered_pubcomp i n (Own.Sent k p id ∷ own) h = (h.0, numbered_pubcomp i (suc n) own h.1)
 numbered_pubcomp i n (Own.Released k p id ∷ own) h = by (i == id) (numbered_pubcomp i (suc n) own h.2)
   where
@@ -39,12 +39,12 @@ numbered_pubcomp i n (Own.Done k p ∷ own) h = (h.0, numbered_pubcomp i (suc n)
 pub numbered_pubrec : (i n : ℕ) (own : List Own) → AreNumberedFrom n own → IsDistinct (ids_of_own own) → (has_sent i (items_of_own own) ≡ true) ⊎ (has_id i (ids_of_own own) ≡ false)
     → AreNumberedFrom n (map (own_at_pubrec i) own)
 numbered_pubrec i n [] h d s = tt
-numbered_pubrec i n (Own.Unsent k p id ∷ own) h d s = (h.0, numbered_pubrec i (suc n) own h.1 d.1 (there s))
+numbered_pubrec i n (Own.Queued k p id ∷ own) h d s = (h.0, numbered_pubrec i (suc n) own h.1 d.1 (there s))
   where
-    there : (has_sent i (items_of_own (Own.Unsent k p id ∷ own)) ≡ true) ⊎ (has_id i (id ∷ ids_of_own own) ≡ false) → (has_sent i (items_of_own own) ≡ true) ⊎ (has_id i (ids_of_own own) ≡ false)
+    there : (has_sent i (items_of_own (Own.Queued k p id ∷ own)) ≡ true) ⊎ (has_id i (id ∷ ids_of_own own) ≡ false) → (has_sent i (items_of_own own) ≡ true) ⊎ (has_id i (ids_of_own own) ≡ false)
     there (inl e) = inl (skip (is_qos2 p.qos) e)
       where
-        skip : (b : Bool) → has_sent i (if b then SenderItem.Waits k ∷ items_of_own own else items_of_own own) ≡ true → has_sent i (items_of_own own) ≡ true
+        skip : (b : Bool) → has_sent i (if b then SenderItem.Queued k ∷ items_of_own own else items_of_own own) ≡ true → has_sent i (items_of_own own) ≡ true
         skip true e = e
         skip false e = e
     there (inr e) = inr (or_none (i == id) (has_id i (ids_of_own own)) e).1
@@ -62,7 +62,7 @@ numbered_pubrec i n (Own.Done k p ∷ own) h d s = (h.0, numbered_pubrec i (suc 
     there : (has_sent i (items_of_own (Own.Done k p ∷ own)) ≡ true) ⊎ (has_id i (ids_of_own own) ≡ false) → (has_sent i (items_of_own own) ≡ true) ⊎ (has_id i (ids_of_own own) ≡ false)
     there (inl e) = inl (skip (is_qos2 p.qos) e)
       where
-        skip : (b : Bool) → has_sent i (if b then SenderItem.Finished k ∷ items_of_own own else items_of_own own) ≡ true → has_sent i (items_of_own own) ≡ true
+        skip : (b : Bool) → has_sent i (if b then SenderItem.Done k ∷ items_of_own own else items_of_own own) ≡ true → has_sent i (items_of_own own) ≡ true
         skip true e = e
         skip false e = e
     there (inr e) = inr e

@@ -13,7 +13,7 @@ use Rattle.broker_spec.specs.Times.{entries_of}
 use Rattle.broker_spec.specs.Sends.{publish_output, repeated_output, all_started, resent_outputs}
 use Rattle.broker_spec.specs.Answers.{close_outputs, welcome}
 use Rattle.broker_spec.specs.AnswersInOrder.{answers_at}
-use Rattle.broker_spec.specs.NobodyLaws.{IsSteady}
+use Rattle.broker_spec.specs.NobodyTheorems.{IsSteady}
 use Rattle.broker_spec.specs.declared.command.Command.TheVariants as commands
 use Rattle.broker_spec.specs.declared.command.Output.{Output}
 use Rattle.broker_spec.specs.declared.command.Output.TheVariants.{Send}
@@ -43,14 +43,14 @@ resent_elsewhere x y n es e =
     pubrels (id ∷ ids) = goes_elsewhere x y (packets.Pubrel id) (map (λ id. Send y (packets.Pubrel id)) ids) e ∙ pubrels ids
 
     one : (entry : Entry) → sends_to x (repeated_output y n entry) ≡ []
-    one (Entry.Waits made p) = refl
-    one (Entry.Started made p id start) = by (start == n)
+    one (Entry.Queued made p) = refl
+    one (Entry.Sent made p id start) = by (start == n)
       where
         by : (b : Bool) → sends_to x (if b then [] else publish_output y true id p ∷ []) ≡ []
         by true = refl
         by false = rw e refl
     one (Entry.Released made p id start release) = refl
-    one (Entry.Finished made p id start release finish) = refl
+    one (Entry.Done made p id start release finish) = refl
 
     again : (es : List Entry) → sends_to x (flat_map (repeated_output y n) es) ≡ []
     again [] = refl

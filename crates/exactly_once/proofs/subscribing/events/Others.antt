@@ -8,7 +8,7 @@ use Rattle.broker_spec.specs.Sessions.{current_connection}
 use Rattle.broker_spec.specs.Owner.{owner_of}
 use Rattle.broker_spec.specs.Marks.{packet_mark, packet_mark_of}
 use Rattle.broker_spec.specs.Times.{entries_of}
-use Rattle.broker_spec.specs.NobodyLaws.{IsSteady}
+use Rattle.broker_spec.specs.NobodyTheorems.{IsSteady}
 use Rattle.broker_spec.proofs.ClientsInOrder.{same_is}
 use Rattle.broker_base.proofs.ConnectionsOfSessions.{same_turned}
 use Rattle.exactly_once.specs.Sides.{ClientConnection}

@@ -3,7 +3,7 @@ use Rattle.std.proofs.Common.{◌≡◌, ℕ, zero, suc, Some, refl, sym, subst}
 use Rattle.std.specs.Prelude.{slice_get}
 use Rattle.broker_spec.specs.Place.{Limits}
 use Rattle.broker_spec.specs.Commands.{place_of}
-use Rattle.broker_spec.specs.NobodyLaws.{IsSteady}
+use Rattle.broker_spec.specs.NobodyTheorems.{IsSteady}
 use Rattle.broker_spec.specs.declared.command.Command.{Command}
 use Rattle.exactly_once.specs.HandshakeInvariant.{IsGood}
 use Rattle.client_base.specs.Keeper.{Written}

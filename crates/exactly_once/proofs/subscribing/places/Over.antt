@@ -31,8 +31,8 @@ pub entries_over : (limits : Limits) (place : Place) (past : Past) (c : Client) 
 unfolding entries_of clean_session_of
 entries_over limits place past c (inl e) a s o r k = entries_none limits place past c a e ∙ sym (no_entries limits past c e)
 entries_over limits place past c (inr e) a s o r k =
-    let all = answered_by place.command place.mark (length past) c (entries_of limits past c) ++ map (Entry.Waits (length past)) (queued (copies_at place past c)) in
+    let all = answered_by place.command place.mark (length past) c (entries_of limits past c) ++ map (Entry.Queued (length past)) (queued (copies_at place past c)) in
     goes_on (accepts place.command place.mark c) (expels place.command c) (ends_any place c (current_connection past c)) (clean_session_of past c) (started (window_at limits (place ∷ past)) (length past) (current_connection (place ∷ past) c) all) a s e
     ∙ none_starts (window_at limits (place ∷ past)) (length past) (current_connection (place ∷ past) c) all o
-    ∙ ap₂ (λ (l : List Entry) ps. l ++ map (Entry.Waits (length past)) (queued ps)) r k
+    ∙ ap₂ (λ (l : List Entry) ps. l ++ map (Entry.Queued (length past)) (queued ps)) r k
     ∙ append-nil (entries_of limits past c)

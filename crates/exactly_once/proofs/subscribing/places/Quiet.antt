@@ -7,7 +7,7 @@ use Rattle.broker_spec.specs.Sessions.{accepts, ends_any, newest_connection, cur
 use Rattle.broker_spec.specs.Entries.{Entry, copies_at, queued}
 use Rattle.broker_spec.specs.Times.{answered_by, start_all, started, window_at, entries_of}
 use Rattle.broker_spec.specs.Commands.{is_start}
-use Rattle.broker_spec.specs.NobodyLaws.{IsSteady}
+use Rattle.broker_spec.specs.NobodyTheorems.{IsSteady}
 use Rattle.broker_spec.proofs.NothingWaits.{IsFull, full-at}
 use Rattle.exactly_once.proofs.Starts.{rows_started}
 use Rattle.exactly_once.proofs.subscribing.Adding.{rows_at}
@@ -36,29 +36,29 @@ no_entries limits [] c e = refl
 no_entries limits (place ∷ past) c e =
     none_kept (clean_session_of (place ∷ past) c) (begins place past c) []
     (started (window_at limits (place ∷ past)) (length past) (current_connection (place ∷ past) c)
-    (answered_by place.command place.mark (length past) c (entries_of limits past c) ++ map (Entry.Waits (length past)) (queued (copies_at place past c)))) e
+    (answered_by place.command place.mark (length past) c (entries_of limits past c) ++ map (Entry.Queued (length past)) (queued (copies_at place past c)))) e
 
 -- if each that waits has a full window before it, nothing starts
 pub full_stays : (w n : ℕ) (ids : List ℕ) (es : List Entry) → IsFull w (length ids) es → start_all w n ids es ≡ es
 full_stays w n ids [] f = refl
-full_stays w n ids (Entry.Waits made p ∷ es) f = ap (λ b. if b then Entry.Started made p (least_free ids) n ∷ start_all w n (least_free ids ∷ ids) es else Entry.Waits made p ∷ es) (shut (length ids) w f.0)
+full_stays w n ids (Entry.Queued made p ∷ es) f = ap (λ b. if b then Entry.Sent made p (least_free ids) n ∷ start_all w n (least_free ids ∷ ids) es else Entry.Queued made p ∷ es) (shut (length ids) w f.0)
   where
     shut : (k w : ℕ) → w ≤ k → nat_lt k w ≡ false
     shut k w h = grind arith
-full_stays w n ids (Entry.Started made p id start ∷ es) f = ap (λ l. Entry.Started made p id start ∷ l) (full_stays w n (id ∷ ids) es f)
+full_stays w n ids (Entry.Sent made p id start ∷ es) f = ap (λ l. Entry.Sent made p id start ∷ l) (full_stays w n (id ∷ ids) es f)
 full_stays w n ids (Entry.Released made p id start release ∷ es) f = ap (λ l. Entry.Released made p id start release ∷ l) (full_stays w n (id ∷ ids) es f)
-full_stays w n ids (Entry.Finished made p id start release finish ∷ es) f = ap (λ l. Entry.Finished made p id start release finish ∷ l) (full_stays w n ids es f)
+full_stays w n ids (Entry.Done made p id start release finish ∷ es) f = ap (λ l. Entry.Done made p id start release finish ∷ l) (full_stays w n ids es f)
 
 -- and no row of the handshake starts
 pub full_rows : (w : ℕ) (ids : List ℕ) (es : List Entry) → IsFull w (length ids) es → rows_started w ids es ≡ []
 full_rows w ids [] f = refl
-full_rows w ids (Entry.Waits made p ∷ es) f = rw (shut (length ids) w f.0) refl
+full_rows w ids (Entry.Queued made p ∷ es) f = rw (shut (length ids) w f.0) refl
   where
     shut : (k w : ℕ) → w ≤ k → nat_lt k w ≡ false
     shut k w h = grind arith
-full_rows w ids (Entry.Started made p id start ∷ es) f = full_rows w (id ∷ ids) es f
+full_rows w ids (Entry.Sent made p id start ∷ es) f = full_rows w (id ∷ ids) es f
 full_rows w ids (Entry.Released made p id start release ∷ es) f = full_rows w (id ∷ ids) es f
-full_rows w ids (Entry.Finished made p id start release finish ∷ es) f = full_rows w ids es f
+full_rows w ids (Entry.Done made p id start release finish ∷ es) f = full_rows w ids es f
 
 -- by the connection
 starts_none : (w n : ℕ) (current : Option ConnectionName) (es : List Entry) → (current ≡ None) ⊎ IsFull w 0 es → (started w n current es ≡ es) × (rows_at w current es ≡ [])

@@ -1,5 +1,5 @@
 use Rattle.std.proofs.Common.{◌≡◌, ◌⊎◌}
-use Rattle.jobs.specs.Failing.{IsTable}
+use Rattle.jobs.specs.Failures.{IsTable}
 use Rattle.jobs.specs.declared.job_error.JobError.{JobError}
 use Rattle.jobs.specs.declared.job_error.JobError.TheVariants as errors
 use Rattle.jobs.proofs.JobsEnd.{at_work, by_table, on_ok}

@@ -1,7 +1,7 @@
 use Rattle.std.proofs.Common.{inl, inr, ap, sym, ◌∙◌, arith}
 use Rattle.std.specs.Prelude.{nat_lt, ◌==◌}
 use Rattle.std.proofs.lemmas.Bool.{eqb-true, lt-ltb, ltb-true}
-use Rattle.master.specs.Inside.Losing.{input_of}
+use Rattle.master.specs.Inside.Losses.{input_of}
 use Rattle.master.proofs.Calling.{Called, called_as, proposes_called, ticks_called, took_in}
 use Rattle.master.proofs.inputs.step_replica.Goals as goal
 use Rattle.master.proofs.inputs.step_replica.Goals.{in-Received, in-Proposed, in-Ticked}

@@ -35,7 +35,7 @@ fn the_log_goes_over(rt: HostRuntime) {
     );
 }
 
-// Says whether ballot 2 is given. Five messages are handed on.
+// Returns true if ballot 2 is given. Five messages are handed on.
 fn hand_over(pair: &mut Pair, alloc: Global) -> bool {
     let is_given = give_ballot_two(pair, alloc, &[1]);
     for _step in 0..5 {

@@ -7,7 +7,7 @@ use ballot_base::errors::ProposeError;
 use ballot_base::{Body, Effect, Role};
 use machine::{Tally, TallyCommand};
 
-// Says whether a replica takes these commands.
+// Returns true if a replica takes these commands.
 fn take(
     replica: &mut Replica<Tally>,
     commands: &[TallyCommand],
@@ -198,7 +198,7 @@ fn a_backup_takes_places_in_order(rt: HostRuntime) {
     );
 }
 
-// Says whether a replica takes no command, because it is no active primary.
+// Returns true if a replica takes no command, because it is no active primary.
 fn is_not_active(replica: &mut Replica<Tally>, out: &mut Vec<Effect<TallyCommand, u64>>) -> bool {
     match replica.propose(TallyCommand::Add(1), out) {
         Err(ProposeError::NotActive) => true,
@@ -206,7 +206,7 @@ fn is_not_active(replica: &mut Replica<Tally>, out: &mut Vec<Effect<TallyCommand
     }
 }
 
-// Says whether a backup that holds a place says nothing to its Commit, nor at a tick.
+// Returns true if a backup that holds a place says nothing to its Commit, nor at a tick.
 fn commit_in_silence(
     backup: &mut Replica<Tally>,
     out: &mut Vec<Effect<TallyCommand, u64>>,

@@ -12,7 +12,7 @@ use std::alloc::Global;
 // The total 5, frozen.
 const FIVE: &[u8] = &[0, 0, 0, 0, 0, 0, 0, 5];
 
-// Says whether this is the base of the log, and these are the bytes there.
+// Returns true if this is the base of the log, and these are the bytes there.
 fn is_cut_at(replica: &Replica<Tally>, base: u64, bytes: &[u8]) -> bool {
     let (at, snapshot) = replica.snapshot();
     at == base && snapshot == bytes
@@ -101,7 +101,7 @@ pub fn read_snapshots(
 }
 
 // Gives a replica the Install of ballot 2 with a log that has this snapshot, base 2 and one
-// command. Says whether the replica continues.
+// command. Returns true if the replica continues.
 fn install(
     replica: &mut Replica<Tally>,
     out: &mut Vec<Effect<TallyCommand, u64>>,

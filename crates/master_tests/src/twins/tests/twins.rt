@@ -113,22 +113,22 @@ impl Twins {
         }
     }
 
-    // Says whether both have sent as many messages, returned as many outputs and agreed on as many
-    // commands.
+    // Returns true if both have sent as many messages, returned as many outputs and agreed on as
+    // many commands.
     fn count_alike(&self) -> bool {
         self.cutting.sent().len() == self.keeping.sent().len()
             && self.cutting.left().len() == self.keeping.left().len()
             && self.cutting.agreed_len() == self.keeping.agreed_len()
     }
 
-    // Says whether an event has the same result in both, and both count alike then.
+    // Returns true if an event has the same result in both, and both count alike then.
     fn let_happen(&mut self, event: &Event<TallyCommand>) -> bool {
         let one = self.cutting.step(event).is_ok();
         let other = self.keeping.step(event).is_ok();
         one == other && self.count_alike()
     }
 
-    // Has a node cut its log now and then. Says whether nothing is seen of it.
+    // Has a node cut its log now and then. Returns true if nothing is seen of it.
     fn cut_now_and_then(&mut self) -> bool {
         if self.draw(5) == 0 {
             let node = self.draw_node();
@@ -152,7 +152,7 @@ impl Twins {
         None
     }
 
-    // Says whether both have the same agreed list. The group that cuts nothing keeps all of it.
+    // Returns true if both have the same agreed list. The group that cuts nothing keeps all of it.
     fn agree(&self) -> bool {
         let (recorded, rest) = self.cutting.agreed();
         let (none, kept) = self.keeping.agreed();
@@ -200,7 +200,7 @@ impl Twins {
     }
 }
 
-// Says whether these outputs are the same, with their places.
+// Returns true if these outputs are the same, with their places.
 fn gave_the_same(one: &[Effect<TallyCommand, u64>], other: &[Effect<TallyCommand, u64>]) -> bool {
     one.len() == other.len()
         && one.iter().zip(other).all(|(mine, yours)| match (mine, yours) {

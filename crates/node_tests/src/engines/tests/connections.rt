@@ -8,7 +8,7 @@ use ballot_base::{Config, Members};
 use machine::Memory;
 use mailbox::{Inbox, Lane, Naming, Receiver};
 use node_base::connection::{
-    Ending, Flow, Hearer, Outflow, Outlet, Tap, Unwritten, report_connection, write_out,
+    Ending, Flow, Outflow, Outlet, ReportSink, Tap, Unwritten, report_connection, write_out,
 };
 use node_base::devices::Counted;
 use std::alloc::Global;
@@ -34,10 +34,10 @@ struct OneLane<J: Naming> {
     is_open: bool,
 }
 
-impl<J: Naming> Hearer for OneLane<J> {
-    ghost heard = { λ hearer. hearer.lane.sent };
+impl<J: Naming> ReportSink for OneLane<J> {
+    ghost heard = { λ sink. sink.lane.sent };
 
-    ghost lets = { λ hearer answer. answer ≡ hearer.is_open };
+    ghost lets = { λ sink answer. answer ≡ sink.is_open };
 
     fn now<R: Clock>(&self, _rt: &R) -> u64 {
         5
@@ -162,8 +162,8 @@ fn take_one<J: Naming, R: Wait>(rt: &R, receiver: &mut Receiver<Item, J>) -> Opt
     receiver.take(rt, receipt)
 }
 
-// Takes an item of the connection, and keeps its bytes. Says whether it is not the last; none if it
-// is no such item.
+// Takes an item of the connection, and keeps its bytes. Returns true if it is not the last; none if
+// it is no such item.
 fn take<J: Naming, R: Wait>(
     rt: &R,
     receiver: &mut Receiver<Item, J>,
@@ -267,7 +267,7 @@ fn sole(alloc: Global) -> Option<Spring> {
     Some(Spring { node })
 }
 
-// Says whether the node has an answer to a CONNECT for the port.
+// Returns true if the node has an answer to a CONNECT for the port.
 fn connect(alloc: Global, spring: &mut Spring) -> bool {
     let mut effects = Vec::new(alloc);
     spring.node.step(Item::Opened(PORT, 0), &mut effects);
@@ -336,7 +336,7 @@ fn came_instead<R: Wait>(
     }
 }
 
-// Says whether the first bytes of all, this many, are written.
+// Returns true if the first bytes of all, this many, are written.
 fn has_written(sink: &Sink, count: usize) -> bool {
     sink.bytes().len() == count && ALL.starts_with(sink.bytes())
 }

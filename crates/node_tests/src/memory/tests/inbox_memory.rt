@@ -8,7 +8,7 @@ use std::alloc::Global;
 use std::marker::Brand;
 use std::sync::Wait;
 
-// Says whether a lane sends an item.
+// Returns true if a lane sends an item.
 fn send<J: Naming, R: Wait>(rt: &R, lanes: &mut [Lane<u64, J>], index: usize, item: u64) -> bool {
     match lanes.get_mut(index) {
         Some(lane) => {
@@ -19,7 +19,7 @@ fn send<J: Naming, R: Wait>(rt: &R, lanes: &mut [Lane<u64, J>], index: usize, it
     }
 }
 
-// Says whether this is taken.
+// Returns true if this is taken.
 fn take<J: Naming, R: Wait>(
     rt: &R,
     receiver: &mut Receiver<u64, J>,
@@ -29,8 +29,8 @@ fn take<J: Naming, R: Wait>(
     receiver.take(rt, receipt) == wanted
 }
 
-// Says whether one item of each lane was taken, and one of the second is left over; none if memory
-// was refused for the question.
+// Returns true if one item of each lane was taken, and one of the second is left over; none if
+// memory was refused for the question.
 fn settle<J: Naming, R: Wait>(
     rt: &R,
     alloc: Global,
@@ -50,7 +50,7 @@ fn settle<J: Naming, R: Wait>(
     Some(counted.as_slice() == [1, 1].as_slice() && over.as_slice() == [(1, 21)].as_slice())
 }
 
-// Says whether all is settled, if it is asked again once memory was refused.
+// Returns true if all is settled, if it is asked again once memory was refused.
 fn is_settled<J: Naming, R: Wait>(
     rt: &R,
     alloc: Global,

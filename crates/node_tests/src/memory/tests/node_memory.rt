@@ -39,7 +39,7 @@ fn piece(alloc: Global) -> Option<Piece> {
     }
 }
 
-// Says whether the lane sends an item.
+// Returns true if the lane sends an item.
 fn send<J: NodeNaming, R: Wait>(rt: &R, lanes: &mut [Lane<Item, J>], item: Item) -> bool {
     match lanes.first_mut() {
         Some(lane) => {
@@ -50,7 +50,7 @@ fn send<J: NodeNaming, R: Wait>(rt: &R, lanes: &mut [Lane<Item, J>], item: Item)
     }
 }
 
-// Says whether the lane sends that a connection is opened, the CONNECT, and a tick.
+// Returns true if the lane sends that a connection is opened, the CONNECT, and a tick.
 fn send_all<J: NodeNaming, R: Wait>(rt: &R, alloc: Global, lanes: &mut [Lane<Item, J>]) -> bool {
     match piece(alloc) {
         Some(piece) => {
@@ -62,7 +62,7 @@ fn send_all<J: NodeNaming, R: Wait>(rt: &R, alloc: Global, lanes: &mut [Lane<Ite
     }
 }
 
-// Says whether an item is taken, or is not, with no effect on other nodes.
+// Returns true if an item is taken, or is not, with no effect on other nodes.
 fn take<J: NodeNaming, R: Wait>(
     rt: &R,
     alloc: Global,
@@ -84,8 +84,8 @@ fn look<J: NodeNaming>(state: &mut NodeState<J>, out: &mut Vec<u8>) -> Option<Ha
     }
 }
 
-// Says whether the CONNECT is answered, or one loss is counted. A connection that is open has its
-// answer.
+// Returns true if the CONNECT is answered, or one loss is counted. A connection that is open has
+// its answer.
 fn is_answered<J: NodeNaming>(alloc: Global, state: &mut NodeState<J>) -> bool {
     let mut out = Vec::new(alloc);
     let is_whole = match look(state, &mut out) {
@@ -119,14 +119,14 @@ fn first_fault<J: NodeNaming, R: Wait>(
     }
 }
 
-// Says whether three items were taken, and the last tick is left over.
+// Returns true if three items were taken, and the last tick is left over.
 fn has_three_taken(report: &Report) -> bool {
     report.taken.as_slice() == [3].as_slice()
         && report.left.len() == 1
         && matches!(report.left.first(), Some((0, Item::Tick(2))))
 }
 
-// Says whether the node's report says this, if there is memory for it.
+// Returns true if the node's report says this, if there is memory for it.
 fn close<J: NodeNaming, R: Wait>(
     rt: &R,
     alloc: Global,

@@ -54,7 +54,7 @@ enum Order {
     Expel,
 }
 
-// Says whether an item is this order.
+// Returns true if an item is this order.
 fn is_order(item: &Item, order: Order) -> bool {
     match (item, order) {
         (Item::Crash, Order::Crash) => true,

@@ -160,7 +160,7 @@ fn a_node_that_sleeps_is_woken(rt: HostRuntime) -> Result<(), Fail> {
 // So long a thread sleeps that nobody wakes: a test that fails takes as long.
 const SLEEP_SECONDS: u64 = 30;
 
-// Says whether the thread of a node that dozes is woken: its sleep ends before its time.
+// Returns true if the thread of a node that dozes is woken: its sleep ends before its time.
 fn is_woken<R: Wait + Clock>(rt: &R, peer: &Peer) -> Option<bool> {
     let start = Instant::now(rt).ok()?;
     peer.sleep(rt, Duration::from_secs(SLEEP_SECONDS));
@@ -212,7 +212,7 @@ fn a_wake_before_the_sleep_ends_it(rt: HostRuntime) -> Result<(), Fail> {
     Ok(())
 }
 
-// Sleeps twenty times for no time, and nobody wakes the node. Says whether that ends in time.
+// Sleeps twenty times for no time, and nobody wakes the node. Returns true if that ends in time.
 fn sleep_in_time<R: Wait + Clock>(rt: &R, peer: &Peer) -> Option<bool> {
     let start = Instant::now(rt).ok()?;
     for _ in 0..20u8 {

@@ -2,7 +2,7 @@ use Rattle.std.proofs.Common.{refl}
 use lib.Utf8.{encode}
 use Rattle.std.specs.Str.{is_utf8, chars}
 use Rattle.packet_base.specs.Lists.{items_of}
-use Rattle.packet_base.specs.Reading.{number_at, id_at, text_at, length_at}
+use Rattle.packet_base.specs.Readers.{number_at, id_at, text_at, length_at}
 use Rattle.packet_base.specs.TopicFields.{topic_at, filter_at}
 use Rattle.packet.specs.Connect.{connect_of}
 use Rattle.packet.specs.Delivery.{delivery_at}

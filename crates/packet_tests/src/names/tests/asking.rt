@@ -3,7 +3,7 @@
 use std::alloc::Global;
 use topics::{Filter, MalformedKind, TopicName, matches};
 
-/// Says whether the filter matches the topic; none if one of the texts is refused.
+/// Returns true if the filter matches the topic; none if one of the texts is refused.
 pub fn answer(alloc: Global, filter: &str, topic: &str) -> Option<bool> {
     let filter = Filter::new(alloc, filter).ok()?;
     let topic = TopicName::new(alloc, topic).ok()?;

@@ -70,7 +70,7 @@ fn is_name_printed(alloc: Global, name: &TopicName, wanted: &str) -> bool {
     }
 }
 
-// Says whether a later name has an equal copy and comes after this one, which is another.
+// Returns true if a later name has an equal copy and comes after this one, which is another.
 fn is_name_before(alloc: Global, name: &TopicName, later: &str) -> bool {
     match TopicName::new(alloc, later) {
         Ok(later) => is_name_copied(&later) && *name < later && *name != later,

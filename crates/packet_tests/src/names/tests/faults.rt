@@ -16,7 +16,7 @@ const FILTERS: &[&str] = &[
     "a b",
 ];
 
-// Says whether a text is a Topic Filter, which gives it back.
+// Returns true if a text is a Topic Filter, which gives it back.
 fn is_filter(alloc: Global, text: &str) -> bool {
     match Filter::new(alloc, text) {
         Ok(filter) => filter.as_str() == text,

@@ -1,5 +1,5 @@
 use Rattle.std.proofs.Common.{◌≡◌, ◌++◌, ◌∷◌, arith, decimal, get_or, rules}
-use Rattle.play.proofs.WaysTold.{one_more_member}
+use Rattle.play.proofs.RecoveriesTold.{one_more_member}
 use Rattle.play.proofs.event_lines.write_others.Goals as goal
 
 pub loop-member-preserved : goal.loop-member-preserved

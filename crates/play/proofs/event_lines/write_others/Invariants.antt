@@ -1,5 +1,5 @@
 use Rattle.std.proofs.Common.{◌≡◌, ◌++◌, take}
-use Rattle.play.specs.Ways.{more_members}
+use Rattle.play.specs.Recoveries.{more_members}
 use Rattle.play.proofs.event_lines.write_others.Given as goal
 
 abbrev pub invariant-loop-member : goal.invariant-loop-member

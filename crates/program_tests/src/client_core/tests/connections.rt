@@ -14,7 +14,7 @@ fn after_publish(alloc: Global, bytes: &[u8]) -> Result<Vec<u8>, AllocError> {
     Ok(piece)
 }
 
-// Says whether this piece, a PUBLISH and more, ends the connection, and the PUBLISH stays
+// Returns true if this piece, a PUBLISH and more, ends the connection, and the PUBLISH stays
 // accepted.
 fn is_the_end<'a>(alloc: Global, piece: &'a [u8], cause: ClientError) -> Result<bool, Fault<'a>> {
     let rows: [Row<'a>; 4] = [

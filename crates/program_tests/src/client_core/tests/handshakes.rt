@@ -145,7 +145,7 @@ struct AcceptedFault<'a> {
     came: Option<Came>,
 }
 
-// Says whether a publication of the first session shows these fields.
+// Returns true if a publication of the first session shows these fields.
 fn shows(one: &Accepted, shown: Shown<'_>) -> bool {
     let (qos, retain, topic, payload) = shown;
     one.session == 1

@@ -44,15 +44,15 @@ fn reopen(client: &mut ClientCore, alloc: Global, was_accepted: bool) -> bool {
     opened && accepted && take_written(client, alloc).is_some()
 }
 
-// Says whether a client shows itself as after `lose_connection`, and comes back.
+// Returns true if a client shows itself as after `lose_connection`, and comes back.
 fn is_as_after_loss(client: &mut ClientCore, alloc: Global, before: Shown) -> bool {
     shown_by(client) == offline(before)
         && give(client, NOTHING) == Some(ClientError::NotActive)
         && reopen(client, alloc, before.2)
 }
 
-// Says whether nothing is written after this act ran out of memory, and nothing has changed, or the
-// client is as after `lose_connection` if bytes were read.
+// Returns true if nothing is written after this act ran out of memory, and nothing has changed, or
+// the client is as after `lose_connection` if bytes were read.
 fn is_unchanged_or_lost(
     client: &mut ClientCore,
     alloc: Global,
@@ -140,7 +140,7 @@ fn a_call_without_memory_is_done_again(rt: HostRuntime) {
     assert_eq!(rt; taken(&mut client), (3, 0));
 }
 
-// Opens a connection, and tries once more if memory ran out. Says whether one is open.
+// Opens a connection, and tries once more if memory ran out. Returns true if one is open.
 fn is_open(client: &mut ClientCore) -> bool {
     open(client).is_none() || open(client).is_none()
 }
@@ -167,7 +167,7 @@ const PUBLISHES: &[u8] = &[
 
 const PUBRECS: &[u8] = &[0x50, 0x02, 0x00, 0x01, 0x50, 0x02, 0x00, 0x02];
 
-// Says whether the client wrote PUBRECs for this many publications.
+// Returns true if the client wrote PUBRECs for this many publications.
 fn wrote_pubrecs(client: &mut ClientCore, alloc: Global, count: usize) -> bool {
     match take_written(client, alloc) {
         Some(out) => PUBRECS.starts_with(&out) && out.len() / 4 == count,
@@ -175,7 +175,7 @@ fn wrote_pubrecs(client: &mut ClientCore, alloc: Global, count: usize) -> bool {
     }
 }
 
-// Says whether a client that found no memory is lost, and answers both when they come again.
+// Returns true if a client that found no memory is lost, and answers both when they come again.
 fn answer_again(client: &mut ClientCore, alloc: Global) -> bool {
     !client.is_connected()
         && reopen(client, alloc, true)

@@ -107,7 +107,7 @@ const FORGETS: &[Row<'static>] = &[
     (Act::Bytes(NOTHING), None, PUBREC, 0, 2),
 ];
 
-// Says whether a client is online, and the number of the session that accepted last.
+// Returns true if a client is online, and the number of the session that accepted last.
 fn last_session(client: &ClientCore) -> (bool, Option<u64>) {
     match client.accepted() {
         [.., last] => (client.is_connected(), Some(last.session)),

@@ -173,7 +173,7 @@ pub fn take_written(client: &mut ClientCore, alloc: Global) -> Option<Vec<u8>> {
     }
 }
 
-/// Says whether a client wrote these bytes.
+/// Returns true if a client wrote these bytes.
 pub fn wrote(client: &mut ClientCore, alloc: Global, wanted: &[u8]) -> bool {
     match take_written(client, alloc) {
         Some(out) => out.as_slice() == wanted,

@@ -52,7 +52,12 @@ const WAYS: &[(&[&str; 2], &[u8], &str, u64, u64)] = &[
 ];
 
 // Returns the lines of a way out.
-fn way_of(alloc: Global, script: &str, members: &[u8], client: &str) -> Result<Vec<u8>, PlayError> {
+fn recovery_of(
+    alloc: Global,
+    script: &str,
+    members: &[u8],
+    client: &str,
+) -> Result<Vec<u8>, PlayError> {
     let client = ClientId::new(alloc, client).ok().ok_or(PlayError::Memory)?;
     let mut way = Vec::new(alloc);
     escape(alloc, script.as_bytes(), members, &client, &mut way)?;
@@ -61,7 +66,7 @@ fn way_of(alloc: Global, script: &str, members: &[u8], client: &str) -> Result<V
 
 // Returns the transcript of a script that is followed by its way out.
 fn played(alloc: Global, script: &str, members: &[u8], client: &str) -> Result<Vec<u8>, PlayError> {
-    let way = way_of(alloc, script, members, client)?;
+    let way = recovery_of(alloc, script, members, client)?;
     let lines = str::from_utf8(way.as_slice()).unwrap_or("not UTF-8");
     let whole = format!(in alloc; "{script}{lines}")?;
     transcript_of(alloc, whole.as_str())
@@ -86,9 +91,9 @@ fn idle_lines(transcript: &str) -> usize {
 #[test]
 fn ways_have_their_lines(rt: HostRuntime) {
     let script = ANSWER_WAITS_FOR_THE_BACKUP[0];
-    let alone = way_of(rt.alloc(), script, &[2], "a");
+    let alone = recovery_of(rt.alloc(), script, &[2], "a");
     assert_eq!(rt; text_of(&alone), ALONE);
-    let both = way_of(rt.alloc(), script, &[1, 2], "a");
+    let both = recovery_of(rt.alloc(), script, &[1, 2], "a");
     assert_eq!(rt; text_of(&both), BOTH);
 }
 
@@ -116,9 +121,9 @@ const NO_WAYS: &[(&[u8], &str, PlayError)] = &[
 fn a_refused_way_has_its_reason(rt: HostRuntime) {
     let script = ANSWER_WAITS_FOR_THE_BACKUP[0];
     for (members, client, error) in NO_WAYS {
-        let refused = way_of(rt.alloc(), script, members, client).err();
+        let refused = recovery_of(rt.alloc(), script, members, client).err();
         assert_eq!(rt; refused, Some(*error));
     }
-    let bad = way_of(rt.alloc(), "world 1 1 1 a\nup 1\n", &[1], "a").err();
+    let bad = recovery_of(rt.alloc(), "world 1 1 1 a\nup 1\n", &[1], "a").err();
     assert_eq!(rt; bad, Some(PlayError::Line(2)));
 }

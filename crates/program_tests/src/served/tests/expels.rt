@@ -54,7 +54,7 @@ const CONNECT: &[u8] = b"\x10\x0D\x00\x04MQTT\x04\x02\x00\x00\x00\x01p";
 // CONNACK: accepted, without a session.
 const ACCEPTED: [u8; 4] = [0x20, 2, 0, 0];
 
-// Says whether client `p` is accepted on this stream, of which each read ends after ten seconds.
+// Returns true if client `p` is accepted on this stream, of which each read ends after ten seconds.
 fn is_accepted(stream: &mut TcpStream) -> bool {
     let mut answer = [0; 4];
     stream
@@ -65,7 +65,7 @@ fn is_accepted(stream: &mut TcpStream) -> bool {
         && answer == ACCEPTED
 }
 
-// Says whether the node ends this stream.
+// Returns true if the node ends this stream.
 fn is_closed(stream: &mut TcpStream) -> bool {
     let mut byte = [0; 1];
     matches!(stream.read(&mut byte), Ok(0))

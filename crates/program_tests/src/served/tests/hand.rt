@@ -18,7 +18,7 @@ pub fn text_of(written: &[u8]) -> &str {
     str::from_utf8(written).unwrap_or("not UTF-8")
 }
 
-/// Gives these orders. Says whether that succeeds.
+/// Gives these orders. Returns true if that succeeds.
 pub fn write_orders(orders: &mut PipeWriter, lines: &str) -> bool {
     orders.write_all(lines.as_bytes()).is_ok()
 }

@@ -97,7 +97,7 @@ where
     *part = Part::Ended(is_well);
 }
 
-// Says whether `serve` gives the wanted answers to the orders, and ends with status 0.
+// Returns true if `serve` gives the wanted answers to the orders, and ends with status 0.
 fn serve<R>(rt: &R, server: &Server, orders: PipeReader) -> bool
 where
     R: Files + Threads + Wait + Clock + Sync + AllocGlobal,
@@ -109,7 +109,8 @@ where
     }
 }
 
-// Says whether `serve` gives the wanted answers to the orders of this input, and ends with status
+// Returns true if `serve` gives the wanted answers to the orders of this input, and ends with
+// status
 // 0.
 fn are_answered<R>(rt: &R, server: &Server, input: &mut BufReader<PipeReader>) -> bool
 where
@@ -123,7 +124,7 @@ where
     status == 0 && output.as_slice() == ANSWERS.as_bytes()
 }
 
-// Says whether something is kept, and `sub`, which comes after it, reports nothing and ends with
+// Returns true if something is kept, and `sub`, which comes after it, reports nothing and ends with
 // status 0.
 fn keep_and_hear<R>(rt: &R, server: &Server, printed: &Shown) -> bool
 where
@@ -138,7 +139,7 @@ where
     }
 }
 
-// Says whether `sub` reports nothing, and ends with status 0.
+// Returns true if `sub` reports nothing, and ends with status 0.
 fn hear<R>(rt: &R, address: &str, printed: &Shown) -> bool
 where
     R: Files + Threads + Wait + Clock + Sync + AllocGlobal,
@@ -151,8 +152,8 @@ where
     end_without_error(rt, words.as_slice(), &mut printed.output(rt))
 }
 
-// Says whether `pub` publishes once the subscriber has its subscription, and the orders are given
-// once that is printed.
+// Returns true if `pub` publishes once the subscriber has its subscription, and the orders are
+// given once that is printed.
 fn publish_and_give<R>(rt: &R, server: &Server, printed: &Shown, orders: &mut PipeWriter) -> bool
 where
     R: Files + Threads + Wait + Clock + Sync + AllocGlobal,
@@ -164,7 +165,7 @@ where
         && write_orders(orders, ORDERS)
 }
 
-// Says whether `pub` publishes at the address that the server reports.
+// Returns true if `pub` publishes at the address that the server reports.
 fn publish_to<R>(rt: &R, server: &Server) -> bool
 where
     R: Files + Threads + Wait + Clock + Sync + AllocGlobal,
@@ -176,7 +177,7 @@ where
     }
 }
 
-// Says whether `pub` ends with status 0, prints nothing, and reports nothing.
+// Returns true if `pub` ends with status 0, prints nothing, and reports nothing.
 fn publish<R>(rt: &R, address: &str) -> bool
 where
     R: Files + Threads + Wait + Clock + Sync + AllocGlobal,
@@ -199,7 +200,7 @@ where
     end_without_error(rt, words.as_slice(), &mut output) && output.is_empty()
 }
 
-// Says whether a command line ends with status 0, and reports no error.
+// Returns true if a command line ends with status 0, and reports no error.
 fn end_without_error<R, O>(rt: &R, words: &[&str], output: &mut O) -> bool
 where
     R: Files + Threads + Wait + Clock + Sync + AllocGlobal,

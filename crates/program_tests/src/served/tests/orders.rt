@@ -46,7 +46,7 @@ pub(super) const TABLE: &str = "members = [1, 2]\nprimary = 1\n\
     [[node]]\nid = 2\nlisten = \"127.0.0.1:0\"\n";
 
 // Serves the nodes of the table, with orders that come by a pipe. Takes down what they report and
-// answer, and their error. Says whether there is none.
+// answer, and their error. Returns true if there is none.
 fn serve<R>(rt: &R, orders: PipeReader, written: &Written) -> bool
 where
     R: Threads + Wait + Clock + Sync + AllocGlobal,
@@ -129,7 +129,7 @@ where
     }
 }
 
-/// Has `pub` publish what the server is to keep, and takes down its error. Says whether there is
+/// Has `pub` publish what the server is to keep, and takes down its error. Returns true if there is
 /// none.
 pub(super) fn keep_or_print<R>(rt: &R, address: &str, told: &Shown) -> bool
 where

@@ -68,7 +68,7 @@ const ESCAPED: &[(&str, &str, &str, End<'static>)] = &[
 ];
 
 #[test]
-fn ways_out_are_printed(rt: HostRuntime) {
+fn recoveries_are_printed(rt: HostRuntime) {
     for (node, client, script, end) in ESCAPED {
         let mut input = script.as_bytes();
         let mut output = Vec::new(rt.alloc());

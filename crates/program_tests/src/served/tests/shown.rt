@@ -40,7 +40,7 @@ impl Shown {
         text_of(self.bytes.get_mut().as_slice())
     }
 
-    /// Waits until this line is the last that was written, for ten seconds at most. Says whether
+    /// Waits until this line is the last that was written, for ten seconds at most. Returns true if
     /// it is.
     pub fn await_line<R: Wait + Clock>(&self, rt: &R, line: &str) -> bool {
         for _ in 0..LOOKS {
@@ -72,7 +72,7 @@ impl Shown {
         String::from_str(rt.alloc(), address).ok()
     }
 
-    // Says whether this line is the last that was written.
+    // Returns true if this line is the last that was written.
     fn ends_with<R: Wait>(&self, rt: &R, line: &str) -> bool {
         self.bytes.lock(rt).as_slice().ends_with(line.as_bytes())
     }

@@ -96,14 +96,14 @@ fn outcome_of_job<'a>(job: &Job<'a>) -> Outcome<'a> {
     }
 }
 
-// Says whether `pub` has its usual options, with these words.
+// Returns true if `pub` has its usual options, with these words.
 fn is_usual(job: &Publish<'_>) -> bool {
     (job.id, job.topic, job.message) == ("a", "t/1", "")
         && (job.qos, job.retain, job.tries) == (QoS::ExactlyOnce, false, 10)
         && job.addresses.as_slice() == ["h:1", "h:2"].as_slice()
 }
 
-// Says whether `sub` has the options that the words give it.
+// Returns true if `sub` has the options that the words give it.
 fn is_wanted(job: &Subscribe<'_>) -> bool {
     (job.id, job.filter, job.qos) == ("b", "#", QoS::AtMostOnce)
         && (job.count, job.tries) == (1_000_000, 1)

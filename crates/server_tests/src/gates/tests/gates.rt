@@ -66,12 +66,12 @@ where
     }
 }
 
-// Says whether each of this many nodes took what was sent to it.
+// Returns true if each of this many nodes took what was sent to it.
 fn are_through(reports: &[NodeReport], count: usize) -> bool {
     reports.len() == count && reports.iter().all(|report| is_through(report))
 }
 
-// Says whether a node took what was sent to it, and never continued while the gate was shut.
+// Returns true if a node took what was sent to it, and never continued while the gate was shut.
 fn is_through(report: &NodeReport) -> bool {
     report.report.gate_missed == 0
         && report.report.left.is_empty()
@@ -125,7 +125,7 @@ impl Meeting {
         there.iter().take(self.nodes).all(|node| *node)
     }
 
-    // Says whether all were there at one time.
+    // Returns true if all were there at one time.
     fn has_met<R: Wait>(&self, rt: &R) -> bool {
         *self.met.lock(rt)
     }
@@ -250,7 +250,7 @@ impl Bar {
             "PUBREC comes once node 3 goes on",
         )?;
         named(
-            heard.answer(&mut pair.hearer),
+            heard.answer(&mut pair.sink),
             "the publication comes once node 3 goes on",
         )?;
         named(heard.has_accepted(b"x"), "it is that of the publisher")
@@ -261,7 +261,7 @@ impl Bar {
 fn hold_back(pair: &mut Pair) -> Result<(), Came> {
     send(&mut pair.speaker, &publish(0x34, 1, b'x'))?;
     hear_nothing(&mut pair.speaker)?;
-    hear_nothing(&mut pair.hearer)
+    hear_nothing(&mut pair.sink)
 }
 
 impl Gate for Bar {

@@ -59,7 +59,7 @@ where
     unless(listener.is_closed(rt), "the listener is closed")
 }
 
-// Says whether an index is free, and leaves it so.
+// Returns true if an index is free, and leaves it so.
 fn has_index<R: Wait>(rt: &R, listener: &Listener) -> bool {
     match listener.take_index(rt) {
         Some(index) => {

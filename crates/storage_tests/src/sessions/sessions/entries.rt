@@ -23,7 +23,7 @@ fn has_equal_copy(sent: &Awaits) -> bool {
     }
 }
 
-// Says whether an entry that waits for PUBREC with a payload is another.
+// Returns true if an entry that waits for PUBREC with a payload is another.
 fn is_no_pubrec(alloc: Global, payload: &str, sent: &Awaits) -> bool {
     match publication(alloc, payload) {
         Some(other) => !(Awaits::Pubrec(other) == *sent),
@@ -31,7 +31,7 @@ fn is_no_pubrec(alloc: Global, payload: &str, sent: &Awaits) -> bool {
     }
 }
 
-// Says whether one that waits for PUBACK with a payload is another.
+// Returns true if one that waits for PUBACK with a payload is another.
 fn is_no_puback(alloc: Global, payload: &str, sent: &Awaits) -> bool {
     match publication(alloc, payload) {
         Some(other) => !(Awaits::Puback(other) == *sent),

@@ -32,7 +32,7 @@ fn add_one(alloc: Global, session: &mut Session) -> Option<bool> {
     }
 }
 
-// Says whether these are sent next, and nothing is if memory was refused.
+// Returns true if these are sent next, and nothing is if memory was refused.
 fn send_next(alloc: Global, session: &mut Session, wanted: &[Sent]) -> bool {
     let mut out = Vec::new(alloc);
     let is_sent = session.fill(16, &mut out).is_ok()
@@ -40,7 +40,7 @@ fn send_next(alloc: Global, session: &mut Session, wanted: &[Sent]) -> bool {
     is_sent && are_sent(out.as_slice(), wanted)
 }
 
-// Says whether these are sent again, and nothing is if memory was refused.
+// Returns true if these are sent again, and nothing is if memory was refused.
 fn send_again(alloc: Global, session: &Session, wanted: &[Sent]) -> bool {
     let mut out = Vec::new(alloc);
     let is_sent = session.resend(&mut out).is_ok()
@@ -48,7 +48,7 @@ fn send_again(alloc: Global, session: &Session, wanted: &[Sent]) -> bool {
     is_sent && are_sent(out.as_slice(), wanted)
 }
 
-// Says whether the PUBREC of identifier 1 is answered, and one that ends nothing is not, without
+// Returns true if the PUBREC of identifier 1 is answered, and one that ends nothing is not, without
 // memory too.
 fn is_released(alloc: Global, session: &mut Session) -> bool {
     let mut out: Vec<Packet> = Vec::new(alloc);
@@ -61,7 +61,7 @@ fn is_released(alloc: Global, session: &mut Session) -> bool {
         && out.len() == 1
 }
 
-// Says whether an identifier comes for the first time, and then again.
+// Returns true if an identifier comes for the first time, and then again.
 fn is_received(session: &mut Session) -> bool {
     let id = PacketId::new(7);
     let is_first = session.receive(id) == Ok(Arrival::First)

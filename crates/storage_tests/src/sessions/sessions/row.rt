@@ -202,12 +202,12 @@ fn sent_instead(packets: &[Packet], wanted: &[Sent]) -> Option<Came> {
     }
 }
 
-/// Says whether these packets are what is to be sent.
+/// Returns true if these packets are what is to be sent.
 pub(crate) fn are_sent(packets: &[Packet], wanted: &[Sent]) -> bool {
     sent_instead(packets, wanted).is_none()
 }
 
-// Says whether a packet is the one that is to be sent at an index.
+// Returns true if a packet is the one that is to be sent at an index.
 fn is_wanted_at(packet: &Packet, wanted: &[Sent], index: usize) -> bool {
     match wanted.get(index) {
         Some(sent) => sent_of(packet) == *sent,
@@ -249,7 +249,7 @@ fn receive(session: &mut Session, number: u16, wanted: Arrival) -> Option<Came> 
     }
 }
 
-/// Says whether an identifier is one of those that were received; 0 is none.
+/// Returns true if an identifier is one of those that were received; 0 is none.
 pub(crate) fn is_received(session: &Session, number: u16) -> bool {
     id_of(number).is_some_and(|id| session.is_received(id))
 }

@@ -1,5 +1,5 @@
 use Rattle.std.proofs.Common.{◌≡◌, false, sym, subst}
-use Rattle.client_base.specs.Publishing.{is_over_limit}
+use Rattle.client_base.specs.Publications.{is_over_limit}
 use Rattle.packet.specs.declared.packet.Packet.{Packet}
 use Rattle.client.specs.Core.{publication_with}
 use Rattle.user_client.specs.declared.user_client_error.UserClientError.{UserClientError}

@@ -1,5 +1,5 @@
 use Rattle.std.proofs.Common.{take}
-use Rattle.user_client.specs.Listening.{Shows}
+use Rattle.user_client.specs.Subscriber.{Shows}
 use Rattle.user_client.proofs.subscriber.print_all.Given as goal
 
 abbrev pub invariant-loop-one : goal.invariant-loop-one

@@ -46,13 +46,13 @@ const UNREADABLE: &[(&str, &[u8])] = &[
     ),
 ];
 
-// Says whether this is the base of a node's log, and these are the bytes there.
+// Returns true if this is the base of a node's log, and these are the bytes there.
 fn stands_at(node: &NodeCore, base: u64, bytes: &[u8]) -> bool {
     let (at, snapshot) = node.snapshot();
     at == base && snapshot == bytes
 }
 
-// Says whether a node has something to cut, cuts it and keeps no command; once more it does
+// Returns true if a node has something to cut, cuts it and keeps no command; once more it does
 // nothing.
 fn cut(alloc: Global, node: &mut NodeCore, base: u64, bytes: &[u8]) -> bool {
     let can = node.can_cut();
@@ -69,8 +69,8 @@ fn ballot_2(alloc: Global, members: &[u8]) -> Option<Body<Command>> {
     Some(Body::NewBallot(2, members, 1, before))
 }
 
-// Says whether the one message is State of ballot 2 for node 2, with the broker of one connection
-// at base 1 and no command.
+// Returns true if the one message is State of ballot 2 for node 2, with the broker of one
+// connection at base 1 and no command.
 fn sends_snapshot(effects: &Effects) -> bool {
     let [Effect::To(2, message)] = effects.as_slice() else {
         return false;
@@ -83,7 +83,7 @@ fn sends_snapshot(effects: &Effects) -> bool {
     }
 }
 
-// Says whether the one message asks the master to activate ballot 2.
+// Returns true if the one message asks the master to activate ballot 2.
 fn asks_for_2(effects: &Effects) -> bool {
     let [Effect::To(0, message)] = effects.as_slice() else {
         return false;
@@ -91,7 +91,7 @@ fn asks_for_2(effects: &Effects) -> bool {
     matches!(&message.body, Body::Activate(2))
 }
 
-// Says whether node 1, the sole member, takes client `a` and cuts its log.
+// Returns true if node 1, the sole member, takes client `a` and cuts its log.
 fn serve_and_cut(alloc: Global, one: &mut NodeCore) -> bool {
     take(alloc, one, Item::Opened(Port(1), 0));
     bring(alloc, one, 1, CONNECT, 0).is_some()
@@ -99,7 +99,7 @@ fn serve_and_cut(alloc: Global, one: &mut NodeCore) -> bool {
         && cut(alloc, one, 1, CONNECTED)
 }
 
-// Says whether node 2 takes over with node 1 as its backup: State brings the snapshot, and each
+// Returns true if node 2 takes over with node 1 as its backup: State brings the snapshot, and each
 // message goes to its receiver.
 fn take_over(alloc: Global, one: &mut NodeCore, two: &mut NodeCore) -> Option<bool> {
     let joins = tell(alloc, two, 0, ballot_2(alloc, &[1, 2])?);
@@ -120,7 +120,7 @@ fn commit(alloc: Global, one: &mut NodeCore, two: &mut NodeCore, appended: Effec
     give(alloc, one, 1, committed);
 }
 
-// Says whether client `a` comes back at node 2, and finds its session.
+// Returns true if client `a` comes back at node 2, and finds its session.
 fn come_back(alloc: Global, one: &mut NodeCore, two: &mut NodeCore) -> bool {
     take(alloc, two, Item::Opened(Port(1), 0));
     match bring(alloc, two, 1, CONNECT, 0) {
@@ -230,7 +230,7 @@ fn a_snapshot_of_form_1_is_frozen_to_form_2(rt: HostRuntime) {
     assert_eq!(rt; first_fault_of_form_1(rt.alloc()), None);
 }
 
-// Says whether bytes that are no frozen broker count as one lost message more, and have no other
+// Returns true if bytes that are no frozen broker count as one lost message more, and have no other
 // effect.
 fn is_lost(alloc: Global, two: &mut NodeCore, bytes: &[u8]) -> bool {
     let (before, losses) = (two.status(), two.losses());

@@ -94,7 +94,7 @@ pub fn connecting(effect: &Effect<Command, Output>) -> Option<ConnectionName> {
     }
 }
 
-/// Has a node hand over what it queued for a port, which takes it away. Says whether it is these
+/// Has a node hand over what it queued for a port, which takes it away. Returns true if it is these
 /// bytes, and the port is open then or not.
 pub fn hand_over(alloc: Global, node: &mut NodeCore, port: u64, bytes: &[u8], open: bool) -> bool {
     let mut out = Vec::new(alloc);

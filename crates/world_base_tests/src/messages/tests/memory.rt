@@ -73,7 +73,7 @@ fn rows_seen(alloc: Global, node: &mut NodeCore) -> (Seen, Seen) {
     (subscriber, publisher)
 }
 
-// Says whether these are the bytes of this many of the packets.
+// Returns true if these are the bytes of this many of the packets.
 fn are_packets(bytes: &[u8], packets: &[&[u8]]) -> bool {
     let mut rest = bytes;
     for packet in packets {
@@ -85,7 +85,7 @@ fn are_packets(bytes: &[u8], packets: &[&[u8]]) -> bool {
     rest.is_empty()
 }
 
-// Says whether these bytes begin those of the packets.
+// Returns true if these bytes begin those of the packets.
 fn are_prefix_of(bytes: &[u8], packets: &[&[u8]]) -> bool {
     let mut rest = bytes;
     for packet in packets {
@@ -97,8 +97,8 @@ fn are_prefix_of(bytes: &[u8], packets: &[&[u8]]) -> bool {
     rest.is_empty()
 }
 
-// Says whether what is open has all that it is to be sent, and what is closed has a prefix of it.
-// The packets of a publisher that was closed may not have been read.
+// Returns true if what is open has all that it is to be sent, and what is closed has a prefix of
+// it. The packets of a publisher that was closed may not have been read.
 fn has_no_gap(subscriber: &Seen, publisher: &Seen) -> bool {
     let told = subscriber.bytes.as_slice();
     let unheard = !publisher.open && are_packets(told, &TO_SUBSCRIBER[..2]);

@@ -9,7 +9,7 @@ use std::alloc::Global;
 use world_base::node_connections::Port;
 use world_base::node_core::{Item, NodeCore};
 
-// Says whether a connection is accepted by the node, the sole member of ballot 1.
+// Returns true if a connection is accepted by the node, the sole member of ballot 1.
 fn serve(alloc: Global, node: &mut NodeCore) -> bool {
     take(alloc, node, Item::Opened(Port(1), 0));
     bring(alloc, node, 1, CONNECT_A, 0).is_some()
@@ -31,7 +31,7 @@ fn change(alloc: Global, node: &mut NodeCore, ballot: Body<Command>) {
     tell(alloc, node, 0, Body::Activated(2));
 }
 
-// Says whether the node becomes the primary of ballot 2.
+// Returns true if the node becomes the primary of ballot 2.
 fn change_to_2(alloc: Global, node: &mut NodeCore) -> bool {
     match ballot_2(alloc) {
         Some(ballot) => {
@@ -48,7 +48,7 @@ fn first_name(effects: &Effects) -> Option<(u64, u64)> {
     Some((name.ballot(), name.count()))
 }
 
-// Says whether a connection gets this ballot and number by its CONNECT.
+// Returns true if a connection gets this ballot and number by its CONNECT.
 fn is_named(
     alloc: Global,
     node: &mut NodeCore,

@@ -17,7 +17,7 @@ fn only(effects: &Effects) -> Option<(u8, &Message<Command>)> {
     }
 }
 
-// Says whether the primary's one message is the first place of its log.
+// Returns true if the primary's one message is the first place of its log.
 fn appends(effects: &Effects) -> bool {
     match only(effects) {
         Some((2, message)) => matches!(
@@ -28,7 +28,7 @@ fn appends(effects: &Effects) -> bool {
     }
 }
 
-// Says whether the backup's one message says that it holds one place.
+// Returns true if the backup's one message says that it holds one place.
 fn holds(effects: &Effects) -> bool {
     match only(effects) {
         Some((1, message)) => matches!(&message.body, Body::Held(1, 1)),
@@ -36,7 +36,7 @@ fn holds(effects: &Effects) -> bool {
     }
 }
 
-// Says whether the primary's one message says then that one place is committed.
+// Returns true if the primary's one message says then that one place is committed.
 fn commits(effects: &Effects) -> bool {
     match only(effects) {
         Some((2, message)) => matches!(&message.body, Body::Commit(1, 1)),
@@ -75,7 +75,7 @@ fn commit(alloc: Global, primary: &mut NodeCore, held: Effects) -> Option<Effect
     }
 }
 
-// Says whether the backup has nothing to say to that.
+// Returns true if the backup has nothing to say to that.
 fn is_silent(alloc: Global, backup: &mut NodeCore, committed: Effects) -> bool {
     give(alloc, backup, 2, committed).is_empty()
 }

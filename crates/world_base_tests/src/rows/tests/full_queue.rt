@@ -206,7 +206,7 @@ impl Got {
     }
 }
 
-// Says whether of all that came only the last three are no filling, and each of them came once.
+// Returns true if of all that came only the last three are no filling, and each of them came once.
 fn ends_with_three(payloads: &[u8]) -> bool {
     match payloads.split_at_checked(ALL_BUT_ONE) {
         Some((filling, three)) => filling.iter().all(|byte| *byte == 0x77)
@@ -215,7 +215,7 @@ fn ends_with_three(payloads: &[u8]) -> bool {
     }
 }
 
-// Says whether the subscriber comes back, and is handed what waited for it.
+// Returns true if the subscriber comes back, and is handed what waited for it.
 fn come_back(splitting: Splitting, node: &mut NodeCore, got: &mut Got) -> bool {
     take(splitting.alloc, node, Item::Opened(Port(3), 0));
     let_bytes_come(splitting, node, 3, CONNECT_B)
@@ -239,15 +239,15 @@ fn rest_of(alloc: Global, got: &Got) -> Option<Vec<u8>> {
     Vec::from_slice(alloc, rest).ok()
 }
 
-// Says whether the subscriber takes what is handed over then, gives these answers, and answers all
-// that comes after them.
+// Returns true if the subscriber takes what is handed over then, gives these answers, and answers
+// all that comes after them.
 fn answer_all(splitting: Splitting, node: &mut NodeCore, got: &mut Got, rest: &[u8]) -> bool {
     got.look(splitting.alloc, node, 3).is_some()
         && let_bytes_come(splitting, node, 3, rest)
         && got.finish(splitting, node, 3).is_some()
 }
 
-// Says whether the subscriber answers all but the first two.
+// Returns true if the subscriber answers all but the first two.
 fn answer_the_rest(splitting: Splitting, node: &mut NodeCore, got: &mut Got) -> bool {
     match rest_of(splitting.alloc, got) {
         Some(rest) => answer_all(splitting, node, got, rest.as_slice()),

@@ -55,7 +55,7 @@ fn keep_alive_0_does_not_end(rt: HostRuntime) {
     assert_eq!(rt; first_fault(rt.alloc(), &rows), None);
 }
 
-// Says whether a client connects on a port; another node is to hold that first.
+// Returns true if a client connects on a port; another node is to hold that first.
 fn connect_on(alloc: Global, node: &mut NodeCore, port: u64, connect: &[u8]) -> bool {
     take(alloc, node, Item::Opened(Port(port), 0));
     bring(alloc, node, port, connect, 0).is_some()
@@ -72,7 +72,7 @@ fn lost_in(alloc: Global, effects: &Effects) -> Option<Vec<u64>> {
     Some(counts)
 }
 
-// Says whether at this time the losses of these connections are sent, in this order.
+// Returns true if at this time the losses of these connections are sent, in this order.
 fn lose(alloc: Global, node: &mut NodeCore, time: u64, wanted: &[u64]) -> bool {
     match lost_in(alloc, &take(alloc, node, Item::Tick(time))) {
         Some(counts) => counts.as_slice() == wanted,

@@ -119,7 +119,7 @@ pub fn lost(effect: &Effect<Command, Output>) -> Option<ConnectionName> {
     }
 }
 
-/// Has a node hand over what it queued for a port, which takes it away. Says whether it is these
+/// Has a node hand over what it queued for a port, which takes it away. Returns true if it is these
 /// bytes, and the port is open then or not.
 pub fn hand_over(alloc: Global, node: &mut NodeCore, port: u64, bytes: &[u8], open: bool) -> bool {
     let mut out = Vec::new(alloc);
@@ -145,7 +145,7 @@ fn let_come_by_bytes(
         .all(|byte| let_come_whole(alloc, node, port, &[*byte], time))
 }
 
-// Gives bytes in two pieces, of which the first has `at` bytes, or all. Says whether no message
+// Gives bytes in two pieces, of which the first has `at` bytes, or all. Returns true if no message
 // follows.
 fn let_come_split(
     alloc: Global,

@@ -108,7 +108,7 @@ pub fn begun(alloc: Global, course: &Course) -> Option<World> {
     opened(alloc, course.nodes, course.members)
 }
 
-/// Says whether these rows hold for a world, one after another.
+/// Returns true if these rows hold for a world, one after another.
 pub fn all_hold(alloc: Global, world: &mut World, rows: &[Row]) -> bool {
     for row in rows {
         if !is_right(alloc, world, row) {
@@ -118,7 +118,7 @@ pub fn all_hold(alloc: Global, world: &mut World, rows: &[Row]) -> bool {
     true
 }
 
-// Says whether a node has crashed in these rows.
+// Returns true if a node has crashed in these rows.
 fn has_crashed(rows: &[Row], node: u8) -> bool {
     rows.iter().any(
         |row| matches!(row, Row::Does(Action::Crash(crashed), _, _) if *crashed == node),
@@ -136,7 +136,7 @@ pub fn last_ballot(rows: &[Row]) -> u64 {
     ballot
 }
 
-/// Says whether members may form the next ballot after these rows: they rise, and they live.
+/// Returns true if members may form the next ballot after these rows: they rise, and they live.
 pub fn may_lead(course: &Course, rows: &[Row], members: &[u8]) -> bool {
     let mut last = 0;
     for member in members {
@@ -148,7 +148,7 @@ pub fn may_lead(course: &Course, rows: &[Row], members: &[u8]) -> bool {
     !members.is_empty()
 }
 
-/// Says whether a client has a session after this many rows.
+/// Returns true if a client has a session after this many rows.
 pub fn is_kept(course: &Course, count: usize, client: &str) -> bool {
     course.kept.iter().any(|(name, from, until)| *name == client
         && *from <= count

@@ -74,7 +74,7 @@ fn a_stale_primary_is_not_heard(rt: HostRuntime) {
     assert_eq!(rt; fault_in(rt.alloc(), TABLES), None);
 }
 
-// Says whether a PUBREL (MQTT 3.6) begins at some byte.
+// Returns true if a PUBREL (MQTT 3.6) begins at some byte.
 fn has_pubrel(bytes: &[u8]) -> bool {
     bytes
         .iter()
@@ -82,7 +82,7 @@ fn has_pubrel(bytes: &[u8]) -> bool {
         .any(|(first, second)| (*first, *second) == (0x62, 0x02))
 }
 
-// Says whether none waits to come down on a connection.
+// Returns true if none waits to come down on a connection.
 fn is_free_of_pubrel(world: &World) -> bool {
     (1..4u64).all(|connection| !has_pubrel(world.down(connection)))
 }

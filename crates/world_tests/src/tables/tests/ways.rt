@@ -142,7 +142,7 @@ fn first_fault_at_end(
     }
 }
 
-// Says whether a client is online with its session present.
+// Returns true if a client is online with its session present.
 fn is_online_with_session(world: &World, client: &ClientId) -> bool {
     match world.client(client) {
         Some(core) => core.is_connected() && core.is_session_present(),
@@ -150,7 +150,7 @@ fn is_online_with_session(world: &World, client: &ClientId) -> bool {
     }
 }
 
-// Says whether what is agreed in a world begins what is agreed in another.
+// Returns true if what is agreed in a world begins what is agreed in another.
 fn begins_agreed(before: &World, after: &World) -> bool {
     let (first, second) = before.agreed();
     let (more, most) = after.agreed();
@@ -162,7 +162,7 @@ fn begins_agreed(before: &World, after: &World) -> bool {
             .all(|(one, other)| is_same_command(one, other))
 }
 
-// Says whether two commands are of one kind, and say the same for a client, of a ballot.
+// Returns true if two commands are of one kind, and say the same for a client, of a ballot.
 fn is_same_command(one: &Command, other: &Command) -> bool {
     match (one, other) {
         (Command::Connect(_, client, clean), Command::Connect(_, name, is_clean)) => {
@@ -255,7 +255,7 @@ fn answer_in(
     let name = named(alloc, client)?;
     Some(match asked {
         Asked::ComesBack => bring_back(world, &name),
-        Asked::IsIdle(members) => find_no_way_out(world, members, &name),
+        Asked::IsIdle(members) => find_no_recovery(world, members, &name),
         Asked::IsReported => lead_out_or_report(world, &name),
     })
 }
@@ -265,7 +265,7 @@ fn unless(holds: bool, step: &'static str) -> Answer {
     if holds { Ok(()) } else { Err(step) }
 }
 
-// Says whether these events can happen, one after another.
+// Returns true if these events can happen, one after another.
 fn let_all_happen(alloc: Global, world: &mut World, actions: &[Action]) -> bool {
     for action in actions {
         if !let_happen(alloc, world, action) {
@@ -306,7 +306,7 @@ fn bring_back_by(world: &mut World, way: &[Event], client: &ClientId) -> Answer 
 }
 
 // Looks for a way out for these members and this client, where there is none.
-fn find_no_way_out(world: &World, members: &[u8], client: &ClientId) -> Answer {
+fn find_no_recovery(world: &World, members: &[u8], client: &ClientId) -> Answer {
     match world.escape(members, client) {
         Ok(_) => Err("there is no way out"),
         Err(error) => unless(error == EscapeError::Idle, "the answer is Idle"),
@@ -331,7 +331,7 @@ fn lead_out_or_report(world: &mut World, client: &ClientId) -> Answer {
 
 // For `tools/refused-memory`. Without memory for the world nothing is asked of it.
 #[test]
-fn a_way_out_without_memory_is_refused_or_counted(rt: HostRuntime) {
+fn a_recovery_without_memory_is_refused_or_counted(rt: HostRuntime) {
     let reported = answer(rt.alloc(), &[], "a", Asked::IsReported).unwrap_or(Ok(()));
     assert_eq!(rt; reported, Ok(()));
 }
@@ -358,7 +358,7 @@ fn nothing_leads_out_where_nobody_lives(rt: HostRuntime) {
 }
 
 #[test]
-fn each_course_has_its_ways_out(rt: HostRuntime) {
+fn each_course_has_its_recoveries(rt: HostRuntime) {
     for course in COURSES {
         let name = course.name;
         assert_eq!(rt; first_fault(rt.alloc(), course), None, "{name}");

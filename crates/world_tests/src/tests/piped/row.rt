@@ -175,7 +175,7 @@ fn is_right(alloc: Global, client: &mut PipedClient, row: Row<'_>) -> bool {
     }
 }
 
-// Says whether these bytes wait to go up on a connection, and this many of them go.
+// Returns true if these bytes wait to go up on a connection, and this many of them go.
 fn carry_up(client: &mut PipedClient, at: usize, bytes: &[u8], count: usize) -> bool {
     if at >= client.len() || client.up(at) != bytes || count > client.up(at).len() {
         return false;
@@ -187,7 +187,7 @@ fn carry_up(client: &mut PipedClient, at: usize, bytes: &[u8], count: usize) -> 
     }
 }
 
-// Says whether the server can send these bytes on the newest connection, after what waits there.
+// Returns true if the server can send these bytes on the newest connection, after what waits there.
 fn is_sent(alloc: Global, client: &mut PipedClient, bytes: &[u8]) -> bool {
     if client.len() == 0 {
         return false;
@@ -200,7 +200,7 @@ fn is_sent(alloc: Global, client: &mut PipedClient, bytes: &[u8]) -> bool {
     is_room
 }
 
-// Says whether these bytes are sent and come, this many of them first.
+// Returns true if these bytes are sent and come, this many of them first.
 fn send_and_carry_down(
     alloc: Global,
     client: &mut PipedClient,
@@ -213,7 +213,7 @@ fn send_and_carry_down(
         && carry_down(client, bytes.len() - first)
 }
 
-// Says whether this many bytes come on the connection that the client holds.
+// Returns true if this many bytes come on the connection that the client holds.
 fn carry_down(client: &mut PipedClient, count: usize) -> bool {
     if client.len() == 0 || !client.is_open() || count > client.down(client.len() - 1).len() {
         return false;
@@ -221,7 +221,7 @@ fn carry_down(client: &mut PipedClient, count: usize) -> bool {
     client.carry_down(count).is_ok()
 }
 
-// Says whether this many bytes wait to come, and are against the protocol.
+// Returns true if this many bytes wait to come, and are against the protocol.
 fn violates(client: &mut PipedClient, count: usize) -> bool {
     if client.len() == 0 || !client.is_open() || count != client.down(client.len() - 1).len() {
         return false;

@@ -1,5 +1,5 @@
 use Rattle.std.proofs.Common.{◌≤◌, refl, arith}
-use Rattle.ballot_base.specs.Serving.{least}
+use Rattle.ballot_base.specs.Service.{least}
 use Rattle.ballot_base.proofs.StepRows.{least-le}
 use Rattle.ballot.proofs.Committed.{add_done}
 use Rattle.ballot.proofs.replica.Replica.add.Goals as goal

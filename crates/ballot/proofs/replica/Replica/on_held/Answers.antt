@@ -1,7 +1,7 @@
 use Rattle.std.proofs.Common.{◌≡◌, ◌≤◌, length, refl, ap, sym, ◌∙◌, arith}
 use Rattle.ballot_base.specs.Logs.{places}
 use Rattle.ballot_base.specs.Replica.{CountedReplica}
-use Rattle.ballot_base.specs.Serving.{least, raised}
+use Rattle.ballot_base.specs.Service.{least, raised}
 use Rattle.ballot_base.proofs.StepRows.{least-le, commit_at-stopped}
 use Rattle.ballot_base.proofs.MessageRows.{on_held-elsewhere}
 use Rattle.ballot.proofs.MessagesTaken.{went_same, held_taken, held_halted, written_back, taken_back}

@@ -1,6 +1,6 @@
 use Rattle.std.proofs.Common.{ap, sym, ◌∙◌}
 use Rattle.ballot_base.specs.declared.status.Role.TheVariants.{Backup}
-use Rattle.ballot_base.specs.Changing.{lacks}
+use Rattle.ballot_base.specs.Transfer.{lacks}
 use Rattle.ballot_base.specs.Losses.{one_more}
 use Rattle.ballot_base.specs.Replica.{CountedReplica}
 use Rattle.ballot_base.proofs.ChangeRows.{on_install-stays}

@@ -1,6 +1,6 @@
 use Rattle.std.proofs.Common.{◌≡◌, true, ap, refl, sym, ◌∙◌}
 use Rattle.ballot_base.specs.declared.status.Role.TheVariants.{Installing}
-use Rattle.ballot_base.specs.Changing.{waits_for}
+use Rattle.ballot_base.specs.Transfer.{waits_for}
 use Rattle.ballot_base.specs.Logs.{places}
 use Rattle.ballot_base.specs.Losses.{one_more}
 use Rattle.ballot_base.specs.Replica.{CountedReplica}

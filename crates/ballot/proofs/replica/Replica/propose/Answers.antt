@@ -1,7 +1,7 @@
 use Rattle.std.proofs.Common.{◌≡◌, ◌≤◌, ◌<◌, true, false, sym, ◌∙◌, arith}
 use Rattle.ballot_base.specs.Logs.{places}
 use Rattle.ballot_base.specs.Replica.{is_active}
-use Rattle.ballot_base.specs.Serving.{max_places}
+use Rattle.ballot_base.specs.Service.{max_places}
 use Rattle.ballot_base.proofs.StepRows.{proposed-not_active, proposed-full, added-stopped}
 use Rattle.ballot.proofs.ProposalAnswered.{stays_step, answered_proposed, answered_halted}
 use Rattle.ballot.proofs.replica.Replica.propose.Goals as goal

@@ -1,7 +1,7 @@
 use Rattle.std.proofs.Common.{◌≡◌, ◌≤◌, length, refl, ap, ◌∙◌, arith}
 use Rattle.ballot_base.specs.Logs.{places}
 use Rattle.ballot_base.specs.Replica.{CountedReplica}
-use Rattle.ballot_base.specs.Serving.{least}
+use Rattle.ballot_base.specs.Service.{least}
 use Rattle.ballot_base.proofs.StepRows.{least-le}
 use Rattle.ballot.proofs.ActivationTaken.{told_commit, start_sent}
 use Rattle.ballot.proofs.replica.Replica.send_start.Goals as goal

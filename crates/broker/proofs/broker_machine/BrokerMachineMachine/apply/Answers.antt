@@ -3,7 +3,7 @@ use Rattle.std.proofs.Common.{◌≡◌, ◌∙◌, ◌++◌, ap, sym, subst, fa
 use Rattle.std.specs.Prelude.{is_err}
 use Rattle.broker_spec.specs.Commands.{usual_limits}
 use Rattle.broker_base.specs.Step.{step}
-use Rattle.broker_base.specs.form.FormLaws.{IsUsualState}
+use Rattle.broker_base.specs.form.FormTheorems.{IsUsualState}
 use Rattle.broker_base.proofs.of_form.UsualStates.{stays_usual}
 use Rattle.broker.specs.tables.Tables.{state_in, stepped}
 use Rattle.broker.proofs.of_tables.Commands.{stepped_is, at_ok}

@@ -4,7 +4,7 @@ use Rattle.session_base.specs.declared.limits.TheConstants.{MAX_ENTRIES}
 use Rattle.session_base.specs.Queue.{room}
 use Rattle.session_base.specs.Copies.{copies_left}
 use Rattle.broker_spec.specs.Entries.{queued}
-use Rattle.session_base.specs.Sending.{copies_sent}
+use Rattle.session_base.specs.EntryPackets.{copies_sent}
 use Rattle.session_base.specs.Session.{with_queue}
 use Rattle.broker.proofs.one_session.retained_copies.put_copies.Given as goal
 

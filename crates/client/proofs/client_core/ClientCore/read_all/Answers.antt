@@ -1,6 +1,6 @@
 use Rattle.std.proofs.Common.{Bool, Ok, subst}
-use Rattle.client.specs.Reading.{Handles}
-use Rattle.client.specs.Inside.Handling.{ReadsOne}
+use Rattle.client.specs.Input.{Handles}
+use Rattle.client.specs.Inside.PacketSteps.{ReadsOne}
 use Rattle.client.proofs.HandledBefore.{handled_more}
 use Rattle.client.proofs.client_core.ClientCore.read_all.Goals as goal
 

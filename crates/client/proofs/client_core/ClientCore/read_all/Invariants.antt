@@ -1,5 +1,5 @@
 use Rattle.std.proofs.Common.{length}
-use Rattle.client.specs.Reading.{Handles}
+use Rattle.client.specs.Input.{Handles}
 use Rattle.client.proofs.client_core.ClientCore.read_all.Given as goal
 
 abbrev pub invariant-loop : goal.invariant-loop

@@ -1,6 +1,6 @@
 use Rattle.std.proofs.Common.{Option, Ok, subst}
 use Rattle.packet.specs.declared.packet.Packet.{Packet}
-use Rattle.client.specs.Inside.Handling.{TakesNext}
+use Rattle.client.specs.Inside.PacketSteps.{TakesNext}
 use Rattle.client.proofs.HandlingFails.{handling_fails}
 use Rattle.client.proofs.client_core.ClientCore.read_one.Goals as goal
 

@@ -1,5 +1,5 @@
 use Rattle.std.proofs.Common.{◌≡◌, ◌-◌, true, false, ap, sym, ◌∙◌, refl, rules as rules_of}
-use Rattle.ballot_base.specs.Cutting.{can_cut}
+use Rattle.ballot_base.specs.Compaction.{can_cut}
 use Rattle.master.specs.declared.event.Event.TheVariants.{Cut}
 use Rattle.master.specs.Outcomes.{cut_outcome, outcome_of_cutting}
 use Rattle.master.proofs.Counting.{cuts_nothing, cuts_turn, some_idle, steps_cut, steps_idle}

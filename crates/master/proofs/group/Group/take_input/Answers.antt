@@ -1,5 +1,5 @@
 use Rattle.std.proofs.Common.{◌≡◌, ◌≤◌, length, ap, ◌∙◌, refl, arith}
-use Rattle.master.specs.Inside.Losing.{input_of}
+use Rattle.master.specs.Inside.Losses.{input_of}
 use Rattle.agreement.specs.cut_logs.World.{messages}
 use Rattle.master.proofs.Groups.{front_of, group_turns, more_than}
 use Rattle.master.proofs.LossesCounted.{count_covers, counts_at, counts_more, counts_set}

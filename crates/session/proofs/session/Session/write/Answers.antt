@@ -1,5 +1,5 @@
 use Rattle.std.proofs.Common.{sym, subst}
-use Rattle.session_base.specs.FormLaws.{HasForm}
+use Rattle.session_base.specs.FormTheorems.{HasForm}
 use Rattle.session_base.proofs.Writable.{received_fit, flights_are_writable, waiting_have_lengths}
 use Rattle.session.proofs.session.Session.write.Goals as goal
 

@@ -1,6 +1,6 @@
 -- What is sent again so far comes after what was there.
 use Rattle.std.proofs.Common.{◌≡◌, ◌++◌, take, length}
-use Rattle.session_base.specs.Sending.{resend}
+use Rattle.session_base.specs.EntryPackets.{resend}
 use Rattle.session.proofs.session_queue.SessionQueue.resend_each.Given as goal
 
 abbrev pub invariant-loop-id : goal.invariant-loop-id

@@ -1,7 +1,7 @@
 use Rattle.std.proofs.Common.{◌∙◌, ap, sym, subst}
 use Rattle.session_base.specs.Publication.{is_qos1}
 use Rattle.session_base.specs.Queue.{Queue, is_pubcomp}
-use Rattle.session_base.specs.OrderLaws.{IsReleasedFirst}
+use Rattle.session_base.specs.OrderTheorems.{IsReleasedFirst}
 use Rattle.session_base.proofs.OrderInFlight.{first_more, not_yet}
 use Rattle.session.proofs.session_queue.SessionQueue.start.Goals as goal
 

@@ -1,7 +1,7 @@
 use Rattle.std.proofs.Common.{rules, ◌≡◌, ◌≤◌, ◌<◌, ◌++◌, ◌∙◌, ap, sym, List, length, drop}
 use Rattle.std.proofs.lemmas.List.{append-nil}
 use Rattle.session_base.specs.declared.publication.Publication.{Publication}
-use Rattle.session_base.specs.Sending.{fill_sends}
+use Rattle.session_base.specs.EntryPackets.{fill_sends}
 use Rattle.session.specs.Inside.{started_with, sends_with}
 use Rattle.session.proofs.FillsStepByStep.{fill_shut, sends_shut, fill_next, sent_next, flights_before, still_front, fill_of_nothing_starts_none}
 use Rattle.session.proofs.session_queue.SessionQueue.start_all.Goals as goal

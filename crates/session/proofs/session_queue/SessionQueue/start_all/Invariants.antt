@@ -1,8 +1,8 @@
 -- What was started so far, and what is still to start, make the whole fill.
 use Rattle.std.proofs.Common.{◌≡◌, ◌++◌, take, drop, length}
-use Rattle.session_base.specs.OrderLaws.{IsReleasedFirst}
+use Rattle.session_base.specs.OrderTheorems.{IsReleasedFirst}
 use Rattle.session_base.specs.Queue.{filled, fill}
-use Rattle.session_base.specs.Sending.{fill_sends}
+use Rattle.session_base.specs.EntryPackets.{fill_sends}
 use Rattle.session.proofs.session_queue.SessionQueue.start_all.Given as goal
 
 abbrev pub invariant-loop-index : goal.invariant-loop-index

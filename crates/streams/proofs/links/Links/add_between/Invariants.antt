@@ -1,6 +1,6 @@
 use Rattle.std.proofs.Common.{◌≡◌, ◌-◌, ◌++◌, map, true}
 use Rattle.std.specs.Arc.{arc_value}
-use Rattle.streams.specs.Listing.{AddsBusy, busy_between}
+use Rattle.streams.specs.ListedConnections.{AddsBusy, busy_between}
 use Rattle.streams.proofs.links.Links.add_between.Given as goal
 
 abbrev pub invariant-loop-index : goal.invariant-loop-index

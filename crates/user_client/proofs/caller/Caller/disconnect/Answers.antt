@@ -1,6 +1,6 @@
 use Rattle.std.proofs.Common.{ap, ◌∙◌}
 use Rattle.client_base.specs.State.{kept_count}
-use Rattle.user_client.specs.Tracing.{CallerView}
+use Rattle.user_client.specs.Traces.{CallerView}
 use Rattle.user_client.proofs.CallsAreSteps.{left, left_keeps}
 use Rattle.user_client.proofs.caller.Caller.disconnect.Goals as goal
 

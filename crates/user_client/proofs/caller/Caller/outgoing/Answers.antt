@@ -1,5 +1,5 @@
 use Rattle.std.proofs.Common.{[]}
-use Rattle.user_client.specs.Tracing.{Step}
+use Rattle.user_client.specs.Traces.{Step}
 use Rattle.user_client.proofs.CallsAreSteps.{no_step, step_to}
 use Rattle.user_client.proofs.caller.Caller.outgoing.Goals as goal
 

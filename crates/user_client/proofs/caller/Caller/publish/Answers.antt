@@ -3,7 +3,7 @@ use Rattle.client.specs.Core.{publication_with}
 use Rattle.client_base.specs.Steps.{Call, keeper_step}
 use Rattle.user_client.specs.declared.user_client_error.UserClientError.{UserClientError}
 use Rattle.user_client.specs.Refusals.{IsRefusedFor, error_of_call}
-use Rattle.user_client.specs.Tracing.{Step}
+use Rattle.user_client.specs.Traces.{Step}
 use Rattle.user_client.proofs.CallsAreSteps.{asked, parts, step_of}
 use Rattle.user_client.proofs.RefusedCalls.{in_any_case, refused_seen, told, unchanged_seen}
 use Rattle.user_client.proofs.caller.Caller.publish.Goals as goal

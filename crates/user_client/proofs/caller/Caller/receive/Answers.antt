@@ -1,6 +1,6 @@
 use Rattle.std.proofs.Common.{◌≡◌, Bool, ◌||◌, sym, ap, ◌∙◌}
 use Rattle.client_base.specs.State.{is_online}
-use Rattle.user_client.specs.Losing.{IsLostBy}
+use Rattle.user_client.specs.Losses.{IsLostBy}
 use Rattle.user_client.specs.declared.user_client_error.UserClientError.{UserClientError}
 use Rattle.user_client.specs.declared.user_client_error.UserClientError.TheVariants as clients
 use Rattle.user_client.proofs.CallsAreSteps.{heard, parts}

@@ -1,4 +1,4 @@
-use Rattle.user_client.specs.Tracing.{Step}
+use Rattle.user_client.specs.Traces.{Step}
 use Rattle.user_client.proofs.CallsAreSteps.{parts, step_of}
 use Rattle.user_client.proofs.caller.Caller.subscribe.Goals as goal
 

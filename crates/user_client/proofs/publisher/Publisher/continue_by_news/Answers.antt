@@ -1,4 +1,4 @@
-use Rattle.user_client.specs.Tracing.{Trace}
+use Rattle.user_client.specs.Traces.{Trace}
 use Rattle.user_client.proofs.publisher.Publisher.continue_by_news.Goals as goal
 
 pub returns-in-None-clause-trace : goal.returns-in-None-clause-trace

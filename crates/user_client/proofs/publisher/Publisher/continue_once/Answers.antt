@@ -1,6 +1,6 @@
 use Rattle.std.proofs.Common.{[], OnOk, subst}
-use Rattle.user_client.specs.Tracing.{Trace}
-use Rattle.user_client.specs.Publishing.{PublisherView}
+use Rattle.user_client.specs.Traces.{Trace}
+use Rattle.user_client.specs.Publisher.{PublisherView}
 use Rattle.user_client.proofs.TracesJoin.{traces_follow_ok}
 use Rattle.user_client.proofs.publisher.Publisher.continue_once.Goals as goal
 

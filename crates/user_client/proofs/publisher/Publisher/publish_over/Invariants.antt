@@ -1,5 +1,5 @@
 use Rattle.std.proofs.Common.{◌≡◌, []}
-use Rattle.user_client.specs.Tracing.{Trace}
+use Rattle.user_client.specs.Traces.{Trace}
 use Rattle.user_client.proofs.publisher.Publisher.publish_over.Given as goal
 
 abbrev pub invariant-loop : goal.invariant-loop

@@ -1,6 +1,6 @@
 use Rattle.std.proofs.Common.{◌≡◌, ℕ, arith, inl, refl, subst, ◌∙◌}
-use Rattle.user_client.specs.Losing.{AsksForConnections}
-use Rattle.user_client.specs.Tracing.{Trace}
+use Rattle.user_client.specs.Losses.{AsksForConnections}
+use Rattle.user_client.specs.Traces.{Trace}
 use Rattle.user_client.proofs.LossFollows.{gives_up_later}
 use Rattle.user_client.proofs.TracesJoin.{traces_follow}
 use Rattle.user_client.proofs.publisher.Publisher.run.Goals as goal

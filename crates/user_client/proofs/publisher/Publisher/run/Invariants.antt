@@ -1,6 +1,6 @@
 use Rattle.std.proofs.Common.{◌≡◌, []}
-use Rattle.user_client.specs.Losing.{AsksForConnections}
-use Rattle.user_client.specs.Tracing.{Trace}
+use Rattle.user_client.specs.Losses.{AsksForConnections}
+use Rattle.user_client.specs.Traces.{Trace}
 use Rattle.user_client.proofs.publisher.Publisher.run.Given as goal
 
 abbrev pub invariant-loop-opened : goal.invariant-loop-opened

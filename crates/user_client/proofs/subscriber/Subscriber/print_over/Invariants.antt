@@ -1,4 +1,4 @@
-use Rattle.user_client.specs.Listening.{PrintsAccepted}
+use Rattle.user_client.specs.Subscriber.{PrintsAccepted}
 use Rattle.user_client.proofs.subscriber.Subscriber.print_over.Given as goal
 
 abbrev pub invariant-loop : goal.invariant-loop

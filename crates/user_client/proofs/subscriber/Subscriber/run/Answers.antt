@@ -1,6 +1,6 @@
 use Rattle.std.proofs.Common.{◌≡◌, ℕ, arith, inl, subst}
-use Rattle.user_client.specs.Listening.{SubscriberView, PrintsAccepted, listening_anew}
-use Rattle.user_client.specs.Losing.{AsksForConnections}
+use Rattle.user_client.specs.Subscriber.{SubscriberView, PrintsAccepted, listening_anew}
+use Rattle.user_client.specs.Losses.{AsksForConnections}
 use Rattle.user_client.proofs.LossFollows.{gives_up_later}
 use Rattle.user_client.proofs.PrintsJoin.{made_of, hears_join, hears_none}
 use Rattle.user_client.proofs.subscriber.Subscriber.run.Goals as goal

@@ -1,5 +1,5 @@
-use Rattle.user_client.specs.Listening.{PrintsAccepted, listening_anew}
-use Rattle.user_client.specs.Losing.{AsksForConnections}
+use Rattle.user_client.specs.Subscriber.{PrintsAccepted, listening_anew}
+use Rattle.user_client.specs.Losses.{AsksForConnections}
 use Rattle.user_client.proofs.subscriber.Subscriber.run.Given as goal
 
 abbrev pub invariant-loop-opened : goal.invariant-loop-opened

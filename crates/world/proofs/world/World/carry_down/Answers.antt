@@ -1,12 +1,12 @@
 use Rattle.std.proofs.Common.{◌≤◌, refl, arith}
 use Rattle.master.proofs.Counting.{get_there}
-use Rattle.world.specs.Inside.Calling.{with_one_loss}
+use Rattle.world.specs.Inside.ClientCalls.{with_one_loss}
 use Rattle.world.specs.World.{WorldState}
 use Rattle.world.proofs.CallsCounted.{carrying_counted}
 use Rattle.world.proofs.ClientGoes.{client_goes_on, housed_still, same_piped}
 use Rattle.world.proofs.ItemsMet.{carried_down_meets, carries_none_down}
 use Rattle.world.proofs.Joined.{goes_on_rest}
-use Rattle.world.proofs.StandsThere.{client_within, way_within}
+use Rattle.world.proofs.StandsThere.{client_within, pair_within}
 use Rattle.world.proofs.world.World.carry_down.Goals as goal
 
 pub returns-in_default-clause-goes : goal.returns-in_default-clause-goes
@@ -23,7 +23,7 @@ carry_down_on-requires c =
     let stands = rw (← c.self.view_is) at c.in-Some.ensures.stands in
     let few = client_within c.self.inside.clients.items c.self.inside.connections.items c.args.number c.in-Some.slot c.self.invariant.0 stands.1 stands.0 in
     let found = get_there c.self.inside.clients.items c.in-Some.slot.client c.index_mut.result.now few c.index_mut.ensures.value in
-    way_within c.self.inside.clients.items c.self.inside.connections.items c.args.number c.in-Some.slot c.index_mut.result.now c.self.invariant.0 stands.1 stands.0 found
+    pair_within c.self.inside.clients.items c.self.inside.connections.items c.args.number c.in-Some.slot c.index_mut.result.now c.self.invariant.0 stands.1 stands.0 found
 
 pub returns-in-Err-clause-goes : goal.returns-in-Err-clause-goes
 returns-in-Err-clause-goes c =

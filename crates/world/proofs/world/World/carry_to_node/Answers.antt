@@ -3,7 +3,7 @@ use Rattle.master.proofs.Counting.{get_there}
 use Rattle.world.specs.World.{WorldState}
 use Rattle.world.proofs.ClientGoes.{housed_still}
 use Rattle.world.proofs.Handed.{takes_none, takes_nothing_on, takes_on, takes_up_on}
-use Rattle.world.proofs.StandsThere.{client_within, way_within}
+use Rattle.world.proofs.StandsThere.{client_within, pair_within}
 use Rattle.world.proofs.world.World.carry_to_node.Goals as goal
 
 pub index_mut-requires : goal.index_mut-requires
@@ -17,7 +17,7 @@ carry_to_node-requires c =
     let stands = rw (← c.self.view_is) at c.requires.stands in
     let few = client_within c.self.inside.clients.items c.self.inside.connections.items c.args.number c.args.slot c.self.invariant.0 stands c.requires.positive in
     let found = get_there c.self.inside.clients.items c.args.slot.client c.index_mut.result.now few c.index_mut.ensures.value in
-    way_within c.self.inside.clients.items c.self.inside.connections.items c.args.number c.args.slot c.index_mut.result.now c.self.invariant.0 stands c.requires.positive found
+    pair_within c.self.inside.clients.items c.self.inside.connections.items c.args.number c.args.slot c.index_mut.result.now c.self.invariant.0 stands c.requires.positive found
 
 pub invariant_of-self : goal.invariant_of-self
 invariant_of-self c =

@@ -1,5 +1,5 @@
 use Rattle.std.proofs.Common.{◌∙◌, ap, inl, inr, subst, Bool}
-use Rattle.world.specs.Inside.Carrying.{CarriesUpOnWhere}
+use Rattle.world.specs.Inside.Transport.{CarriesUpOnWhere}
 use Rattle.world.specs.World.{WorldState}
 use Rattle.world.proofs.ItemsMet.{carries_up, lost_up}
 use Rattle.world.proofs.Joined.{goes_on_join, goes_on_still}

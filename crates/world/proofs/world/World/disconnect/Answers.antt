@@ -6,7 +6,7 @@ use Rattle.world_pipes.specs.declared.clients.world_client.WorldClient.{WorldCli
 use Rattle.master.proofs.Counting.{get_there}
 use Rattle.world.specs.Cannot.{HoldsNone}
 use Rattle.world.specs.ClientCalls.{SendsDisconnect, LosesLeaving}
-use Rattle.world.specs.Inside.Calling.{with_one_loss}
+use Rattle.world.specs.Inside.ClientCalls.{with_one_loss}
 use Rattle.world.specs.World.{WorldState}
 use Rattle.world.proofs.CallsCounted.{call_counted}
 use Rattle.world.proofs.CallsMet.{client_meets, disconnect_meets, leave_outcome}

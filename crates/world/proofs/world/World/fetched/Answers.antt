@@ -1,6 +1,6 @@
 use Rattle.std.proofs.Common.{◌≡◌, ◌<◌, ℕ, List, length, sym, ◌∙◌, subst, arith}
 use Rattle.std.proofs.lemmas.Option.{none-some}
-use Rattle.world.proofs.WaysWritten.{fetched_here, fetched_nowhere}
+use Rattle.world.proofs.PairsWritten.{fetched_here, fetched_nowhere}
 use Rattle.world.proofs.world.World.fetched.Goals as goal
 
 pub returns-in_err-index-clause-none : goal.returns-in_err-index-clause-none

@@ -1,7 +1,7 @@
 use Rattle.std.proofs.Common.{◌-◌, ℕ, Bool, true, false, List, slice_get, refl, ap, ◌∙◌, subst, arith}
 use Rattle.world_pipes.specs.declared.clients.connection_slot.ConnectionSlot.{ConnectionSlot}
-use Rattle.world.specs.Inside.Handing.{GatheringOrLost}
-use Rattle.world_pipes.specs.clients.Handing.{StaysQuiet}
+use Rattle.world.specs.Inside.PortOutput.{GatheringOrLost}
+use Rattle.world_pipes.specs.clients.NodeOutput.{StaysQuiet}
 use Rattle.world.specs.World.{WorldState}
 use Rattle.world.proofs.Joined.{goes_on_join, goes_on_rest, goes_on_still}
 use Rattle.world.proofs.Gathered.{stays_open}

@@ -5,7 +5,7 @@ use Rattle.world.specs.World.{WorldState}
 use Rattle.world.proofs.ClientGoes.{housed_still}
 use Rattle.world.proofs.Handed.{gathers_on, gathering_goes}
 use Rattle.world_pipes.proofs.of_clients.LeadsKept.{led, led_there}
-use Rattle.world.proofs.StandsThere.{client_within, way_within}
+use Rattle.world.proofs.StandsThere.{client_within, pair_within}
 use Rattle.world.proofs.world.World.gather_on.Goals as goal
 
 pub invariant_of-self : goal.invariant_of-self
@@ -36,7 +36,7 @@ hand_down-requires c =
     let stands = rw (← c.self.view_is) at c.requires.stands in
     let few = client_within c.self.inside.clients.items c.self.inside.connections.items c.args.number c.args.slot c.self.invariant.0 stands c.requires.positive in
     let found = get_there c.self.inside.clients.items c.args.slot.client c.index_mut.result.now few c.index_mut.ensures.value in
-    way_within c.self.inside.clients.items c.self.inside.connections.items c.args.number c.args.slot c.index_mut.result.now c.self.invariant.0 stands c.requires.positive found
+    pair_within c.self.inside.clients.items c.self.inside.connections.items c.args.number c.args.slot c.index_mut.result.now c.self.invariant.0 stands c.requires.positive found
 
 pub returns-clause-gathers : goal.returns-clause-gathers
 returns-clause-gathers c =
@@ -49,8 +49,8 @@ returns-clause-gathers c =
       connections = c.self.inside.connections.items;
       losses = c.self.inside.losses;
     } in
-    let way = led old.clients c.args.number c.args.slot c.index_mut.result.now (led_there (targets_of_clients old.clients) old.connections c.args.number c.args.slot c.self.invariant.0 stands c.requires.positive) found in
-    rw (← c.self.view_is) (gathers_on old c.args.number c.args.slot c.index_mut.result.now way.way c.hand_down.result c.hand_down.new.nodes c.hand_down.new.piped found way.found
+    let pair = led old.clients c.args.number c.args.slot c.index_mut.result.now (led_there (targets_of_clients old.clients) old.connections c.args.number c.args.slot c.self.invariant.0 stands c.requires.positive) found in
+    rw (← c.self.view_is) (gathers_on old c.args.number c.args.slot c.index_mut.result.now pair.pair c.hand_down.result c.hand_down.new.nodes c.hand_down.new.piped found pair.found
     c.hand_down.ensures.puts)
 
 pub index_mut-requires : goal.index_mut-requires

@@ -1,5 +1,5 @@
 use Rattle.std.proofs.Common.{◌≡◌}
-use Rattle.world_pipes.specs.clients.Handing.{StaysQuiet}
+use Rattle.world_pipes.specs.clients.NodeOutput.{StaysQuiet}
 use Rattle.world.proofs.Walked.{IsWalking}
 use Rattle.world.proofs.world.World.gather_open.Given as goal
 

@@ -1,4 +1,4 @@
-use Rattle.world.proofs.WaysWritten.{session_no, session_told, session_yes}
+use Rattle.world.proofs.PairsWritten.{session_no, session_told, session_yes}
 use Rattle.world.proofs.world.World.has_session.Goals as goal
 
 pub returns-clause-yes : goal.returns-clause-yes

@@ -2,13 +2,13 @@ use Rattle.std.proofs.Common.{◌≤◌, ◌<◌, [], ◌∷◌, length, refl, s
 use Rattle.std.specs.Option.{is_some}
 use Rattle.std.proofs.lemmas.Option.{same_Some}
 use Rattle.client.specs.Core.{Core}
-use Rattle.client_base.specs.Publishing.{publish_refusal}
+use Rattle.client_base.specs.Publications.{publish_refusal}
 use Rattle.world_pipes.specs.declared.clients.world_client.WorldClient.{WorldClient}
 use Rattle.master.proofs.Counting.{get_there}
 use Rattle.client_base.specs.Steps.{Call}
 use Rattle.world.specs.ClientCalls.{SendsCall, LosesAsking}
 use Rattle.world.specs.Cannot.{RefusesCall}
-use Rattle.world.specs.Inside.Calling.{with_one_loss}
+use Rattle.world.specs.Inside.ClientCalls.{with_one_loss}
 use Rattle.world.specs.World.{WorldState}
 use Rattle.world.proofs.AskedSo.{publish_asked}
 use Rattle.world.proofs.CallsMet.{asked_before, call_outcome, client_meets, publish_meets, refuses_publication, takes_publication}

@@ -1,6 +1,6 @@
 use Rattle.std.proofs.Common.{take}
 use Rattle.world.specs.Trace.{KeepsGroup}
-use Rattle.world.specs.Happening.{EventsHappen}
+use Rattle.world.specs.Events.{EventsHappen}
 use Rattle.world.proofs.AskedSo.{HasAsked}
 use Rattle.world.proofs.world.World.run.Given as goal
 

@@ -8,7 +8,7 @@ use Rattle.master.proofs.Counting.{get_there}
 use Rattle.client_base.specs.Steps.{Call}
 use Rattle.world.specs.ClientCalls.{SendsCall, LosesAsking}
 use Rattle.world.specs.Cannot.{RefusesCall}
-use Rattle.world.specs.Inside.Calling.{with_one_loss}
+use Rattle.world.specs.Inside.ClientCalls.{with_one_loss}
 use Rattle.world.specs.World.{WorldState}
 use Rattle.world.proofs.CallsCounted.{call_counted}
 use Rattle.world.proofs.CallsMet.{asked_before, call_outcome, client_meets, subscribe_meets, refuses_filter, takes_filter}

@@ -3,13 +3,13 @@ use Rattle.std.specs.Option.{is_some}
 use Rattle.std.proofs.lemmas.Option.{same_Some}
 use Rattle.client.specs.Core.{Core}
 use Rattle.client_base.specs.Steps.{request_refusal}
-use Rattle.packet_base.specs.declared.qos.QoS.TheVariants as qualities
+use Rattle.packet_base.specs.declared.qos.QoS.TheVariants as qos_levels
 use Rattle.world_pipes.specs.declared.clients.world_client.WorldClient.{WorldClient}
 use Rattle.master.proofs.Counting.{get_there}
 use Rattle.client_base.specs.Steps.{Call}
 use Rattle.world.specs.ClientCalls.{SendsCall, LosesAsking}
 use Rattle.world.specs.Cannot.{RefusesCall}
-use Rattle.world.specs.Inside.Calling.{with_one_loss}
+use Rattle.world.specs.Inside.ClientCalls.{with_one_loss}
 use Rattle.world.specs.World.{WorldState}
 use Rattle.world.proofs.CallsCounted.{call_counted}
 use Rattle.world.proofs.CallsMet.{asked_before, call_outcome, client_meets, unsubscribe_meets, refuses_filter, takes_filter}
@@ -51,7 +51,7 @@ returns-clause-meets c =
     let before = get_there c.self.inside.clients.items c.in-Some.at c.index.result.now few c.index.ensures in
     let is : c.core.result.now ≡ c.index_mut.result.now.piped.core =
     c.core.ensures ∙ ap (λ (k : WorldClient). k.piped.core) (same_Some c.index.result.now c.index_mut.result.now (sym before ∙ found)) in
-    let possible = takes_filter c.args.filter.now qualities.AtMostOnce c.index_mut.result.now.piped.core (subst (λ (k : Core). is_some (request_refusal k.state) ≡ false) is (sym c.refuses_requests.ensures ∙ c.if-refuses_requests.false)) in
+    let possible = takes_filter c.args.filter.now qos_levels.AtMostOnce c.index_mut.result.now.piped.core (subst (λ (k : Core). is_some (request_refusal k.state) ≡ false) is (sym c.refuses_requests.ensures ∙ c.if-refuses_requests.false)) in
     let first = rw (← c.self.view_is) at c.in-Some.ensures.exact in
     let old : WorldState = record {
       nodes = c.self.inside.nodes;
@@ -79,5 +79,5 @@ returns-then-refuses_requests-clause-meets c =
       connections = c.self.inside.connections.items;
       losses = c.self.inside.losses;
     } in
-    let refuses = refuses_filter c.args.filter.now qualities.AtMostOnce c.index.result.now.piped.core (subst (λ (k : Core). is_some (request_refusal k.state) ≡ true) c.core.ensures (sym c.refuses_requests.ensures ∙ c.if-refuses_requests.true)) in
+    let refuses = refuses_filter c.args.filter.now qos_levels.AtMostOnce c.index.result.now.piped.core (subst (λ (k : Core). is_some (request_refusal k.state) ≡ true) c.core.ensures (sym c.refuses_requests.ensures ∙ c.if-refuses_requests.true)) in
     rw (← c.self.view_is) (asked_before c.args.client.now (RefusesCall (Call.Unsubscribes c.args.filter.now)) old c.in-Some.at c.index.result.now (sym first) found refuses.1)

@@ -1,5 +1,5 @@
 use Rattle.std.proofs.Common.{sym, refl, ◌∙◌}
-use Rattle.master.specs.Copying.{has_numbers_alone}
+use Rattle.master.specs.Copies.{has_numbers_alone}
 use Rattle.master.proofs.Quiet.{not_copied}
 use Rattle.world_nodes.specs.Nodes.{NodesState}
 use Rattle.world_nodes.proofs.MasterActs.{asked_in, came_on, came_to_master, comes_exactly, comes_on, delivered_or_lost, heard_ballot, heard_or_lost, may_come_on, sent_copy}

@@ -1,6 +1,6 @@
 use Rattle.std.proofs.Common.{◌≡◌, ◌≤◌, ◌-◌, ◌∙◌, inl, inr, length, Some, refl, ap, arith}
 use Rattle.headline.specs.node_moves.Moves.NodeCall.{hands_out}
-use Rattle.world_nodes.specs.Running.{numbered_node}
+use Rattle.world_nodes.specs.RunningNodes.{numbered_node}
 use Rattle.world_nodes.specs.Nodes.{NodesState}
 use Rattle.world_nodes.specs.Steps.{nodes_with_loss}
 use Rattle.world_nodes.proofs.CountsGoOn.{acts_counting}

@@ -10,7 +10,7 @@ use Rattle.world_pipes.proofs.piped_client.PipedClient.publish.Goals as goal
 pub invariant_of-self-2 : goal.invariant_of-self-2
 invariant_of-self-2 c =
     held_so (keeper_step (Call.Publishes (publication_with c.args.retain c.args.qos c.args.topic c.args.payload)) c.self.inside.core.state)
-    c.self.inside.core c.publish.new.self c.send_up.new.core c.self.inside.ways.items c.send_up.new.ways.items c.send_up.result
+    c.self.inside.core c.publish.new.self c.send_up.new.core c.self.inside.pairs.items c.send_up.new.pairs.items c.send_up.result
     c.self.inside.holds c.send_up.new.holds c.self.invariant (publishing_stays (publication_with c.args.retain c.args.qos c.args.topic c.args.payload) c.self.inside.core.state)
     c.in_ok-publish.ensures c.send_up.ensures
 
@@ -18,14 +18,14 @@ pub returns-clause-calls : goal.returns-clause-calls
 returns-clause-calls c =
     rw (← c.self.view_is)
     (called_so (keeper_step (Call.Publishes (publication_with c.args.retain c.args.qos c.args.topic c.args.payload)) c.self.inside.core.state)
-    (piped c.self.inside.core c.self.inside.ways.items) c.publish.new.self c.send_up.new.core c.send_up.new.ways.items c.send_up.result
+    (piped c.self.inside.core c.self.inside.pairs.items) c.publish.new.self c.send_up.new.core c.send_up.new.pairs.items c.send_up.result
     c.self.inside.holds c.send_up.new.holds c.self.invariant c.in_ok-publish.ensures c.send_up.ensures)
 
 pub returns-clause-goes : goal.returns-clause-goes
 returns-clause-goes c =
     publishing_follows (publication_with c.args.retain c.args.qos c.args.topic c.args.payload) c.args.self.now (Ok c.send_up.result)
-    (piped c.send_up.new.core c.send_up.new.ways.items) c.as_str-known.ensures.checked
+    (piped c.send_up.new.core c.send_up.new.pairs.items) c.as_str-known.ensures.checked
     (rw (← c.self.view_is)
     (called_so (keeper_step (Call.Publishes (publication_with c.args.retain c.args.qos c.args.topic c.args.payload)) c.self.inside.core.state)
-    (piped c.self.inside.core c.self.inside.ways.items) c.publish.new.self c.send_up.new.core c.send_up.new.ways.items c.send_up.result
+    (piped c.self.inside.core c.self.inside.pairs.items) c.publish.new.self c.send_up.new.core c.send_up.new.pairs.items c.send_up.result
     c.self.inside.holds c.send_up.new.holds c.self.invariant c.in_ok-publish.ensures c.send_up.ensures))

@@ -1,4 +1,4 @@
-use Rattle.world_pipes.proofs.WayChanged.{swapping_follows}
+use Rattle.world_pipes.proofs.PairChanged.{swapping_follows}
 use Rattle.world_pipes.proofs.piped_client.PipedClient.swap_down.Goals as goal
 
 pub returns-clause-goes : goal.returns-clause-goes

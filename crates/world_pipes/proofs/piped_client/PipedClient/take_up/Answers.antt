@@ -1,4 +1,4 @@
-use Rattle.world_pipes.proofs.WayChanged.{taking_up_follows}
+use Rattle.world_pipes.proofs.PairChanged.{taking_up_follows}
 use Rattle.world_pipes.proofs.piped_client.PipedClient.take_up.Goals as goal
 
 pub returns-clause-goes : goal.returns-clause-goes

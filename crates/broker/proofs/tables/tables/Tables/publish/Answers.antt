@@ -8,7 +8,7 @@ use Rattle.broker_spec.specs.Answers.{acknowledged}
 use Rattle.broker_spec.specs.Retained.{retains}
 use Rattle.broker_spec.specs.Commands.{usual_limits}
 use Rattle.broker_base.specs.rows.Published.{all_delivered, answered_in_turn, session_changed, received_on}
-use Rattle.broker_base.specs.rows.PublishLaws.{is_refused_by_rows, HaveRoomInTurn}
+use Rattle.broker_base.specs.rows.PublishTheorems.{is_refused_by_rows, HaveRoomInTurn}
 use Rattle.broker.specs.tables.Tables.{state_in}
 use Rattle.broker.proofs.of_tables.FoundByMaps.{has_session, is_served}
 use Rattle.broker.proofs.of_tables.Publications.{repeat_of, refused_of, taken_of, room_of_taken, ties_of_taken}

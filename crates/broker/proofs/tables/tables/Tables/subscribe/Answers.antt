@@ -14,7 +14,7 @@ use Rattle.broker_spec.specs.Subscriptions.{as_granted, granted_of}
 use Rattle.broker_spec.specs.declared.command.Output.TheVariants as outputs
 use Rattle.broker_base.specs.ClientSession.{ClientSession}
 use Rattle.broker_base.specs.State.{Sessions, session_in}
-use Rattle.broker_base.specs.rows.CopyLaws.{granted_in_turn, subscribed_in_turn, sent_in_turn}
+use Rattle.broker_base.specs.rows.CopyTheorems.{granted_in_turn, subscribed_in_turn, sent_in_turn}
 use Rattle.broker_base.specs.rows.Indexed.{all_set}
 use Rattle.broker_base.specs.rows.Served.{with_content}
 use Rattle.broker.proofs.of_tables.FoundByMaps.{has_session, is_served}

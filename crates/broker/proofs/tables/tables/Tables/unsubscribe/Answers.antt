@@ -11,7 +11,7 @@ use Rattle.broker_spec.specs.Place.{by_bytes}
 use Rattle.broker_base.specs.ClientSession.{ClientSession}
 use Rattle.broker_base.specs.State.{Sessions, session_in}
 use Rattle.broker_base.specs.rows.Indexed.{all_cleared}
-use Rattle.broker_base.specs.rows.PacketLaws.{handled_state}
+use Rattle.broker_base.specs.rows.PacketTheorems.{handled_state}
 use Rattle.broker_base.specs.rows.Served.{with_content}
 use Rattle.broker.proofs.of_tables.FoundByMaps.{has_session, is_served}
 use Rattle.broker.proofs.of_tables.Unsubscriptions.{unsubscribe_of, ties_of_unsubscribe}

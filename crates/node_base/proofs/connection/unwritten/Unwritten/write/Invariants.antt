@@ -1,5 +1,5 @@
 use Rattle.std.specs.Prelude.{◌≡◌}
-use Rattle.node_base.specs.connection.Writing.{Writes}
+use Rattle.node_base.specs.connection.Written.{Writes}
 use Rattle.node_base.proofs.connection.unwritten.Unwritten.write.Given as goal
 
 abbrev pub invariant-loop : goal.invariant-loop

@@ -1,5 +1,5 @@
 use Rattle.std.proofs.Common.{sym, subst}
-use Rattle.post.specs.outbox.Waiting.{Waits}
+use Rattle.post.specs.outbox.WaitingItems.{Waits}
 use Rattle.post.proofs.of_outbox.OutboxKept.{waits_taken}
 use Rattle.post.proofs.outbox.outbox.Outbox.drop_replaced.Goals as goal
 

@@ -1,7 +1,7 @@
 use Rattle.std.specs.Prelude.{is_ok}
 use Rattle.std.proofs.Common.{rules, sym, subst}
 use Rattle.post.specs.outbox.Queued.{IsQueued}
-use Rattle.post.specs.outbox.Waiting.{OutboxView}
+use Rattle.post.specs.outbox.WaitingItems.{OutboxView}
 use Rattle.post.proofs.of_outbox.OutboxKept.{queued_more}
 use Rattle.post.proofs.outbox.outbox.Outbox.push.Goals as goal
 

@@ -1,7 +1,7 @@
 use Rattle.std.proofs.Common.{List, [], sym, subst}
 use Rattle.node.specs.declared.Item.{Item}
-use Rattle.server.specs.node_threads.Serving.{SendsOwn}
-use Rattle.server.specs.node_threads.Serving.SendsOwn.{starts}
+use Rattle.server.specs.node_threads.LaneReports.{SendsOwn}
+use Rattle.server.specs.node_threads.LaneReports.SendsOwn.{starts}
 use Rattle.server.proofs.node_threads.own_lane.OwnLane.new.Goals as goal
 
 pub invariant_of-result : goal.invariant_of-result

@@ -1,8 +1,8 @@
 use Rattle.std.proofs.Common.{ℕ, ◌∙◌, ap, subst}
 use Rattle.node.specs.declared.Port.{Port}
 use Rattle.streams.specs.Ports.{port_of}
-use Rattle.server.specs.node_threads.Serving.{ReportsOne}
-use Rattle.server.specs.node_threads.Serving.ReportsEach.{begins, goes_on}
+use Rattle.server.specs.node_threads.LaneReports.{ReportsOne}
+use Rattle.server.specs.node_threads.LaneReports.ReportsEach.{begins, goes_on}
 use Rattle.server.proofs.node_threads.served_node.ServedNode.serve_lane.Goals as goal
 
 pub loop-count-init : goal.loop-count-init

@@ -1,4 +1,4 @@
-use Rattle.server.specs.node_threads.Serving.{ReportsEach}
+use Rattle.server.specs.node_threads.LaneReports.{ReportsEach}
 use Rattle.server.proofs.node_threads.served_node.ServedNode.serve_lane.Given as goal
 
 abbrev pub invariant-loop-count : goal.invariant-loop-count

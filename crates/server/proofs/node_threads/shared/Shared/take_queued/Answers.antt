@@ -1,5 +1,5 @@
 use Rattle.std.proofs.Common.{rules}
-use Rattle.server.specs.node_threads.Serving.SendsOwn.{starts}
+use Rattle.server.specs.node_threads.LaneReports.SendsOwn.{starts}
 use Rattle.server.proofs.of_node_threads.OwnSendsJoin.{own_join}
 use Rattle.server.proofs.node_threads.shared.Shared.take_queued.Goals as goal
 

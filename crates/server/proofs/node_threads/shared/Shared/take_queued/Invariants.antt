@@ -1,7 +1,7 @@
 use Rattle.std.specs.Vec.Iter.{into_iter_items}
 use Rattle.lists.specs.Lists.{Each}
 use Rattle.post.specs.outbox.Queued.{IsQueued}
-use Rattle.server.specs.node_threads.Serving.{SendsOwn}
+use Rattle.server.specs.node_threads.LaneReports.{SendsOwn}
 use Rattle.server.proofs.node_threads.shared.Shared.take_queued.Given as goal
 
 abbrev pub invariant-loop-item : goal.invariant-loop-item

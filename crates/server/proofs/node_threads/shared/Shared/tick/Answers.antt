@@ -1,7 +1,7 @@
 use Rattle.std.proofs.Common.{ap}
 use Rattle.mailbox.specs.Ends.{LaneView}
 use Rattle.node.specs.declared.Item.{Item}
-use Rattle.server.specs.node_threads.Serving.SendsOwn.{starts}
+use Rattle.server.specs.node_threads.LaneReports.SendsOwn.{starts}
 use Rattle.server.proofs.of_node_threads.OwnSendsJoin.{own_join, own_tick}
 use Rattle.server.proofs.node_threads.shared.Shared.tick.Goals as goal
 

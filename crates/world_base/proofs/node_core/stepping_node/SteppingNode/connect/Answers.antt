@@ -3,7 +3,7 @@ use Rattle.broker_spec.specs.declared.command.Command.TheVariants as commands
 use Rattle.world_base.specs.node_core.Inside.{RunningStep}
 use Rattle.world_base.proofs.of_node_core.Closes.{closes_refused}
 use Rattle.world_base.specs.node_core.Lossy.{without_effects}
-use Rattle.world_base.specs.node_core.LossyReading.{ClosesConnection}
+use Rattle.world_base.specs.node_core.LossyPacketInput.{ClosesConnection}
 use Rattle.world_base.proofs.of_node_core.EndsRun.{core_of, ran_asked, ran_otherwise}
 use Rattle.world_base.proofs.node_core.stepping_node.SteppingNode.connect.Goals as goal
 

@@ -1,7 +1,7 @@
 use Rattle.std.proofs.Common.{◌++◌, sym, ap, ◌∙◌}
 use Rattle.std.proofs.lemmas.List.{append-nil}
 use Rattle.world_base.specs.node_connections.Connections.{is_at}
-use Rattle.world_base.specs.node_connections.Pending.{handed_after, pending_bytes}
+use Rattle.world_base.specs.node_connections.PendingOutput.{handed_after, pending_bytes}
 use Rattle.world_base.proofs.of_node_core.HandsOver.{handed_none, handed_there}
 use Rattle.world_base.proofs.of_node_core.Indices.{none_found, found_there}
 use Rattle.world_base.proofs.node_core.stepping_node.SteppingNode.outgoing.Goals as goal

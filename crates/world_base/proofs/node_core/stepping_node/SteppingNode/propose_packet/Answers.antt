@@ -2,7 +2,7 @@ use Rattle.std.proofs.Common.{sym, ap, ◌∙◌}
 use Rattle.broker_spec.specs.declared.command.Command.TheVariants as commands
 use Rattle.world_base.specs.node_core.Inside.{RunningStep}
 use Rattle.world_base.proofs.of_node_core.Closes.{closes_refused}
-use Rattle.world_base.specs.node_core.LossyReading.{Shuts}
+use Rattle.world_base.specs.node_core.LossyPacketInput.{Shuts}
 use Rattle.world_base.proofs.of_node_core.EndsRun.{ran_asked, ran_otherwise, shuts_by}
 use Rattle.world_base.proofs.node_core.stepping_node.SteppingNode.propose_packet.Goals as goal
 

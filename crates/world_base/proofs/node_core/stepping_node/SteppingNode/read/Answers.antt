@@ -2,8 +2,8 @@ use Rattle.std.proofs.Common.{◌≡◌, ◌≤◌, ℕ, suc, ◌+◌, subst, ar
 use Rattle.world_base.specs.node_core.Inside.{StepPartOrLost, DoesOutcome}
 use Rattle.world_base.specs.node_core.Lossy.{Repeated}
 use Rattle.world_base.specs.node_core.LossyStep.{ReadsPackets}
-use Rattle.world_base.specs.node_core.LossyReading.{ReadsNext}
-use Rattle.world_base.specs.node_core.Reading.{open_at, reads_next, unread_of}
+use Rattle.world_base.specs.node_core.LossyPacketInput.{ReadsNext}
+use Rattle.world_base.specs.node_core.PacketInput.{open_at, reads_next, unread_of}
 use Rattle.world_base.specs.node_core.Effects.{repeated}
 use Rattle.world_base.proofs.of_node_core.Accounts.{ran_as, ran_enough, ran_more, ran_none}
 use Rattle.world_base.proofs.of_node_core.Repeats.{repeats_none, repeats_more, repeats_enough}

@@ -1,7 +1,7 @@
 use Rattle.world_base.specs.node_core.Inside.{StepPartOrLost, DoesOutcome}
-use Rattle.world_base.specs.node_core.Reading.{reads_next}
+use Rattle.world_base.specs.node_core.PacketInput.{reads_next}
 use Rattle.world_base.specs.node_core.Lossy.{Repeated}
-use Rattle.world_base.specs.node_core.LossyReading.{ReadsNext}
+use Rattle.world_base.specs.node_core.LossyPacketInput.{ReadsNext}
 use Rattle.world_base.specs.node_core.Effects.{repeated}
 use Rattle.world_base.proofs.node_core.stepping_node.SteppingNode.read.Given as goal
 

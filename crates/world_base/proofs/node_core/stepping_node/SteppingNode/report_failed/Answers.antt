@@ -1,5 +1,5 @@
 use Rattle.std.proofs.Common.{◌≡◌, ◌≤◌, ℕ, suc, ◌+◌, length, refl, subst, arith}
-use Rattle.world_base.specs.node_core.Failing.{reports_failed}
+use Rattle.world_base.specs.node_core.FailedConnections.{reports_failed}
 use Rattle.world_base.specs.node_core.Inside.{StepPartOrLost, DoesOutcome}
 use Rattle.world_base.specs.node_core.Lossy.{Repeated}
 use Rattle.world_base.specs.node_core.LossyStep.{ReportsAllFailed}

@@ -1,7 +1,7 @@
 use Rattle.std.specs.Prelude.{◌≡◌, None}
 use Rattle.std.specs.List.{find}
 use Rattle.world_base.specs.node_connections.Connections.{has_failed}
-use Rattle.world_base.specs.node_core.Failing.{reports_failed}
+use Rattle.world_base.specs.node_core.FailedConnections.{reports_failed}
 use Rattle.world_base.specs.node_core.Inside.{StepPartOrLost, DoesOutcome}
 use Rattle.world_base.specs.node_core.Lossy.{Repeated}
 use Rattle.world_base.specs.node_core.LossyEndings.{ReportsFailed}

@@ -1,6 +1,6 @@
 use Rattle.std.proofs.Common.{◌≡◌, Some, sym, ap, ◌∙◌}
 use Rattle.world_base.specs.node_connections.Connections.{is_open_at}
-use Rattle.world_base.specs.node_core.Reading.{open_at, unread_of}
+use Rattle.world_base.specs.node_core.PacketInput.{open_at, unread_of}
 use Rattle.world_base.proofs.of_node_core.Indices.{none_found, found_there}
 use Rattle.world_base.proofs.node_core.stepping_node.SteppingNode.unread_len.Goals as goal
 

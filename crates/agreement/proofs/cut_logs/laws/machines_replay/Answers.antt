@@ -1,6 +1,0 @@
-use Rattle.agreement.proofs.of_cut_logs.MomentsAgree.{machines_replay}
-use Rattle.agreement.proofs.cut_logs.laws.machines_replay.Goals as goal
-
-pub returns : goal.returns
-returns g c =
-    machines_replay g.M.Machine.rules

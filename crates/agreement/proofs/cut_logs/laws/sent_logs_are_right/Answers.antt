@@ -1,6 +1,0 @@
-use Rattle.agreement.proofs.of_cut_logs.MomentsAgree.{sent_logs_are_right}
-use Rattle.agreement.proofs.cut_logs.laws.sent_logs_are_right.Goals as goal
-
-pub returns : goal.returns
-returns g c =
-    sent_logs_are_right g.M.Machine.rules

@@ -1,6 +1,0 @@
-use Rattle.agreement.proofs.of_cut_logs.MomentsAgree.{snapshots_are_read}
-use Rattle.agreement.proofs.cut_logs.laws.snapshots_are_read.Goals as goal
-
-pub returns : goal.returns
-returns g c =
-    snapshots_are_read g.M.Machine.rules

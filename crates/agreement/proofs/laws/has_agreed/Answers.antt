@@ -1,6 +1,0 @@
-use Rattle.agreement.proofs.Agreed.MomentsAgree.{has_agreed}
-use Rattle.agreement.proofs.laws.has_agreed.Goals as goal
-
-pub returns : goal.returns
-returns g c =
-    has_agreed g.M.Machine.rules

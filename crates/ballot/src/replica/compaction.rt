@@ -1,0 +1,65 @@
+// How a replica cuts its log.
+
+ghost use Rattle.std.specs.Prelude.{◌≡◌, ◌≤◌, [], Some, true, false};
+ghost use Rattle.ballot_base.specs.Compaction.{can_cut, cut};
+ghost use Rattle.ballot_base.specs.Losses.{one_more};
+
+use super::Replica;
+use ballot_base::counted;
+use machine::Machine;
+
+impl<M: Machine> Replica<M> {
+    /// Returns true if there is something to cut: the replica runs, and has applied places since it
+    /// last cut its log.
+    pub fn can_cut(&self) -> bool
+        ensures { result ≡ can_cut self.now.state }
+    {
+        !self.stopped && self.log.base() < self.committed
+    }
+
+    /// Drops the applied places, once the machine is frozen in their place. Its bytes go into a
+    /// vector with capacity for as many as the last snapshot has, and an eighth more, so that it
+    /// seldom grows; no clause speaks of capacity. Nothing is sent. Returns false if there is
+    /// nothing to drop, or memory ran out: then nothing is changed, except that the latter is
+    /// counted.
+    pub fn cut(&mut self) -> bool
+        ensures done { result ≡ true → (can_cut self.old.state ≡ true)
+            × (self.new ≡ record self.old { state = cut M.rules self.old.state }) }
+        // The frozen bytes thaw to the machine.
+        ensures thaws { result ≡ true →
+            M.rules.thawed (M.rules.frozen self.old.state.machine) ≡ Some self.old.state.machine }
+
+        // If nothing was dropped.
+        ensures same { result ≡ false → self.new.state ≡ self.old.state }
+        ensures counts { result ≡ false → can_cut self.old.state ≡ true →
+            self.new.losses ≡ one_more self.old.losses }
+        ensures idle { can_cut self.old.state ≡ false →
+            (result ≡ false) × (self.new ≡ self.old) }
+    {
+        if self.stopped || self.committed <= self.log.base() {
+            return false;
+        }
+        let mut snapshot = self.log.snapshot_buffer(self.alloc);
+        match self.machine.freeze(&mut snapshot) {
+            Ok(()) => {
+                self.log.cut(self.committed, snapshot);
+                true
+            }
+            Err(_) => {
+                self.losses = counted(self.losses, false);
+                false
+            }
+        }
+    }
+
+    /// Returns the base of the log, and the frozen machine at it: no bytes if the base is 0. The
+    /// places below it are applied.
+    pub fn snapshot(&self) -> (u64, &[u8])
+        ensures base { result.0 ≡ self.now.state.log.base }
+        ensures bytes { result.1.now ≡ self.now.state.log.snapshot }
+        ensures none { result.0 ≡ 0 → result.1.now ≡ [] }
+        ensures applied { result.0 ≤ self.now.state.committed }
+    {
+        (self.log.base(), self.log.snapshot())
+    }
+}

@@ -1,0 +1,62 @@
+// What a new primary does once members have taken its log, or its ballot was superseded.
+
+ghost use Rattle.std.specs.Prelude.{◌≡◌, ◌&&◌, ◌==◌, []};
+ghost use Rattle.std.specs.List.{list_any};
+ghost use Rattle.ballot.specs.Inside.{PlainStepOrLost};
+ghost use Rattle.ballot_base.specs.Activation.{is_installing_in, on_installed, on_superseded};
+
+use super::Replica;
+use ballot_base::{Body, Effect, MASTER, Role, forget};
+use machine::Machine;
+
+impl<M: Machine> Replica<M> {
+    /// Handles Installed: a member no longer lacks the log. With the last one the master may
+    /// activate the ballot.
+    pub(super) fn on_installed(
+        &mut self,
+        from: u8,
+        ballot: u64,
+        out: &mut Vec<Effect<M::Command, M::Output>>,
+    )
+        ensures step { PlainStepOrLost M.rules self.old
+            (on_installed M.Output self.old.state from ballot)
+            self.new out.old.items out.new.items }
+        ensures runs { self.new.state.stopped ≡ self.old.state.stopped }
+    {
+        if !self.waits_for_answer(from, ballot) {
+            return;
+        }
+        forget(from, &mut self.lacking);
+        if !self.lacking.is_empty() {
+            return;
+        }
+        self.send_counted(MASTER, Body::Activate(self.joined), out);
+    }
+
+    /// Handles Superseded: the replica gives the ballot up, and waits for a later one.
+    pub(super) fn on_superseded(&mut self, ballot: u64)
+        ensures step { PlainStepOrLost M.rules self.old
+            (on_superseded M.Output self.old.state ballot) self.new [] [] }
+        ensures runs { self.new.state.stopped ≡ self.old.state.stopped }
+    {
+        if self.installs(ballot) {
+            self.role = Role::Backup;
+        }
+    }
+
+    /// Returns true if this new primary has not yet received a member's answer that it took the
+    /// log.
+    pub(super) fn waits_for_answer(&self, from: u8, ballot: u64) -> bool
+        ensures { result ≡ (is_installing_in self.now.state ballot
+            && list_any (λ member. member == from) self.now.state.lacking) }
+    {
+        self.installs(ballot) && self.lacking.contains(&from)
+    }
+
+    /// Returns true if this is the new primary of a ballot, which sends its log.
+    pub(super) fn installs(&self, ballot: u64) -> bool
+        ensures { result ≡ is_installing_in self.now.state ballot }
+    {
+        self.joined == ballot && self.role.is_installing()
+    }
+}

@@ -1,0 +1,14 @@
+use Rattle.std.proofs.Common.{◌≡◌, ◌++◌}
+use Rattle.machine.specs.Machine.{replay_from}
+use Rattle.ballot_base.specs.Logs.{part}
+use Rattle.ballot_base.specs.Application.{outputs_from}
+use Rattle.ballot_base.proofs.application.apply_places.Given as goal
+
+abbrev pub invariant-loop-place : goal.invariant-loop-place
+invariant-loop-place g l =
+    let rules = g.M.Machine.rules in
+    record {
+      state : l.machine ≡ replay_from rules l.initial.machine (part l.log l.from l.place);
+      outputs : l.out.items ≡ l.initial.out.items
+          ++ outputs_from rules l.initial.machine l.from (part l.log l.from l.place);
+    }

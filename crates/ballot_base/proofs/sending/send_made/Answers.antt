@@ -1,5 +1,0 @@
-use Rattle.ballot_base.proofs.SendsJoin.{Sends-lost}
-use Rattle.ballot_base.proofs.sending.send_made.Goals as goal
-
-pub returns-in-Err : goal.returns-in-Err
-returns-in-Err g c = λ body made. Sends-lost _ _ _

@@ -1,5 +1,0 @@
-use Rattle.broker_base.proofs.of_rows.ConnectSteps.{insertion_writes}
-use Rattle.broker_base.proofs.rows.connect_laws.insertion_writes.Goals as goal
-
-pub returns : goal.returns
-returns c = insertion_writes

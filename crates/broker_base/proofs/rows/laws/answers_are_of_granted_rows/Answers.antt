@@ -1,5 +1,0 @@
-use Rattle.broker_base.proofs.of_rows.publications.AnswersOfGranted.{answers_of_granted}
-use Rattle.broker_base.proofs.rows.laws.answers_are_of_granted_rows.Goals as goal
-
-pub returns : goal.returns
-returns c = answers_of_granted

@@ -1,5 +1,0 @@
-use Rattle.broker_base.proofs.of_rows.publications.GrantedBySessions.{rows_are}
-use Rattle.broker_base.proofs.rows.laws.granted_rows_match.Goals as goal
-
-pub returns : goal.returns
-returns c = rows_are

@@ -1,5 +1,0 @@
-use Rattle.broker_base.proofs.of_rows.CommandOfOwner.{owner_written}
-use Rattle.broker_base.proofs.rows.laws.one_row_is_written.Goals as goal
-
-pub returns : goal.returns
-returns c = owner_written

@@ -1,5 +1,0 @@
-use Rattle.broker_base.proofs.of_rows.PacketSteps.{subscribe_step}
-use Rattle.broker_base.proofs.rows.packet_laws.subscribe_steps.Goals as goal
-
-pub returns : goal.returns
-returns c = subscribe_step

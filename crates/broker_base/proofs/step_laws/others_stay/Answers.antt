@@ -1,5 +1,0 @@
-use Rattle.broker_base.proofs.StepByStep.{others, none_begins}
-use Rattle.broker_base.proofs.step_laws.others_stay.Goals as goal
-
-pub returns : goal.returns
-returns c = record { stays = others; none_begins = none_begins }

@@ -1,5 +1,0 @@
-use Rattle.broker_spec.proofs.AnswersAreAddressed.{answers_are_addressed}
-use Rattle.broker_spec.proofs.laws.answers_are_addressed.Goals as goal
-
-pub returns : goal.returns
-returns c = answers_are_addressed

@@ -1,5 +1,0 @@
-use Rattle.broker_spec.proofs.EntersOnce.{enters_once}
-use Rattle.broker_spec.proofs.laws.enters_once.Goals as goal
-
-pub returns : goal.returns
-returns c = enters_once

@@ -1,5 +1,0 @@
-use Rattle.broker_spec.proofs.EntriesGrow.{entries_only_grow}
-use Rattle.broker_spec.proofs.laws.entries_only_grow.Goals as goal
-
-pub returns : goal.returns
-returns c = entries_only_grow

@@ -1,5 +1,0 @@
-use Rattle.broker_spec.proofs.NothingWaits.{nothing_waits_in_vain}
-use Rattle.broker_spec.proofs.laws.nothing_waits_in_vain.Goals as goal
-
-pub returns : goal.returns
-returns c = nothing_waits_in_vain

@@ -1,6 +1,0 @@
-use Rattle.broker_spec.proofs.PacketOfNobody.{packet_of_nobody_is_nothing}
-use Rattle.broker_spec.proofs.PacketOfNobody.{window_is_steady}
-use Rattle.broker_spec.proofs.laws.packet_of_nobody_is_nothing.Goals as goal
-
-pub returns : goal.returns
-returns c = record { nothing = packet_of_nobody_is_nothing; steady = window_is_steady }

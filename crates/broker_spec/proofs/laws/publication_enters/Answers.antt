@@ -1,5 +1,0 @@
-use Rattle.broker_spec.proofs.PublicationEnters as lemmas
-use Rattle.broker_spec.proofs.laws.publication_enters.Goals as goal
-
-pub returns : goal.returns
-returns c = lemmas.publication_enters

@@ -1,5 +1,0 @@
-use Rattle.broker_spec.proofs.RepeatIsUnreleased.{repeat_is_unreleased}
-use Rattle.broker_spec.proofs.laws.repeat_is_unreleased.Goals as goal
-
-pub returns : goal.returns
-returns c = repeat_is_unreleased

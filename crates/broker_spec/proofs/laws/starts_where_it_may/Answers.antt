@@ -1,5 +1,0 @@
-use Rattle.broker_spec.proofs.StartsWhereItMay.{starts_where_it_may}
-use Rattle.broker_spec.proofs.laws.starts_where_it_may.Goals as goal
-
-pub returns : goal.returns
-returns c = starts_where_it_may

@@ -1,0 +1,138 @@
+// Publications of a client (MQTT 3.3, 4.3).
+
+ghost use Rattle.std.specs.Prelude.{◌≡◌, false, true, IfOk};
+ghost use Rattle.packet.specs.declared.delivery.Delivery.TheVariants as deliveries;
+ghost use Rattle.packet.specs.declared.packet.Packet.TheVariants as packets;
+ghost use Rattle.packet_base.specs.declared.qos.QoS.TheVariants as qos_levels;
+ghost use Rattle.session_base.specs.Publication.{is_answered};
+ghost use Rattle.client_base.specs.State.{publish_kept};
+ghost use Rattle.client_base.specs.Publications.{is_over_limit};
+ghost use Rattle.client_base.specs.Steps.{Call, keeper_step};
+ghost use Rattle.client.specs.Core.{AnswersCall, publication_with};
+ghost use Rattle.client.specs.Inside.Ids.{PublicationId};
+ghost use Rattle.client.specs.Inside.PacketSteps.{kept_publication, sent_publication};
+
+use crate::client_core::ClientCore;
+use crate::output::{publish_again, write, write_publish};
+use client_base::{ClientError, MAX_KEPT, Stage, UnacknowledgedPublication};
+use packet::{Delivery, Packet, Publish};
+use packet_base::{PacketId, Payload, QoS};
+use session_base::Publication;
+use std::alloc::AllocError;
+use topics::TopicName;
+
+impl ClientCore {
+    /// Publishes. At QoS 1 and 2 the publication is kept until its handshake has ended. It is sent
+    /// at once if the client is online, otherwise after the next CONNACK. In this order:
+    /// `WindowFull` comes exactly if at QoS 1 or 2 sixty-four publications are kept or no
+    /// identifier is free. `NotActive` comes if the client is offline at QoS 0, `TooLarge` if the
+    /// packet would be over the size limit, `Memory` if memory runs out. A refusal changes nothing.
+    pub fn publish(
+        &mut self,
+        topic: TopicName,
+        qos: QoS,
+        retain: bool,
+        payload: Payload,
+    ) -> Result<(), ClientError>
+        ensures { let call = Call.Publishes (publication_with retain qos topic payload) in
+            AnswersCall (keeper_step call self.old.state) self.old result self.new }
+    {
+        let publication = Publication {
+            retain,
+            qos,
+            topic,
+            payload,
+        };
+        match qos {
+            QoS::AtMostOnce => self.publish_once(publication),
+            QoS::AtLeastOnce | QoS::ExactlyOnce => self.publish_kept(publication),
+        }
+    }
+
+    // Publishes at QoS 0.
+    fn publish_once(&mut self, publication: Publication) -> Result<(), ClientError>
+        requires { publication.qos ≡ qos_levels.AtMostOnce }
+        ensures { AnswersCall (keeper_step (Call.Publishes publication) self.old.state)
+            self.old result self.new }
+    {
+        if self.stage != Stage::Online {
+            return Err(ClientError::NotActive);
+        }
+        let packet = packet_once(publication);
+        if packet.is_too_large() {
+            return Err(ClientError::TooLarge);
+        }
+        write(&packet, &mut self.out)?;
+        Ok(())
+    }
+
+    // Publishes at QoS 1 or 2.
+    fn publish_kept(&mut self, publication: Publication) -> Result<(), ClientError>
+        requires { is_answered publication.qos ≡ true }
+        ensures { AnswersCall (keeper_step (Call.Publishes publication) self.old.state)
+            self.old result self.new }
+    {
+        let id = self.publication_id()?;
+        self.keep(UnacknowledgedPublication { id, publication })
+    }
+
+    // Keeps a publication, and sends it if the client is online.
+    fn keep(&mut self, kept: UnacknowledgedPublication) -> Result<(), ClientError>
+        ensures { AnswersCall (kept_publication kept self.old.state) self.old result self.new }
+    {
+        if is_too_large(&kept)? {
+            return Err(ClientError::TooLarge);
+        }
+        if self.stage == Stage::Online {
+            return self.send(kept);
+        }
+        self.queued.push(kept)?;
+        Ok(())
+    }
+
+    // Sends a publication, and keeps it as sent.
+    fn send(&mut self, kept: UnacknowledgedPublication) -> Result<(), ClientError>
+        ensures { AnswersCall (sent_publication kept self.old.state) self.old result self.new }
+    {
+        self.sent.reserve(1)?;
+        write_publish(&kept, false, &mut self.out)?;
+        self.sent.push_reserved(kept);
+        Ok(())
+    }
+
+    /// Returns the identifier of the next publication. [`ClientError::WindowFull`] comes if
+    /// `MAX_KEPT` publications are kept, or no identifier is free.
+    pub(crate) fn publication_id(&self) -> Result<PacketId, ClientError>
+        ensures { PublicationId self.now.state result }
+    {
+        if self.kept() >= MAX_KEPT {
+            return Err(ClientError::WindowFull);
+        }
+        self.free_id().ok_or(ClientError::WindowFull)
+    }
+}
+
+// Returns the PUBLISH of a publication at QoS 0.
+fn packet_once(publication: Publication) -> Packet
+    ensures { result ≡ packets.Publish (record {
+      topic = publication.topic;
+      delivery = deliveries.AtMostOnce;
+      retain = publication.retain;
+      payload = publication.payload;
+    }) }
+{
+    Packet::Publish(Publish {
+        topic: publication.topic,
+        delivery: Delivery::AtMostOnce,
+        retain: publication.retain,
+        payload: publication.payload,
+    })
+}
+
+// Returns true if the PUBLISH of a publication is over the size limit.
+fn is_too_large(kept: &UnacknowledgedPublication) -> Result<bool, AllocError>
+    ensures { IfOk result (λ large. large ≡ is_over_limit (publish_kept false kept.now)) }
+{
+    let packet = publish_again(kept, false)?;
+    Ok(packet.is_too_large())
+}

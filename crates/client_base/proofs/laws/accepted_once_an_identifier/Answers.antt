@@ -1,5 +1,0 @@
-use Rattle.client_base.proofs.Received.{accepts_unless_kept, stays_kept}
-use Rattle.client_base.proofs.laws.accepted_once_an_identifier.Goals as goal
-
-pub returns : goal.returns
-returns c = record { accepts = accepts_unless_kept; stays = stays_kept }

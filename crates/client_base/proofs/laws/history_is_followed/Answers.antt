@@ -1,5 +1,0 @@
-use Rattle.client_base.proofs.Follows.{calls_follow}
-use Rattle.client_base.proofs.laws.history_is_followed.Goals as goal
-
-pub returns : goal.returns
-returns c = calls_follow c.least_identifier_is_free.ensures

@@ -1,5 +1,0 @@
-use Rattle.std.proofs.Common.{length}
-use Rattle.command_line.proofs.reading.+are_told_apart.Given as goal
-
-abbrev pub decreases-are_told_apart : goal.decreases-are_told_apart
-decreases-are_told_apart l = length l.nodes.now

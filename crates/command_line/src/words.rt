@@ -1,0 +1,47 @@
+// The words of a command line.
+
+ghost use Rattle.std.specs.Prelude.{◌≡◌, ◌≢◌, [], IfOk, IfErr, OnOk, IsErrOf, map};
+ghost use Rattle.command_line.specs.declared.job.Job.{Job};
+ghost use Rattle.clap.specs.Words.{HasKind, Kinds, fault_of, subcommand_of};
+ghost use Rattle.command_line.specs.Program.{program};
+ghost use Rattle.command_line.specs.Jobs.{IsJob, IsRefusal};
+
+use crate::commands;
+use crate::fault::LineFault;
+use crate::job::Job;
+use crate::job_matches::job_of;
+use clap::Error;
+use clap::error::ErrorKind;
+use std::alloc::Global;
+use std::convert::AsStr;
+
+/// Reads the words of a command line, the first of which is the program's name. The job's texts are
+/// the words themselves.
+pub fn line<'a, S: AsStr>(alloc: Global, words: &'a [S]) -> Result<Job<'a>, LineFault>
+    // The job is the subcommand of the words, and its values are their matches.
+    ensures job { IfOk result (IsJob (subcommand_of program (map S.text words.entry.now))) }
+    ensures taken { OnOk result (fault_of program (map S.text words.entry.now) ≡ []) }
+
+    // Words are refused for a fault that they have, and for no other.
+    ensures refused { IfErr result (IsRefusal (fault_of program (map S.text words.entry.now))) }
+    ensures missing { IsErrOf result LineFault.Incomplete
+        → (job : Job) → IsJob (subcommand_of program (map S.text words.entry.now)) job → ⊥ }
+{
+    let command = commands::program(alloc)?;
+    match command.try_get_matches_from(words) {
+        Ok(matches) => job_of(alloc, &matches),
+        Err(error) => Err(refusal(error)),
+    }
+}
+
+// Returns the refusal of the words, or that memory ran out.
+fn refusal(error: Error) -> LineFault
+    ensures refused { (kinds : Kinds) → HasKind kinds error → IsRefusal kinds result }
+    ensures whole { result ≢ LineFault.Incomplete }
+{
+    if error.kind() == ErrorKind::OutOfMemory {
+        LineFault::Memory
+    } else {
+        LineFault::Words(error)
+    }
+}

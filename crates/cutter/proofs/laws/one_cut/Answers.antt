@@ -1,5 +1,0 @@
-use Rattle.cutter.proofs.OneWay.{one-way}
-use Rattle.cutter.proofs.laws.one_cut.Goals as goal
-
-pub returns : goal.returns
-returns c = one-way c.no_spelling_begins_another.ensures

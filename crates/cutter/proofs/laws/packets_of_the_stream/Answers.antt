@@ -1,5 +1,0 @@
-use Rattle.cutter.proofs.OneWay.{stream-packets}
-use Rattle.cutter.proofs.laws.packets_of_the_stream.Goals as goal
-
-pub returns : goal.returns
-returns c = stream-packets c.no_spelling_begins_another.ensures

@@ -1,5 +1,0 @@
-use Rattle.headline.proofs.of_byte_world.NoneClean.{no_connect_is_clean}
-use Rattle.headline.proofs.byte_world.kept_laws.no_connect_is_clean.Goals as goal
-
-pub returns : goal.returns
-returns c = no_connect_is_clean

@@ -1,0 +1,5 @@
+use Rattle.headline.proofs.of_byte_world.NoneClean.{no_connect_is_clean}
+use Rattle.headline.proofs.byte_world.kept_theorems.no_connect_is_clean.Goals as goal
+
+pub returns : goal.returns
+returns c = no_connect_is_clean

@@ -1,5 +1,0 @@
-use Rattle.headline.proofs.of_byte_world.NamesApart.{names_stay_apart}
-use Rattle.headline.proofs.byte_world.laws.names_stay_apart.Goals as goal
-
-pub returns : goal.returns
-returns c = names_stay_apart

@@ -1,5 +1,0 @@
-use Rattle.headline.proofs.OneSession.{one_session_is_promised}
-use Rattle.headline.proofs.laws.one_session_is_promised.Goals as goal
-
-pub returns : goal.returns
-returns c = one_session_is_promised

@@ -1,5 +1,0 @@
-use Rattle.headline.proofs.WorldsExact.{worlds_are_exact}
-use Rattle.headline.proofs.laws.worlds_are_exact.Goals as goal
-
-pub returns : goal.returns
-returns c = worlds_are_exact

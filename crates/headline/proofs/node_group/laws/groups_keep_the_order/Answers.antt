@@ -1,5 +1,0 @@
-use Rattle.headline.proofs.of_node_group.Ordered.{groups_keep_the_order}
-use Rattle.headline.proofs.node_group.laws.groups_keep_the_order.Goals as goal
-
-pub returns : goal.returns
-returns c = groups_keep_the_order

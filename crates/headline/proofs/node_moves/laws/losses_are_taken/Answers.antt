@@ -1,5 +1,0 @@
-use Rattle.headline.proofs.of_node_moves.LossyRead.{losses_are_taken}
-use Rattle.headline.proofs.node_moves.laws.losses_are_taken.Goals as goal
-
-pub returns : goal.returns
-returns c = losses_are_taken

@@ -1,5 +1,0 @@
-use Rattle.headline.proofs.of_node_moves.LossyClosed.{losses_put_nothing_on_closed}
-use Rattle.headline.proofs.node_moves.laws.losses_put_nothing_on_closed.Goals as goal
-
-pub returns : goal.returns
-returns c = losses_put_nothing_on_closed

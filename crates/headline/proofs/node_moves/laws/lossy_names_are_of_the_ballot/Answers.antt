@@ -1,5 +1,0 @@
-use Rattle.headline.proofs.of_node_moves.LossyClosed.{lossy_names_are_of_the_ballot}
-use Rattle.headline.proofs.node_moves.laws.lossy_names_are_of_the_ballot.Goals as goal
-
-pub returns : goal.returns
-returns c = lossy_names_are_of_the_ballot

@@ -1,5 +1,0 @@
-use Rattle.headline.proofs.of_packet_world.WorldsExact.{packet_worlds_are_exact}
-use Rattle.headline.proofs.packet_world.laws.packet_worlds_are_exact.Goals as goal
-
-pub returns : goal.returns
-returns c = packet_worlds_are_exact

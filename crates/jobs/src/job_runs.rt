@@ -1,0 +1,76 @@
+// Doing a job.
+
+ghost use Rattle.std.specs.Prelude.{◌≡◌, ◌≢◌, IfErr, OnOk};
+ghost use Rattle.jobs.specs.Done.{IsJobDone};
+ghost use Rattle.jobs.specs.Failures.{EndsByError, FailsAt};
+ghost use Rattle.jobs.specs.Errors.{exit_status};
+
+use crate::job_error::JobError;
+use crate::{scripts, serving_table, tcp_clients};
+use command_line::Job;
+use std::io::{BufRead, Write};
+use std::net::{Net, TcpListener, TcpStream};
+use std::rt::Files;
+use std::sync::Wait;
+use std::thread::Threads;
+use std::time::Clock;
+
+/// Does a job over one reader and two writers, and returns the exit status. An error is printed in
+/// one line, which no clause says.
+pub fn perform<R, I, O, E>(
+    rt: &R,
+    job: &Job<'_>,
+    input: &mut I,
+    output: &mut O,
+    faults: &mut E,
+) -> u8
+where
+    R: Files + Threads + Wait + Clock + Sync + AllocGlobal,
+    R: Net<Listener = TcpListener, Stream = TcpStream>,
+    I: BufRead + Drop,
+    O: Write + Drop,
+    E: Write + Drop,
+    ensures done { result ≡ 0
+        → IsJobDone O.contents job.now (I.remaining input.old) output.old output.new }
+    ensures failed { result ≢ 0 → EndsByError job.now result }
+{
+    match do_job(rt, job, input, output, faults) {
+        Ok(()) => 0,
+        Err(error) => print_fault(faults, &error),
+    }
+}
+
+// Does a job over one reader and two writers.
+fn do_job<R, I, O, E>(
+    rt: &R,
+    job: &Job<'_>,
+    input: &mut I,
+    output: &mut O,
+    faults: &mut E,
+) -> Result<(), JobError>
+where
+    R: Files + Threads + Wait + Clock + Sync + AllocGlobal,
+    R: Net<Listener = TcpListener, Stream = TcpStream>,
+    I: BufRead + Drop,
+    O: Write + Drop,
+    E: Write + Drop,
+    ensures done { OnOk result
+        (IsJobDone O.contents job.now (I.remaining input.old) output.old output.new) }
+    ensures failed { IfErr result (FailsAt job.now) }
+{
+    match job {
+        Job::Serve(job) => serving_table::run(rt, job, input, output, faults),
+        Job::Publish(job) => tcp_clients::publish(rt, job),
+        Job::Subscribe(job) => tcp_clients::subscribe(rt, job, output),
+        Job::Play(job) => scripts::run(rt, job, input, output),
+    }
+}
+
+/// Prints an error in one line, and returns its exit status. No clause says what is printed.
+pub fn print_fault<E: Write>(faults: &mut E, error: &JobError) -> u8
+    ensures { result ≡ exit_status error.now }
+{
+    // There is nowhere else to print it.
+    let _ = writeln!(faults, "vbroker: {error}");
+    error.status()
+}

@@ -1,0 +1,221 @@
+// Orders to the nodes of a server: lines of its input.
+
+ghost use Rattle.std.specs.Prelude.{◌≡◌, None, IfErr, IfOk, OnOk};
+ghost use Rattle.packet_base.specs.ClientId.{client_fault};
+ghost use Rattle.script.specs.Fields.{texts};
+ghost use Rattle.jobs.specs.Orders.{IsNoOrder, IsOrder, IsWordRefused, OrderNothing, Orders, RefusesLine, role_of};
+ghost use Rattle.jobs.specs.declared.orders.Order.TheVariants as orders;
+
+use crate::job_error::JobError;
+use crate::word_fault::WordFault;
+use crate::words::{client_of, members_of, named_node, no_order};
+use ballot_base::errors::ProposeError;
+use ballot_base::{Config, MAX_NODE, Status};
+use command_line::ListeningNode;
+use master::Idle;
+use packet_base::ClientId;
+use post::Cluster;
+use script::fields_of;
+use std::alloc::Global;
+use std::io::{BufRead, ErrorKind, Write};
+use std::sync::Wait;
+use std::time::Clock;
+
+// What a line orders.
+#[derive(Drop)]
+enum Order {
+    // The server ends.
+    Quit,
+    // The status of each node is printed.
+    Status,
+    // The next ballot is given to a configuration.
+    Assign(Config),
+    // A node crashes.
+    Crash(u8),
+    // The session of a client ends.
+    Expel(ClientId),
+}
+
+/// Obeys the lines of the input to its end or to `quit`, and answers each. The only error is an
+/// input that cannot be read.
+pub(crate) fn obey<R, I, O>(
+    rt: &R,
+    cluster: &Cluster,
+    nodes: &[ListeningNode],
+    input: &mut I,
+    output: &mut O,
+) -> Result<(), JobError>
+where
+    R: AllocGlobal + Wait + Clock,
+    I: BufRead,
+    O: Write,
+{
+    for _ in rt.forever() {
+        match next_order(rt.alloc(), input)? {
+            Ok(Order::Quit) => return Ok(()),
+            Ok(order) => answer(rt, cluster, nodes, order, output),
+            Err(fault) => print_refusal(output, fault.number()),
+        }
+        let _ = output.flush();
+    }
+    unreachable!()
+}
+
+// Returns what the next line orders, or why it is refused. The end of the input orders to quit.
+fn next_order<I: BufRead>(
+    alloc: Global,
+    input: &mut I,
+) -> Result<Result<Order, WordFault>, JobError> {
+    let mut line = String::new(alloc);
+    match input.read_line(&mut line) {
+        Ok(0) => Ok(Ok(Order::Quit)),
+        Ok(_) => Ok(order_of(alloc, line.as_str().trim_end_matches('\n'))),
+        Err(error) => match error.kind() {
+            ErrorKind::InvalidData => Ok(Err(no_order())),
+            ErrorKind::OutOfMemory => {
+                // The rest of the line is no order.
+                input.skip_until(b'\n').ok().ok_or(JobError::Input)?;
+                Ok(Err(WordFault::Memory))
+            }
+            _ => Err(JobError::Input),
+        },
+    }
+}
+
+// Returns what a line orders, or why it is refused.
+fn order_of(alloc: Global, line: &str) -> Result<Order, WordFault>
+    ensures order { IfOk result (IsOrder line.now) }
+    ensures refused { IfErr result (RefusesLine line.now) }
+{
+    if let Some(client) = line.strip_prefix("expel ") {
+        return expel_of(alloc, client);
+    }
+    let Ok(fields) = fields_of(alloc, line) else {
+        return Err(WordFault::Memory);
+    };
+    order_of_words(alloc, fields.as_slice())
+}
+
+// Returns what the words of a line order that expels no client, or why they are refused.
+fn order_of_words(alloc: Global, words: &[&str]) -> Result<Order, WordFault>
+    ensures order { IfOk result (Orders (texts words.now)) }
+    ensures refused { IfErr result (IsNoOrder (OrderNothing (texts words.now))) }
+{
+    match words {
+        ["quit"] => Ok(Order::Quit),
+        ["status"] => Ok(Order::Status),
+        ["crash", node] => Ok(Order::Crash(named_node(node)?)),
+        ["assign", members, primary] => {
+            let members = members_of(alloc, members)?;
+            let primary = named_node(primary)?;
+            Ok(Order::Assign(Config { members, primary }))
+        }
+        _ => Err(no_order()),
+    }
+}
+
+// Returns the order to end the session of the client with this identifier, or why the identifier is
+// refused.
+fn expel_of(alloc: Global, client: &str) -> Result<Order, WordFault>
+    ensures order { IfOk result (λ order. order ≡ orders.Expel client.now) }
+    ensures sound { OnOk result (client_fault client.now ≡ None) }
+    ensures refused { IfErr result (IsWordRefused client.now) }
+{
+    Ok(Order::Expel(client_of(alloc, client)?))
+}
+
+// Does an order and prints the result. Clients are served also if nothing can be printed.
+fn answer<R, O>(rt: &R, cluster: &Cluster, nodes: &[ListeningNode], order: Order, output: &mut O)
+where
+    R: Wait + Clock,
+    O: Write,
+{
+    match order {
+        Order::Quit => {}
+        Order::Status => print_all(rt, cluster, nodes, output),
+        Order::Assign(config) => match cluster.assign(rt, config) {
+            Ok(ballot) => {
+                let _ = writeln!(output, "ballot {ballot}");
+            }
+            Err(error) => print_refusal(output, error.number()),
+        },
+        Order::Crash(number) => match cluster.crash(rt, number) {
+            Ok(true) => {
+                let _ = writeln!(output, "crashed {number}");
+            }
+            // The node does not run.
+            Ok(false) => print_refusal(output, Idle.number()),
+            Err(error) => print_refusal(output, error.number()),
+        },
+        Order::Expel(client) => expel(rt, cluster, &client, output),
+    }
+}
+
+// Ends the session of a client, and prints that, or why not.
+fn expel<R, O>(rt: &R, cluster: &Cluster, client: &ClientId, output: &mut O)
+where
+    R: Wait + Clock,
+    O: Write,
+{
+    match cluster.expel(rt, client) {
+        Ok(true) => {
+            let _ = writeln!(output, "expel {client}");
+        }
+        Ok(false) => print_refusal(output, ProposeError::NotActive.number()),
+        Err(error) => print_refusal(output, error.number()),
+    }
+}
+
+// Prints that an order is refused, with the number of the refusal.
+fn print_refusal<O: Write>(output: &mut O, number: u8) {
+    let _ = writeln!(output, "refused {number}");
+}
+
+// Prints the status of each node that is served, in the order of their numbers.
+fn print_all<R, O>(rt: &R, cluster: &Cluster, nodes: &[ListeningNode], output: &mut O)
+where
+    R: Wait + Clock,
+    O: Write,
+{
+    for number in 1..=MAX_NODE {
+        if nodes.iter().any(|node| node.id == number) {
+            if let Some(status) = cluster.status(rt, number) {
+                print_status(number, &status, output);
+            }
+        }
+    }
+}
+
+// Prints the status of one node.
+fn print_status<O: Write>(number: u8, status: &Status, output: &mut O) {
+    let ballot = status.ballot;
+    let role = role_of(status);
+    let held = status.held;
+    let committed = status.committed;
+    let _ = writeln!(
+        output,
+        "node {number} ballot {ballot} {role} held {held} committed {committed}"
+    );
+}
+
+// Returns the word for what a node does.
+fn role_of(status: &Status) -> &'static str
+    ensures { result.now ≡ role_of status.now }
+{
+    if status.stopped {
+        return "crashed";
+    }
+    if status.ballot == 0 {
+        return "none";
+    }
+    if status.role.is_active() {
+        return "primary";
+    }
+    if status.role.is_fetching() {
+        return "fetching";
+    }
+    if status.role.is_installing() {
+        return "installing";
+    }
+    "backup"
+}

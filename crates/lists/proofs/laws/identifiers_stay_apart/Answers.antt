@@ -1,5 +1,0 @@
-use Rattle.lists.proofs.Identifiers.{distinct_push}
-use Rattle.lists.proofs.laws.identifiers_stay_apart.Goals as goal
-
-pub returns : goal.returns
-returns c = distinct_push

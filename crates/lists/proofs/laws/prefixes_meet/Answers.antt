@@ -1,5 +1,0 @@
-use Rattle.lists.proofs.Prefixes.{prefix_either}
-use Rattle.lists.proofs.laws.prefixes_meet.Goals as goal
-
-pub returns : goal.returns
-returns g c = prefix_either

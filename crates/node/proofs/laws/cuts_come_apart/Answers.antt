@@ -1,5 +1,0 @@
-use Rattle.node.proofs.CutsApart.{cuts_apart}
-use Rattle.node.proofs.laws.cuts_come_apart.Goals as goal
-
-pub returns : goal.returns
-returns c = cuts_apart

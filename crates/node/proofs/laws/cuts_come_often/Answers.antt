@@ -1,5 +1,0 @@
-use Rattle.node.proofs.CutsApart.{cuts_often}
-use Rattle.node.proofs.laws.cuts_come_often.Goals as goal
-
-pub returns : goal.returns
-returns c = cuts_often

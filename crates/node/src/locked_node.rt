@@ -1,0 +1,212 @@
+// A node that runs: its state under a lock, its gate, and its end.
+
+ghost use Rattle.std.specs.Prelude.{◌≡◌, ◌↔◌, All, IfOk, IfSome, IsSomeAnd, IsTrue, is_some, map, true};
+ghost use Rattle.mailbox.specs.Ends.{ArrivesWhole, unmet};
+ghost use Rattle.node.specs.LockedNode.{AreItsLanes, ReportsOn, WasAsked, WasInformed};
+
+use crate::naming::NodeNaming;
+use crate::node_state::NodeState;
+use crate::permit::Permit;
+use crate::report::Report;
+use machine::Memory;
+use mailbox::Lane;
+use node_base::devices::Gate;
+use std::alloc::Global;
+use std::marker::{Model, PhantomData};
+use std::sync::{Mutex, MutexGuard, Wait};
+use std::thread;
+use std::time::{Clock, Duration};
+use world_base::node_core::Item;
+
+/// How many times, at most, a gate is asked before one taking.
+const GATE_ASKS: u32 = 10_000;
+
+/// How long the thread sleeps after each time that the gate does not open, in milliseconds.
+const ASK_MILLIS: u64 = 1;
+
+/// What the lock of a node holds. Code that starts threads is generic in this type. So it is proved
+/// once that the whole may be handed from thread to thread, and not part by part at each thread
+/// that is started.
+pub trait HasState<J: NodeNaming>: Drop {
+    /// Returns the node's state.
+    fn state(&mut self) -> &mut NodeState<J>;
+}
+
+impl<J: NodeNaming> HasState<J> for NodeState<J> {
+    fn state(&mut self) -> &mut NodeState<J> {
+        self
+    }
+}
+
+/// A node that runs: its state under a lock, and the gate before each of its takings. It has no
+/// thread of its own: whoever sent it an item takes what waits, one thread after another.
+#[derive(Drop)]
+pub struct Node<'g, J: NodeNaming, S: HasState<J>, G: Gate> {
+    // The node with its receiver. One thread at a time takes items.
+    state: Mutex<S>,
+    // The number of the node, which is that of its inbox.
+    number: u8,
+    // Asked before each taking, if there is one.
+    gate: Option<&'g G>,
+    // The holder of this asks the gate, takes, and informs the gate.
+    passing: Mutex<()>,
+    // The number of takings for which the gate did not open, at most 2^64 - 1.
+    missed: Mutex<u64>,
+    // The allocated report for its end.
+    report: Report,
+    // Which node the number means. The caller chooses it.
+    naming: PhantomData<J>,
+}
+
+impl<'g, J: NodeNaming, S: HasState<J>, G: Gate> Model for Node<'g, J, S, G> {
+    ghost use Rattle.std.specs.Prelude.{is_some, length};
+    ghost use Rattle.node.specs.Report.{HasCapacity};
+    ghost use Rattle.node.specs.LockedNode.{NodeView};
+
+    ghost Value = { NodeView };
+
+    ghost view = { λ node. record {
+      number = node.number;
+      lanes = length node.report.taken.items;
+      is_gated = is_some node.gate;
+    } };
+
+    ghost invariant = { λ node. HasCapacity (length node.report.taken.items) node.report };
+}
+
+impl<'g, J: NodeNaming, G: Gate> Node<'g, J, NodeState<J>, G> {
+    /// Starts a node, with a gate before each of its takings or without one. Its report is
+    /// allocated now. The only error is that memory runs out: then the state is dropped.
+    pub fn start(
+        alloc: Global,
+        state: NodeState<J>,
+        gate: Option<&'g G>,
+    ) -> Result<Node<'g, J, NodeState<J>, G>, Memory>
+        ensures number { IfOk result (λ node. node.number ≡ state.receiver.inbox) }
+        ensures lanes { IfOk result (λ node. node.lanes ≡ state.receiver.lanes) }
+        ensures gated { IfOk result (λ node. node.is_gated ≡ is_some gate.entry) }
+    {
+        let number = state.inbox_number();
+        let report = Report::with_capacity(alloc, state.lanes())?;
+        Ok(Node {
+            state: Mutex::new(state),
+            number,
+            gate,
+            passing: Mutex::new(()),
+            missed: Mutex::new(0),
+            report,
+            naming: PhantomData,
+        })
+    }
+
+    /// Ends the node, once its lanes send no more, and reports what happened to everything that
+    /// they sent. Takes no memory.
+    pub fn close<R: Wait>(self, rt: &R, lanes: &mut [Lane<Item, J>]) -> Report
+        requires lanes { AreItsLanes self lanes.old }
+
+        // What was taken and what is left over are, lane by lane and in order, all that was sent.
+        ensures whole { All (ArrivesWhole result.taken.items result.left.items) lanes.new }
+        ensures lanes { map unmet lanes.new ≡ map unmet lanes.old }
+
+        // The report is about a node that was the replay of what was taken. It says where the log
+        // of this node begins, and how many items of each lane were taken: the first ones that the
+        // lane sent.
+        ensures reports { ReportsOn (J.first_of self.entry.number) lanes.new result }
+    {
+        let Node {
+            state,
+            number,
+            missed,
+            report,
+            ..
+        } = self;
+        let state = state.into_inner();
+        // They are all its lanes, but no clause is about what was under a lock.
+        if state.inbox_number() == number
+            && state.lanes() == report.taken.len()
+            && state.has_all(lanes)
+        {
+            return state.close(rt, lanes, report, missed.into_inner());
+        }
+        for _ in rt.forever() {}
+        unreachable!()
+    }
+}
+
+impl<'g, J: NodeNaming, S: HasState<J>, G: Gate> Node<'g, J, S, G> {
+    /// Returns the node's number, that of its inbox.
+    pub fn number(&self) -> u8
+        ensures { result ≡ self.now.number }
+    {
+        self.number
+    }
+
+    /// Returns true if these are all lanes of the node's inbox, in the order of their numbers.
+    pub fn has_all(&self, lanes: &[Lane<Item, J>]) -> bool
+        ensures { IsTrue result ↔ AreItsLanes self.now lanes.now }
+    {
+        if lanes.len() != self.report.taken.len() {
+            return false;
+        }
+        for (index, lane) in lanes.iter().enumerate() {
+            if lane.inbox_number() != self.number || usize::from(lane.lane()) != index {
+                return false;
+            }
+        }
+        true
+    }
+
+    /// Locks the node's state. While it is locked, no item is taken.
+    pub fn lock<R: Wait>(&self, rt: &R) -> MutexGuard<'_, S> {
+        self.state.lock(rt)
+    }
+
+    /// Begins a taking: waits until the gate opens for the node's next taking, if it opens in time.
+    /// Without a gate it does not wait. With a gate, takings come one after another: until this one
+    /// is done no other begins. No clause says how long it waits, or what another thread may begin.
+    pub fn begin_taking<R: Wait + Clock>(&self, rt: &R) -> Permit<'_>
+        ensures one { IfSome result.taking (λ _. result.most ≡ 1) }
+
+        // A gate was asked for this node and the number of the taking, and the permit says what it
+        // answered.
+        ensures asked { self.now.is_gated ≡ true → IsSomeAnd result.taking (λ taking.
+            WasAsked G.answers self.now.number taking result.is_open) }
+    {
+        let Some(gate) = self.gate else {
+            return Permit::free();
+        };
+        let passing = self.passing.lock(rt);
+        let taking = self.lock(rt).state().next_taking();
+        let is_open = self.await_gate(rt, gate, taking);
+        Permit::of_taking(taking, is_open, passing)
+    }
+
+    // Waits until the gate opens for a taking, but not for ever. Returns what it answered last: a
+    // taking for which it did not open is counted.
+    fn await_gate<R: Wait + Clock>(&self, rt: &R, gate: &G, taking: u64) -> bool
+        ensures { WasAsked G.answers self.now.number taking result }
+    {
+        for _ in 1..GATE_ASKS {
+            if gate.open(rt, self.number, taking) {
+                return true;
+            }
+            thread::sleep(rt, Duration::from_millis(ASK_MILLIS));
+        }
+        let is_open = gate.open(rt, self.number, taking);
+        if !is_open {
+            let mut missed = self.missed.lock(rt);
+            *missed = missed.saturating_add(1);
+        }
+        is_open
+    }
+
+    /// Ends a taking: informs the gate that it is done.
+    pub fn end_taking<R: Wait>(&self, rt: &R, permit: Permit<'_>)
+        ensures { self.now.is_gated ≡ true → IfSome permit.entry.taking (λ taking.
+            WasInformed G.hears self.now.number taking) }
+    {
+        if let (Some(gate), Some(taking)) = (self.gate, permit.taking()) {
+            gate.answered(rt, self.number, taking);
+        }
+    }
+}

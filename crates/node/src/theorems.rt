@@ -1,0 +1,20 @@
+// Laws about bytes that are counted, and about cuts of logs. The calls do nothing; their contracts
+// are the laws.
+
+ghost use Rattle.node.specs.Theorems.{CutsComeApart, CutsComeOften, OpenBytesAreCounted};
+
+/// States that the count includes every byte that the node took and that may be in a place which is
+/// not agreed.
+pub fn open_bytes_are_counted()
+    ensures { OpenBytesAreCounted }
+{}
+
+/// States that no two nodes have their logs cut after the same tick.
+pub fn cuts_come_apart()
+    ensures { CutsComeApart }
+{}
+
+/// States that of any 50 ticks in a row there is one after which a node has its log cut.
+pub fn cuts_come_often()
+    ensures { CutsComeOften }
+{}

@@ -1,5 +1,0 @@
-use Rattle.packet.proofs.MoreBytes.{faults_stay_so}
-use Rattle.packet.proofs.laws.faults_stay.Goals as goal
-
-pub returns : goal.returns
-returns c = faults_stay_so

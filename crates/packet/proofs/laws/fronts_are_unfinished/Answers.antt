@@ -1,5 +1,0 @@
-use Rattle.packet.proofs.MoreBytes.{fronts_unfinished}
-use Rattle.packet.proofs.laws.fronts_are_unfinished.Goals as goal
-
-pub returns : goal.returns
-returns c = fronts_unfinished

@@ -1,5 +1,0 @@
-use Rattle.post.proofs.of_outbox.CountsStand.{counts_suffice}
-use Rattle.post.proofs.outbox.laws.later_counts_suffice.Goals as goal
-
-pub returns : goal.returns
-returns c = counts_suffice

@@ -1,0 +1,35 @@
+// Which items wake the node for which they are queued.
+
+ghost use Rattle.std.specs.Prelude.{◌≡◌};
+ghost use Rattle.std.specs.List.{list_any};
+ghost use Rattle.node.specs.declared.Item.TheVariants.{Peer};
+ghost use Rattle.post.specs.outbox.Urgency.{wakes};
+
+use ballot_base::{Body, Message};
+use broker_spec::Command;
+use world_base::node_core::Item;
+
+/// Returns true if an item wakes the node for which it is queued.
+pub fn is_urgent(item: &Item) -> bool
+    ensures { result ≡ wakes item.now }
+{
+    match item {
+        Item::Peer(message) => is_urgent_message(message),
+        _ => true,
+    }
+}
+
+/// Returns true if one of these items wakes the node for which they are queued.
+pub(crate) fn is_any_urgent(items: &[Item]) -> bool
+    ensures { result ≡ list_any wakes items.now }
+{
+    items.iter().any(|item| is_urgent(item))
+}
+
+// Returns true if a message wakes the node for which it is queued. A message that more places are
+// committed can wait: a backup then applies them, and sends nothing.
+fn is_urgent_message(message: &Message<Command>) -> bool
+    ensures { result ≡ wakes (Peer message.now) }
+{
+    !matches!(message.body, Body::Commit(_, _))
+}

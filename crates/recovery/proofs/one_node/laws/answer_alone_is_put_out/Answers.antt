@@ -1,5 +1,0 @@
-use Rattle.recovery.proofs.of_one_node.AnswerAlone.{answer_alone_is_put_out}
-use Rattle.recovery.proofs.one_node.laws.answer_alone_is_put_out.Goals as goal
-
-pub returns : goal.returns
-returns c = answer_alone_is_put_out

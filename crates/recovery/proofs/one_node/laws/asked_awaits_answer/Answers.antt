@@ -1,5 +1,0 @@
-use Rattle.recovery.proofs.of_one_node.AnswerAwaited.{asked_awaits_answer}
-use Rattle.recovery.proofs.one_node.laws.asked_awaits_answer.Goals as goal
-
-pub returns : goal.returns
-returns c = asked_awaits_answer

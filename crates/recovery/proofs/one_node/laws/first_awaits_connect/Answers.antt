@@ -1,5 +1,0 @@
-use Rattle.recovery.proofs.of_one_node.AnswerAwaited.{first_awaits_connect}
-use Rattle.recovery.proofs.one_node.laws.first_awaits_connect.Goals as goal
-
-pub returns : goal.returns
-returns c = first_awaits_connect

@@ -1,0 +1,18 @@
+use denote.Param.Send.{sendable}
+use Rattle.std.proofs.Common.{rules}
+use Rattle.server.proofs.service.fn.serve_by.scope+FnOnce.call_once.Goals as goal
+
+pub scope-requires : goal.scope-requires
+scope-requires g c = (
+  search (sendable, c.requires),
+  (
+    search (sendable, c.requires),
+    (
+      search (sendable, c.requires),
+      (
+        search (sendable, c.requires),
+        (search (sendable, c.requires), (search (rules, c.requires), (search (rules, c.requires), search (rules, c.requires)))),
+      ),
+    ),
+  ),
+)

@@ -1,0 +1,5 @@
+use denote.Param.Send.{sendable}
+use Rattle.server.proofs.service.fn.serve_by.scope.Goals as goal
+
+pub spawn-requires-after_bounds : goal.spawn-requires-after_bounds
+spawn-requires-after_bounds g c κs within = (search sendable, search sendable, search sendable, search (sendable, c.requires-raw), search (sendable, c.requires-raw))

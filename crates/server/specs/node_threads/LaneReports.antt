@@ -1,0 +1,72 @@
+-- What a lane reports of its connections, and what a node's own lane sends.
+use Rattle.std.specs.Prelude.{◌≡◌, ℕ, ◌+◌, List, [], ◌∷◌, ◌++◌, length, Option, None, Some}
+use Rattle.node.specs.declared.Item.{Item}
+use Rattle.node.specs.declared.Item.TheVariants.{Bytes, Tick, Cut}
+use Rattle.node.specs.declared.Port.{Port}
+use Rattle.mailbox.specs.Ends.{LaneView}
+use Rattle.node_base.specs.declared.connection.ending.Ending.{Ending}
+use Rattle.node_base.specs.connection.Reports.{Hears}
+use Rattle.streams.specs.Ports.{port_of}
+use Rattle.post.specs.outbox.Queued.{IsQueued}
+use Rattle.server.specs.declared.node_threads.lane_threads.TheConstants.{MAX_CONNECTIONS_OF_LANE}
+
+-- A lane that had sent these items sent the whole report of one connection, and nothing else. Of a
+-- socket no bytes are known except those that came.
+pub record SendsWhole (port : Port) (before after : List Item) : Type 0 where
+  pub ending : Ending
+  pub hears : Hears port before after ending None None
+
+-- A lane that had sent these items sent the whole report of one connection, or nothing if that was
+-- closed at once.
+pub data ReportsOne (port : Port) (before : List Item) : List Item → Type 0 where
+  -- it was closed at once
+  closed_at_once : ReportsOne port before before
+  -- it was served
+  served : {after : List Item} → SendsWhole port before after → ReportsOne port before after
+
+-- A lane that had sent these items sent for this many connections, one after another, the report of
+-- each, and nothing else.
+pub data ReportsEach (lane : ℕ) (before : List Item) : ℕ → List Item → Type 0 where
+  -- no connection yet
+  begins : ReportsEach lane before 0 before
+  -- one more connection
+  goes_on : {count : ℕ} {sent : List Item} (after : List Item)
+      → ReportsEach lane before count sent → ReportsOne (port_of lane count) sent after
+      → ReportsEach lane before (count + 1) after
+
+-- how many bytes of a client an item carries
+abbrev pub client_bytes : Item → ℕ
+client_bytes (Bytes port piece now) = length piece
+client_bytes _ = 0
+
+-- a lane sent what any number of its connections bring
+pub record SendsRow (lane : ℕ) (before after : List Item) : Type 0 where
+  pub count : ℕ
+  pub reports : ReportsEach lane before count after
+
+-- Why a lane of a node's connections serves no more: the witness is of this node's listener, or
+-- there is none, and the lane served one connection at each of its ports.
+abbrev pub EndsBy : (node lane : ℕ) → Option ℕ → (before after : List Item) → Type 0
+EndsBy node lane (Some closed) before after = closed ≡ node
+EndsBy node lane None before after = ReportsEach lane before MAX_CONNECTIONS_OF_LANE after
+
+-- a node's own lane, by which everything is sent to it that does not come from its clients, and the
+-- node's number
+pub record OwnLaneView : Type 0 where
+  pub number : ℕ
+  pub lane : LaneView Item
+
+-- The own lane of a node of this number, which had sent these items, sent the time, cuts of the
+-- log, and what was queued for the node.
+pub data SendsOwn (node : ℕ) (before : List Item) : List Item → Type 0 where
+  -- it sent nothing more
+  starts : SendsOwn node before before
+  -- a time
+  ticks : {sent : List Item} (now : ℕ)
+      → SendsOwn node before sent → SendsOwn node before (sent ++ Tick now ∷ [])
+  -- a cut of the log
+  cuts : {sent : List Item} → SendsOwn node before sent → SendsOwn node before (sent ++ Cut ∷ [])
+  -- an item that was queued for the node
+  hands : {sent : List Item} (item : Item)
+      → SendsOwn node before sent → IsQueued node item
+      → SendsOwn node before (sent ++ item ∷ [])

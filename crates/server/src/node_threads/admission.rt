@@ -1,0 +1,52 @@
+// Bytes of clients, which wait until the node takes more of them.
+
+ghost use Rattle.std.specs.Prelude.{◌≡◌, ◌≤◌, IfSome, None, length};
+
+use crate::node_threads::shared::Shared;
+use node::{HasState, NodeNaming};
+use node_base::devices::{Gate, PIECE_BYTES};
+use post::AdmittedBytes;
+use std::sync::Wait;
+use std::thread;
+use std::time::{Clock, Duration};
+use world_base::node_connections::{Port, Standing};
+
+/// How long a thread sleeps before it asks again whether the node takes more, in milliseconds.
+const ADMIT_LOOK_MILLIS: u64 = 1;
+
+impl<'a, J: NodeNaming, S: HasState<J>, G: Gate> Shared<'a, J, S, G> {
+    /// Waits until the node takes this many more bytes from its clients, and counts them as in
+    /// transit. None count if there is only one node, the node has closed the connection, or the
+    /// listener is closed.
+    pub(crate) fn admit<R: Wait + Clock>(
+        &self,
+        rt: &R,
+        port: Port,
+        bytes: u64,
+    ) -> Option<AdmittedBytes>
+        requires { bytes ≤ PIECE_BYTES }
+        ensures all { IfSome result (λ admitted. admitted ≡ bytes) }
+        ensures none { bytes ≡ 0 → result ≡ None }
+        ensures alone { length self.now.context.cluster.now ≤ 1 → result ≡ None }
+    {
+        if bytes == 0 || !self.context.cluster.are_several() {
+            return None;
+        }
+        for _ in rt.forever() {
+            if let Some(admitted) = self.context.peer.admit(rt, bytes) {
+                return Some(admitted);
+            }
+            if self.needs_nothing_more(rt, port) {
+                return None;
+            }
+            thread::sleep(rt, Duration::from_millis(ADMIT_LOOK_MILLIS));
+        }
+        unreachable!()
+    }
+
+    // Returns true if the listener or the port's connection is closed.
+    fn needs_nothing_more<R: Wait>(&self, rt: &R, port: Port) -> bool {
+        self.context.listener.is_closed(rt)
+            || self.node.lock(rt).state().standing(port) == Standing::Closed
+    }
+}

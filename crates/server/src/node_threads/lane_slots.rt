@@ -1,0 +1,134 @@
+// The threads of a node, each with a slot, and most with a lane for good.
+
+ghost use Rattle.std.specs.Prelude.{◌≡◌, ℕ, ◌<◌, None, length, slice_index_or};
+ghost use Rattle.server.specs.node_threads.ThreadLives.{Returns};
+
+use crate::node_threads::served_node::ServedNode;
+use mailbox::Lane;
+use node::{HasState, NodeNaming};
+use node_base::devices::Gate;
+use std::marker::Model;
+use std::sync::Wait;
+use std::thread;
+use std::thread::Threads;
+use std::time::Clock;
+use streams::{Closed, MAX_CONNECTIONS};
+use world_base::node_core::Item;
+
+/// A lane for the node's own thread, for each connection, and one more, so that an idle thread can
+/// close a surplus client.
+pub(crate) const LANES: u8 = MAX_CONNECTIONS + 2;
+
+/// How many threads a node has: one for each lane, and one that continues with full sockets.
+pub const THREADS: usize = LANES as usize + 1;
+
+/// The slot of a thread: its lane, while the thread does not use that, and the witness with which
+/// the thread returned. The first slot is that of the node's own thread, and the last that of the
+/// thread that continues with full sockets. These two have no lane in their slots: that of the own
+/// thread is under a lock.
+#[derive(Drop)]
+pub(crate) struct LaneSlot<J: NodeNaming> {
+    /// None while its thread uses it, and in slots without a lane.
+    pub(crate) lane: Option<Lane<Item, J>>,
+    /// None until the thread returns.
+    pub(crate) closed: Option<Closed>,
+}
+
+impl<J: NodeNaming> Model for LaneSlot<J> {
+    ghost use Rattle.server.specs.node_threads.ThreadLives.{LaneSlotView};
+
+    ghost Value = { LaneSlotView };
+
+    ghost view = { λ slot. record { lane = slot.lane; closed = slot.closed } };
+}
+
+impl<J: NodeNaming> LaneSlot<J> {
+    /// Returns the slot of a thread that has not begun.
+    pub(crate) fn new(lane: Option<Lane<Item, J>>) -> LaneSlot<J>
+        ensures { result ≡ record { lane = lane; closed = None } }
+    {
+        LaneSlot { lane, closed: None }
+    }
+}
+
+/// The slots of a node's threads, with capacity in which all its lanes are gathered at the end.
+#[derive(Drop)]
+pub(crate) struct LaneSlots<J: NodeNaming> {
+    /// One for each thread, [`THREADS`] of them.
+    pub(crate) slots: Vec<LaneSlot<J>>,
+    /// Empty until the end, with capacity for [`LANES`].
+    pub(crate) back: Vec<Lane<Item, J>>,
+}
+
+impl<J: NodeNaming> LaneSlots<J> {
+    /// Returns the lanes that came back to their slots, after the node's own.
+    pub(crate) fn into_lanes(self, own: Lane<Item, J>) -> Vec<Lane<Item, J>> {
+        let LaneSlots { slots, mut back } = self;
+        // There is room for all.
+        let _ = back.push(own);
+        for slot in slots {
+            if let Some(lane) = slot.lane {
+                let _ = back.push(lane);
+            }
+        }
+        back
+    }
+}
+
+/// Works with each slot by a thread of its own, until the listener is closed. If threads are
+/// missing, lanes wait until others come back; the node's own thread comes before all the others.
+pub(crate) fn run<'a, J, S, G, R>(
+    rt: &R,
+    all: &[ServedNode<'a, J, S, G>],
+    node: &ServedNode<'a, J, S, G>,
+    slots: &mut [LaneSlot<J>],
+)
+where
+    J: NodeNaming + Send + Sync,
+    S: HasState<J> + Send,
+    G: Gate + Sync,
+    R: Threads + Wait + Clock + Sync,
+    ensures { (index : ℕ) (other : _) → index < length slots.old → Returns node.now.number
+        (slice_index_or slots.old index other) (slice_index_or slots.new index other) }
+{
+    thread::for_each_mut(
+        rt,
+        slots,
+        THREADS,
+        &|index, slot| node.run_slot(rt, all, index, slot),
+    );
+}
+
+impl<'a, J: NodeNaming, S: HasState<J>, G: Gate> ServedNode<'a, J, S, G> {
+    // Works with a slot. If it has a lane, its thread serves connections by that, and puts it back.
+    fn run_slot<R: Wait + Clock>(
+        &self,
+        rt: &R,
+        all: &[ServedNode<'a, J, S, G>],
+        index: usize,
+        slot: &mut LaneSlot<J>,
+    )
+        ensures { Returns self.now.number slot.old slot.new }
+    {
+        match slot.lane.take() {
+            Some(lane) => {
+                let (lane, closed) = self.serve_lane(rt, all, lane);
+                slot.lane = Some(lane);
+                slot.closed = closed;
+            }
+            None => slot.closed = Some(self.work_without(rt, index)),
+        }
+    }
+
+    // Works at a slot that has no lane: the first is that of the node's own thread, the others
+    // continue with full sockets. Returns the witness that the listener was seen closed.
+    fn work_without<R: Wait + Clock>(&self, rt: &R, index: usize) -> Closed
+        ensures { result ≡ self.now.number }
+    {
+        if index == 0 {
+            self.run_own_thread(rt)
+        } else {
+            self.shared.writer().write_blocked(rt)
+        }
+    }
+}

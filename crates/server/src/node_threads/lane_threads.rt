@@ -1,0 +1,134 @@
+// The thread of a lane, and the connections that it serves one after another.
+
+ghost use Rattle.std.specs.Prelude.{◌≡◌, IfSome};
+ghost use Rattle.std.specs.Arc.{arc_value};
+ghost use Rattle.server.specs.node_threads.LaneReports.{EndsBy, ReportsOne, SendsRow, SendsWhole};
+
+use crate::node_threads::lane_reporter::LaneReporter;
+use crate::node_threads::served_node::ServedNode;
+use crate::node_threads::shared::Shared;
+use mailbox::Lane;
+use node::{HasState, NodeNaming};
+use node_base::connection::report_connection;
+use node_base::devices::{Counted, Gate};
+use std::alloc::Global;
+use std::net::TcpStream;
+use std::sync::{Arc, Wait};
+use std::time::Clock;
+use streams::{Closed, Link, forget, port_of};
+use world_base::node_connections::Port;
+use world_base::node_core::Item;
+
+/// How many connections a lane serves, each at a port of its own.
+const MAX_CONNECTIONS_OF_LANE: u64 = 1 << 56;
+
+impl<'a, J: NodeNaming, S: HasState<J>, G: Gate> ServedNode<'a, J, S, G> {
+    /// Serves one client after another by a lane until it sees the listener closed. Returns the
+    /// lane and the witness, or no witness if all ports are used. For each connection, one after
+    /// another, the lane sent the whole report, at a port that no other has, and nothing else.
+    pub(crate) fn serve_lane<R: Wait + Clock>(
+        &self,
+        rt: &R,
+        all: &[ServedNode<'a, J, S, G>],
+        lane: Lane<Item, J>,
+    ) -> (Lane<Item, J>, Option<Closed>)
+        ensures row { SendsRow lane.lane lane.sent result.0.sent }
+        ensures ends { EndsBy self.now.number lane.lane result.1 lane.sent result.0.sent }
+    {
+        let number = lane.lane();
+        let mut lane = lane;
+        for count in 0..MAX_CONNECTIONS_OF_LANE {
+            let stream = match self.shared.context.listener.accept(rt) {
+                Ok(stream) => stream,
+                Err(closed) => return (lane, Some(closed)),
+            };
+            lane = self.serve_stream(rt, all, lane, stream, port_of(number, count));
+        }
+        (lane, None)
+    }
+
+    // Serves a stream until its client or the node ends it. If as many are served as may be, or
+    // memory runs out, it is closed at once.
+    fn serve_stream<R: Wait + Clock>(
+        &self,
+        rt: &R,
+        all: &[ServedNode<'a, J, S, G>],
+        lane: Lane<Item, J>,
+        stream: TcpStream,
+        port: Port,
+    ) -> Lane<Item, J>
+        ensures { ReportsOne port lane.sent result.sent }
+    {
+        let listener = self.shared.context.listener;
+        let Some(index) = listener.take_index(rt) else {
+            return lane;
+        };
+        let lane = match self.shared.link(rt, port, index.number(), stream) {
+            Some(link) => self.serve_link(rt, all, lane, link),
+            None => lane,
+        };
+        listener.free(rt, index);
+        lane
+    }
+
+    // Reports a connection to the node by a lane, until it ends. Returns the lane, which sent that
+    // the connection was opened, each piece that came, and that it ended.
+    fn serve_link<R: Wait + Clock>(
+        &self,
+        rt: &R,
+        all: &[ServedNode<'a, J, S, G>],
+        lane: Lane<Item, J>,
+        link: Arc<Link, Global>,
+    ) -> Lane<Item, J>
+        ensures { SendsWhole (arc_value link).port lane.sent result.sent }
+    {
+        let port = link.port;
+        let lane = self.report_link(rt, all, lane, &link);
+        link.shut();
+        self.shared.forget_closed(rt, port);
+        lane
+    }
+
+    // Reports a connection to the node by a lane, until it ends.
+    fn report_link<R: Wait + Clock>(
+        &self,
+        rt: &R,
+        all: &[ServedNode<'a, J, S, G>],
+        lane: Lane<Item, J>,
+        link: &Arc<Link, Global>,
+    ) -> Lane<Item, J>
+        ensures { SendsWhole (arc_value link.now).port lane.sent result.sent }
+    {
+        let mut reporter = LaneReporter {
+            served: self,
+            all,
+            link,
+            lane,
+        };
+        let mut source = Counted::new(link.source());
+        // However it ended, this was reported to the node.
+        let _ = report_connection(rt, self.shared.alloc, link.port, &mut source, &mut reporter);
+        reporter.lane
+    }
+}
+
+impl<'a, J: NodeNaming, S: HasState<J>, G: Gate> Shared<'a, J, S, G> {
+    // Returns the connection of a stream, which is accepted now.
+    fn link<R: Clock>(
+        &self,
+        rt: &R,
+        port: Port,
+        index: usize,
+        stream: TcpStream,
+    ) -> Option<Arc<Link, Global>>
+        ensures { IfSome result (λ link. (arc_value link).port ≡ port) }
+    {
+        let opened = self.context.now(rt);
+        Link::of_stream(self.alloc, port, index, opened, stream)
+    }
+
+    // Takes what the node still holds for a connection that has ended, so that it holds no more.
+    fn forget_closed<R: Wait>(&self, rt: &R, port: Port) {
+        forget(self.alloc, self.node.lock(rt).state(), port);
+    }
+}

@@ -1,8 +1,0 @@
-// A law about ports. The call does nothing; its contract is the law.
-
-ghost use Rattle.server.specs.node_threads.Laws.{PortsDiffer};
-
-/// States that no two connections of a node have the same port.
-pub fn ports_differ()
-    ensures { PortsDiffer }
-{}

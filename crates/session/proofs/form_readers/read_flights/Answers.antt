@@ -1,0 +1,22 @@
+use Rattle.std.proofs.lemmas.Result.{err_from_is_err_and}
+use Rattle.session_base.proofs.ReadingLoops.{ends, goes_on, stops_so, refused_so}
+use Rattle.session_base.specs.Form.{may_follow, flight_at}
+use Rattle.session.proofs.form_readers.read_flights.Goals as goal
+
+pub returns-in_err-id : goal.returns-in_err-id
+returns-in_err-id c =
+    let p = err_from_is_err_and c.from_residual.result c.from_residual.ensures.1 in
+    rw (p.1, p.2) (stops_so may_follow flight_at c.args.count c.loop.counter c.loop.read.entries c.loop.reader _ _ c.loop-test.true c.loop.invariant c.in_err-id.ensures)
+
+pub loop-preserved : goal.loop-preserved
+loop-preserved c =
+    goes_on may_follow flight_at c.args.count c.loop.counter c.loop.read.entries _ c.loop.reader _ _ _ c.loop-test.true c.loop.invariant c.in_ok-id.ensures
+    c.in_ok-add_flight.ensures.0 c.in_ok-add_flight.ensures.1
+
+pub returns : goal.returns
+returns c = ends may_follow flight_at c.args.count c.loop.counter c.loop.read.entries c.loop.reader _ c.loop-test.false c.loop.invariant
+
+pub returns-in_err-add_flight : goal.returns-in_err-add_flight
+returns-in_err-add_flight c =
+    let p = err_from_is_err_and c.from_residual-in_err-add_flight.result c.from_residual-in_err-add_flight.ensures.1 in
+    rw (p.1, p.2) (refused_so may_follow flight_at c.args.count c.loop.counter c.loop.read.entries _ c.loop.reader _ _ _ _ c.loop-test.true c.loop.invariant c.in_ok-id.ensures c.in_err-add_flight.ensures)

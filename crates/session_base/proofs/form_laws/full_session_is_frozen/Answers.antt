@@ -1,5 +1,0 @@
-use Rattle.std.proofs.Common.{refl}
-use Rattle.session_base.proofs.form_laws.full_session_is_frozen.Goals as goal
-
-pub returns : goal.returns
-returns c = refl

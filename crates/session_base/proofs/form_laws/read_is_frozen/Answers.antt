@@ -1,5 +1,0 @@
-use Rattle.session_base.proofs.Spelled.{read_is_frozen}
-use Rattle.session_base.proofs.form_laws.read_is_frozen.Goals as goal
-
-pub returns : goal.returns
-returns c = read_is_frozen

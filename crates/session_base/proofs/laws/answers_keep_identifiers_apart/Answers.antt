@@ -1,5 +1,0 @@
-use Rattle.session_base.proofs.IdentifiersStayApart.{answers_keep_apart}
-use Rattle.session_base.proofs.laws.answers_keep_identifiers_apart.Goals as goal
-
-pub returns : goal.returns
-returns c = answers_keep_apart

@@ -1,5 +1,0 @@
-use Rattle.session_base.proofs.AnswersOfClients.{others_change_nothing, second_pubrec}
-use Rattle.session_base.proofs.laws.other_answers_change_nothing.Goals as goal
-
-pub returns : goal.returns
-returns c = record { others = others_change_nothing; second = second_pubrec }

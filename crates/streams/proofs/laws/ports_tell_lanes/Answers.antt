@@ -1,5 +1,0 @@
-use Rattle.streams.proofs.PortsTell.{ports_tell_lanes}
-use Rattle.streams.proofs.laws.ports_tell_lanes.Goals as goal
-
-pub returns : goal.returns
-returns c = ports_tell_lanes

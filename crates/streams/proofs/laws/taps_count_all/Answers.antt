@@ -1,5 +1,0 @@
-use Rattle.streams.proofs.CountsAll.{counts_all}
-use Rattle.streams.proofs.laws.taps_count_all.Goals as goal
-
-pub returns : goal.returns
-returns c = counts_all

@@ -1,0 +1,39 @@
+-- What a node hands over for a port by a tap, which counts the bytes.
+use Rattle.std.specs.Prelude.{◌≡◌, ℕ, ◌+◌, List, length}
+use Rattle.node.specs.declared.Config.{Config}
+use Rattle.node.specs.declared.Handed.{Handed}
+use Rattle.node.specs.declared.Port.{Port}
+use Rattle.world_base.specs.node_core.Core.{CountedCore}
+use Rattle.node.specs.Growth.{saturated}
+use Rattle.world_base.specs.node_connections.PendingOutput.{handed_after, pending_bytes}
+use Rattle.world_base.specs.node_core.PortOutput.{listed_at}
+use Rattle.node.specs.State.{EachOpensAs, Replays, NodeStateView}
+use Rattle.streams.specs.declared.port_tap.PortTap.{PortTap}
+
+-- the nodes began as those of their numbers in some configuration of ballot 1
+pub record NodesBegan (first_of : ℕ → CountedCore) : Type 0 where
+  pub config : Config
+  pub is : EachOpensAs config first_of
+
+-- These bytes, with this answer, are what a node hands over for a port that is what its first state
+-- became by one step for each item that was taken from its inbox.
+pub record IsHandedOver
+    (first_of : ℕ → CountedCore) (port : Port) (bytes : List ℕ) (answer : Handed)
+    : Type 0 where
+  pub seen : NodeStateView
+  pub replays : Replays (first_of seen.receiver.inbox) seen.receiver.taken seen.node
+  pub bytes_are : bytes ≡ pending_bytes (listed_at port seen.node.core)
+  pub answer_is : answer ≡ handed_after (listed_at port seen.node.core)
+
+-- nothing was handed over by a tap
+abbrev pub HandsNone : PortTap → Type 0
+HandsNone tap = tap.handed ≡ 0
+
+-- a node that opened in some configuration hands over these bytes for a tap's port, and the tap
+-- counts them, up to 2^64 - 1
+pub record HandsOut (before : PortTap) (bytes : List ℕ) (answer : Handed) (after : PortTap)
+    : Type 0 where
+  pub first_of : ℕ → CountedCore
+  pub began : NodesBegan first_of
+  pub hands : IsHandedOver first_of before.port bytes answer
+  pub counts : after ≡ record before { handed = saturated (before.handed + length bytes) }

@@ -1,6 +1,0 @@
--- The law is its lemma.
-use Rattle.topics.proofs.MatchingIsTested.{tested}
-use Rattle.topics.proofs.laws.matches_is_tested.Goals as goal
-
-pub returns : goal.returns
-returns c = tested

@@ -1,5 +1,0 @@
-use Rattle.world.proofs.UncountedIsExact.{uncounted_is_exact}
-use Rattle.world.proofs.laws.uncounted_is_exact.Goals as goal
-
-pub returns : goal.returns
-returns c = uncounted_is_exact

@@ -1,5 +1,0 @@
-use Rattle.world_base.proofs.of_node_core.ProposalsAreSteps.{proposals_are_steps}
-use Rattle.world_base.proofs.node_core.laws.proposals_are_steps.Goals as goal
-
-pub returns : goal.returns
-returns c = proposals_are_steps

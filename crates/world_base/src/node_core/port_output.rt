@@ -1,0 +1,68 @@
+// The bytes that a node queued for its connections.
+
+ghost use Rattle.std.specs.Prelude.{◌≡◌, ◌++◌, [], IfOk, IsOk, OnErr, OnOk};
+ghost use Rattle.std.specs.List.{position};
+ghost use Rattle.world_base.specs.node_connections.Connections.{is_at};
+ghost use Rattle.world_base.specs.node_connections.Stands.{standing_of};
+ghost use Rattle.lists.specs.Lists.{IsPrefixOf};
+ghost use Rattle.world_base.specs.node_connections.PendingOutput.{handed_after, pending_bytes};
+ghost use Rattle.world_base.specs.node_core.PortOutput.{hands_over, idle_ports, listed_at};
+
+use crate::node_connections::{Handed, Port, Standing, keep_listed, push_idle};
+use crate::node_core::stepping_node::SteppingNode;
+use machine::Memory;
+
+impl SteppingNode {
+    /// Appends what was queued for a port and not yet handed over. If memory runs out, nothing
+    /// changes; it does not run out if nothing was queued.
+    pub(crate) fn outgoing(&mut self, port: Port, out: &mut Vec<u8>) -> Result<Handed, Memory>
+        ensures left { OnOk result
+            (self.new ≡ record self.old { core = hands_over port self.old.core }) }
+        ensures bytes { OnOk result
+            (out.new.items ≡ out.old.items ++ pending_bytes (listed_at port self.old.core)) }
+        ensures answer { IfOk result (λ handed.
+            handed ≡ handed_after (listed_at port self.old.core)) }
+        ensures nothing { pending_bytes (listed_at port self.old.core) ≡ [] → IsOk result }
+        ensures same { OnErr result (self.new ≡ self.old) }
+        ensures err { OnErr result (out.new.items ≡ out.old.items) }
+    {
+        let Some(index) = self.index_listed(port) else {
+            return Ok(Handed::Closed);
+        };
+        let connection = &mut self.connections[index];
+        let handed = connection.handed();
+        connection.outgoing(out)?;
+        keep_listed(&mut self.connections);
+        Ok(handed)
+    }
+
+    /// Appends the ports of the connections that are open and have nothing to hand over. If memory
+    /// runs out some of them may have been appended.
+    pub(crate) fn idle_ports(&self, ports: &mut Vec<Port>) -> Result<(), Memory>
+        ensures ok { OnOk result
+            (ports.new.items ≡ ports.old.items ++ idle_ports self.now.core) }
+        ensures err { OnErr result (IsPrefixOf ports.old.items ports.new.items) }
+    {
+        push_idle(&self.connections, ports)
+    }
+
+    /// Returns the state of a port's connection.
+    pub(crate) fn standing(&self, port: Port) -> Standing
+        ensures { result ≡ standing_of (listed_at port self.now.core) }
+    {
+        let Some(index) = self.index_listed(port) else {
+            return Standing::Closed;
+        };
+        let connection = &self.connections[index];
+        connection.standing()
+    }
+
+    // Returns the index of the listed connection of a port.
+    fn index_listed(&self, port: Port) -> Option<usize>
+        ensures { result ≡ position (is_at port) self.now.core.connections }
+    {
+        self.connections
+            .iter()
+            .position(|connection| connection.is_at(port))
+    }
+}

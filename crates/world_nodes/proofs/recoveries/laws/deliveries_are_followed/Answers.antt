@@ -1,5 +1,0 @@
-use Rattle.world_nodes.proofs.of_recoveries.NodesFollow.{deliveries_are_followed}
-use Rattle.world_nodes.proofs.recoveries.laws.deliveries_are_followed.Goals as goal
-
-pub returns : goal.returns
-returns c = deliveries_are_followed

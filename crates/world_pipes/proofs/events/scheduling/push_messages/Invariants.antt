@@ -1,6 +1,0 @@
-use Rattle.std.proofs.Common.{◌≡◌, ◌++◌, map, take}
-use Rattle.world_pipes.specs.declared.events.event.Event.TheVariants as events
-use Rattle.world_pipes.proofs.events.scheduling.push_messages.Given as goal
-
-abbrev pub invariant-loop-number : goal.invariant-loop-number
-invariant-loop-number l = l.way.items ≡ l.initial.way.items ++ map events.Deliver (take l.number-index l.numbers)

@@ -1,0 +1,104 @@
+// The events of a way out, in order.
+
+ghost use Rattle.std.specs.Prelude.{◌≡◌, ◌≤◌, ◌<◌, ◌+◌, ◌*◌, ◌^◌, ◌-◌, ◌∷◌, ◌++◌, length, map, OnOk};
+ghost use Rattle.recovery.specs.replicas.Deliveries.{recovery_messages};
+ghost use Rattle.world_pipes.specs.Piped.{is_holding};
+ghost use Rattle.world_pipes.specs.declared.events.event.Event.TheVariants as events;
+ghost use Rattle.world_pipes.specs.events.EscapeEvents.{answer_events, client_events, connect_bytes, leaving};
+
+use crate::PipedClient;
+use crate::events::event::Event;
+use ballot_base::Config;
+use machine::Memory;
+use packet_base::ClientId;
+use recovery::replicas::{answers, recovery_messages};
+use std::alloc::Global;
+
+/// How many bytes a client's CONNECT has besides its identifier.
+const CONNECT_BYTES: u64 = 14;
+
+/// How many bytes a CONNACK has.
+const CONNACK_BYTES: u64 = 4;
+
+/// Appends an Assign, and the deliveries that lead its ballot to the start. `sent` messages were
+/// sent before, and the member at `index` of this many `members` is asked for its log.
+pub fn push_group(
+    alloc: Global,
+    pair: &mut Vec<Event>,
+    config: Config,
+    sent: u64,
+    members: u64,
+    index: u64,
+) -> Result<(), Memory>
+    requires some { 1 ≤ length config.members }
+    requires placed { index < members }
+    requires bound { sent + members + 4 * (length config.members - 1) + 4 < 2 ^ 64 }
+    ensures { OnOk result (pair.new.items ≡ pair.old.items ++ events.Assign config
+        ∷ map events.Deliver (recovery_messages sent members index (length config.members - 1))) }
+{
+    let others = config.members.as_slice().len() as u64 - 1;
+    let numbers = recovery_messages(alloc, sent, members, index, others)?;
+    pair.push(Event::Assign(config))?;
+    push_messages(pair, numbers.as_slice())
+}
+
+/// Appends the events by which a client opens a connection to the new primary, once it has lost the
+/// one that it holds, and its CONNECT arrives. `number` is that of the new connection. The only
+/// error is that memory runs out.
+pub fn push_client(
+    pair: &mut Vec<Event>,
+    piped: &PipedClient,
+    client: &ClientId,
+    primary: u8,
+    number: u64,
+) -> Result<(), Memory>
+    ensures { OnOk result (pair.new.items ≡ pair.old.items ++ client_events (is_holding piped.now)
+        client.now primary number (connect_bytes + length piped.now.core.state.client)) }
+{
+    push_leaving(pair, piped, client)?;
+    pair.push(Event::Open(client.clone()?, primary))?;
+    let bytes = CONNECT_BYTES + piped.core().client().as_str().len() as u64;
+    pair.push(Event::CarryUp(number, bytes))?;
+    Ok(())
+}
+
+// Appends that a client loses the connection that it holds; nothing if it holds none.
+fn push_leaving(pair: &mut Vec<Event>, piped: &PipedClient, client: &ClientId) -> Result<(), Memory>
+    ensures { OnOk result
+        (pair.new.items ≡ pair.old.items ++ leaving (is_holding piped.now) client.now) }
+{
+    if !piped.is_open() {
+        return Ok(());
+    }
+    pair.push(Event::Abandon(client.clone()?))?;
+    Ok(())
+}
+
+/// Appends the events by which the others hold the command and answer, when this many messages were
+/// sent before, and the CONNACK comes down. `number` is that of the connection on which it comes.
+/// The only error is that memory runs out.
+pub fn push_answers(
+    alloc: Global,
+    pair: &mut Vec<Event>,
+    sent: u64,
+    others: u64,
+    number: u64,
+) -> Result<(), Memory>
+    requires { sent + 2 * others < 2 ^ 64 }
+    ensures { OnOk result (pair.new.items ≡ pair.old.items ++ answer_events sent others number) }
+{
+    let numbers = answers(alloc, sent, others)?;
+    push_messages(pair, numbers.as_slice())?;
+    pair.push(Event::CarryDown(number, CONNACK_BYTES))?;
+    Ok(())
+}
+
+// Appends the deliveries of the messages with these numbers.
+fn push_messages(pair: &mut Vec<Event>, numbers: &[u64]) -> Result<(), Memory>
+    ensures { OnOk result (pair.new.items ≡ pair.old.items ++ map events.Deliver numbers.now) }
+{
+    for number in numbers {
+        pair.push(Event::Deliver(*number))?;
+    }
+    Ok(())
+}
