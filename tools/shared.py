@@ -1,5 +1,5 @@
-"""What several tools need: lines of a file, where its functions begin and end, which crates there
-are, where the way of an import leads, the toolchain as a module."""
+"""What several tools need: lines of a file, where its functions begin and end, the groups of
+crates.txt, where the path of an import leads, a script as a module."""
 import functools
 import importlib.machinery
 import importlib.util
@@ -10,23 +10,13 @@ import sys
 
 # The indent of a function, its `pub` if it has one, its name.
 FUNCTION = re.compile(r"( *)(pub(?:\([^)]*\))? )?(?:const )?(?:unsafe )?fn (\w+)")
-
-# How the part of a file begins that has the members of types.
-HEADER = re.compile(r"(?:pub(?:\(\w+\))? )?(impl|trait|enum|struct)\b(.*)")
-
-# What comes before and after the name in a definition of specs or proofs, and in one of code.
-DEFINITION = {
-    ".antt": (
-        r"(?:(?:abbrev|data|instance|lemma|macro|opaque|pattern|private|pub|record|tactic"
-        r"|unfoldable) +)*",
-        r"(?= *[:({]| +[^\W\d_]| *$)",
-    ),
-    ".rt": (r"(?:pub(?:\(\w+\))? )?(?:const|enum|struct|trait) ", r"\b"),
-}
+# What comes before and after the name in a definition of specs or proofs.
+DEFINITION = (r"(?:(?:abbrev|data|instance|lemma|macro|opaque|pattern|private|pub|record|tactic"
+    r"|unfoldable) +)*", r"(?= *[:({]| +[^\W\d_]| *$)")
 # What comes before and after the name of a list of rules.
 RULES = (r"(?:pub +)?ruleset +", r" *=")
-# What a file of specs hands up of another one: its path, and words of it or a name for it.
-HANDED_UP = re.compile(r"(?m)^pub use Rattle\.([\w.]+?)(?:\.\{([^}]*)\})?(?: as (\w+))?\s*$")
+# What a file of specs re-exports: the path, and words of it or a name for it.
+REEXPORT = re.compile(r"(?m)^pub use Rattle\.([\w.]+?)(?:\.\{([^}]*)\})?(?: as (\w+))?\s*$")
 
 
 def lines_of(file):
@@ -35,9 +25,18 @@ def lines_of(file):
         return it.read().split("\n")[:-1]
 
 
+@functools.cache
+def text_of(file):
+    """Returns the text of a file; none of one that is not there."""
+    if not os.path.isfile(file):
+        return ""
+    with open(file, encoding="utf-8") as it:
+        return it.read()
+
+
 def ends_head(head, indent):
-    """Says whether the last of some lines ends the head of a function, its contract with it: `};`
-    does if it closes no part of a clause."""
+    """Returns true if the last of some lines ends the head of a function, its contract with it:
+    `};` does if it closes no part of a clause."""
     line, text = head[-1], "".join(head)
     if line.endswith("};") and text.count("{") == text.count("}"):
         return True
@@ -65,75 +64,50 @@ def functions(lines):
         at += 1
 
 
-def types_of(line):
-    """Returns the types of which the members follow after a line of code, none for most lines."""
-    header = HEADER.match(line)
-    words = re.sub(r"<[^<>]*(?:<[^<>]*>[^<>]*)*>", "", header[2]) if header else ""
-    return re.findall(r"\b[A-Z]\w*", words.partition(" where")[0].split(":")[0])
-
-
-@functools.cache
-def crates_of_product():
-    """Returns the crates of crates.txt that stand below the heading of a group, in order."""
-    found, is_product = [], False
+def groups():
+    """Returns the group of each crate of crates.txt, in order: the heading above it, up to its
+    colon."""
+    found, group = {}, ""
     for line in lines_of("crates.txt"):
-        heading = re.match(r"# (\d+ )?\w+:", line)
-        is_product = bool(heading[1]) if heading else is_product
+        heading = re.match(r"# ((?:\d+ )?[\w' ]+):", line)
+        group = heading[1] if heading else group
         crate = re.match(r"\w+", line)
-        found += [crate[0]] if crate and is_product else []
+        found.update({crate[0]: group} if crate else {})
     return found
 
 
 @functools.cache
-def text_of(file):
-    """Returns the text of a file; none of one that is not there."""
-    if not os.path.isfile(file):
-        return ""
-    with open(file, encoding="utf-8") as it:
-        return it.read()
-
-
-@functools.cache
-def handed_up(crate, part):
-    """Returns what the specs or the proofs of a crate hand up: a path for each name."""
-    found = HANDED_UP.finditer(text_of(f"crates/{crate}/{part}/Lib.antt"))
+def reexported(crate, part):
+    """Returns what the specs or the proofs of a crate re-export: a path for each name."""
+    found = REEXPORT.finditer(text_of(f"crates/{crate}/{part}/Lib.antt"))
     return {it[3] or it[1].split(".")[-1]: it[1] for it in found if it[2] is None}
 
 
 def led_to(path):
-    """Returns the file to which a path of specs or proofs leads that begins with a crate, through
-    what crates hand up, and the words that follow in the path. The file is None if there is none,
-    and one of code for `specs.declared`. Returns None outside of this repository.
-    """
+    """Returns the file of specs or proofs to which a path leads that begins with a crate, through
+    what crates re-export, and the words that follow in the path. The file is None if there is none,
+    as for a type that code declares. Returns None outside of this repository."""
     crate, *parts = path.split(".")
     if not os.path.isdir(f"crates/{crate}") or not parts or parts[0] not in ("specs", "proofs"):
         return None
     part, *rest = parts
-    handed = handed_up(crate, part)
-    if rest and rest[0] in handed:
-        return led_to(".".join([handed[rest[0]], *rest[1:]]))
-    is_code = rest[:1] == ["declared"]
-    folder, end = (f"crates/{crate}/src", ".rt") if is_code else (f"crates/{crate}/{part}", ".antt")
-    rest = rest[is_code:]
+    there = reexported(crate, part)
+    if rest and rest[0] in there:
+        return led_to(".".join([there[rest[0]], *rest[1:]]))
     for count in range(len(rest), 0, -1):
-        file = f"{folder}/{'/'.join(rest[:count])}{end}"
+        file = f"crates/{crate}/{part}/{'/'.join(rest[:count])}.antt"
         if os.path.isfile(file):
             return file, rest[count:]
-    return f"{folder}/lib.rt" if is_code else None, rest
+    return None, rest
 
 
 def defined_in(file, word, most=3):
-    """Returns where a file defines a word, or the file does of which it hands the word up: file and
-    number of the line. Returns None if there is none.
-    """
-    end, text = os.path.splitext(file)[1], text_of(file)
-    before, after = DEFINITION[end]
-    inside = r"[ \t│|]+" + (before if end == ".antt" else "")
-    for begin, rest in ((before, after), (inside, after), RULES):
-        found = re.search(rf"(?m)^{begin}{re.escape(word)}{rest}", text)
-        if found:
-            return file, text.count("\n", 0, found.end()) + 1
-    for path, words, _ in HANDED_UP.findall(text) if most else []:
+    """Returns the file that defines a word: this one, or the one from which this one re-exports it.
+    Returns None if there is none."""
+    for begin, end in (DEFINITION, (r"[ \t│|]+" + DEFINITION[0], DEFINITION[1]), RULES):
+        if re.search(rf"(?m)^{begin}{re.escape(word)}{end}", text_of(file)):
+            return file
+    for path, words, _ in REEXPORT.findall(text_of(file)) if most else []:
         there = led_to(path)
         may_have = word in re.split(r"[,\s]+", words) if words else there and not there[1]
         at = defined_in(there[0], word, most - 1) if may_have and there and there[0] else None
@@ -142,11 +116,16 @@ def defined_in(file, word, most=3):
     return None
 
 
-def toolchain():
-    """Loads the toolchain's command `rt` as a module."""
+def module_of(path):
+    """Loads a script as a module."""
     sys.dont_write_bytecode = True
-    path = os.path.realpath(shutil.which("rt") or sys.exit("there is no rt on the PATH"))
-    loader = importlib.machinery.SourceFileLoader("rt_of_the_kit", path)
-    made = importlib.util.module_from_spec(importlib.util.spec_from_loader("rt_of_the_kit", loader))
+    name = f"script_{os.path.basename(path)}"
+    loader = importlib.machinery.SourceFileLoader(name, path)
+    made = importlib.util.module_from_spec(importlib.util.spec_from_loader(name, loader))
     loader.exec_module(made)
     return made
+
+
+def toolchain():
+    """Loads the toolchain's command `rt` as a module."""
+    return module_of(os.path.realpath(shutil.which("rt") or sys.exit("there is no rt on the PATH")))
