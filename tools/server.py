@@ -1,0 +1,68 @@
+"""What the scripts of this folder start on loopback: a `serve`, and the load program."""
+import os
+import re
+import subprocess
+import sys
+import tempfile
+import threading
+
+TOP = os.path.dirname(os.path.dirname(os.path.abspath(__file__)))
+PROVED = f"{TOP}/crates/vbroker/out/vbroker"
+TRIAL = f"{TOP}/crates/vbroker/out/trial/vbroker"
+# The proved program, or the trial one of ./serve if there is none.
+PROGRAM = PROVED if os.path.exists(PROVED) or not os.path.exists(TRIAL) else TRIAL
+
+
+class Server:
+    """A `serve` with nodes on free ports. The first of them are members, and node 1 is primary. It
+    is killed when its block ends."""
+
+    def __init__(self, program, nodes, members):
+        with tempfile.NamedTemporaryFile("w", suffix=".toml") as table:
+            table.write(f"members = {list(range(1, members + 1))}\nprimary = 1\n")
+            for number in range(1, nodes + 1):
+                table.write(f'[[node]]\nid = {number}\nlisten = "127.0.0.1:0"\n')
+            table.flush()
+            self.process = subprocess.Popen([program, "serve", "--config", table.name],
+                stdin=subprocess.PIPE, stdout=subprocess.PIPE, stderr=subprocess.PIPE, text=True,
+                bufsize=1)
+            lines = [self.process.stderr.readline() for _ in range(nodes)]
+        found = [re.search(r":(\d+)\n", it) for it in lines]
+        if not all(found):
+            sys.exit(f"serve printed: {''.join(lines)}")
+        self.ports = [int(it[1]) for it in found]
+        threading.Thread(target=self.process.stderr.read, daemon=True).start()
+
+    def order(self, line, answers=1):
+        """Gives an order, and returns the lines that answer it."""
+        self.process.stdin.write(line + "\n")
+        self.process.stdin.flush()
+        return [self.process.stdout.readline().strip() for _ in range(answers)]
+
+    def takes(self):
+        """Returns its resident memory in MiB, its threads and its open files."""
+        with open(f"/proc/{self.process.pid}/status", encoding="utf-8") as it:
+            fields = dict(line.split(":", 1) for line in it)
+        return (int(fields["VmRSS"].split()[0]) / 1024, int(fields["Threads"]),
+            len(os.listdir(f"/proc/{self.process.pid}/fd")))
+
+    def __enter__(self):
+        return self
+
+    def __exit__(self, *_):
+        self.process.kill()
+        self.process.wait()
+
+
+def install(*packages):
+    """Installs Debian's packages, as root."""
+    for words in (["update"], ["install", "-y", "--no-install-recommends", *packages]):
+        subprocess.run(["apt-get", "-q", *words], check=True, stdout=sys.stderr,
+            env={**os.environ, "DEBIAN_FRONTEND": "noninteractive"})
+
+
+def built_load(folder):
+    """Builds the load program tools/load.rs in a folder, and returns its path."""
+    subprocess.run(["rustc", "--edition", "2021", "-O", "-o", f"{folder}/load",
+        f"{TOP}/tools/load.rs"], check=True)
+    return f"{folder}/load"
