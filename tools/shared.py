@@ -17,6 +17,10 @@ DEFINITION = (r"(?:(?:abbrev|data|instance|lemma|macro|opaque|pattern|private|pu
 RULES = (r"(?:pub +)?ruleset +", r" *=")
 # What a file of specs re-exports: the path, and words of it or a name for it.
 REEXPORT = re.compile(r"(?m)^pub use Rattle\.([\w.]+?)(?:\.\{([^}]*)\})?(?: as (\w+))?\s*$")
+# An import: its path, and words of it or a name for it. A word, and the name that it gets.
+IMPORT = re.compile(r"(?m)^ *(?:ghost )?(?:pub )?use Rattle\.([^\s{;]+?)\.?(?:\{([^}]*)\})?"
+    r"(?: as ([^\s;]+?))?;?\s*$")
+IMPORTED = re.compile(r"([^\s,]+)(?: as ([^\s,]+))?")
 
 
 def lines_of(file):
