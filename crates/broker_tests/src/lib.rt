@@ -3,7 +3,8 @@
 #![tactic(auto)]
 
 #[cfg(test)]
-pub mod forms;
+mod forms;
+#[cfg(test)]
 mod row;
 #[cfg(test)]
 mod story;

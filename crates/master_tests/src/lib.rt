@@ -1,11 +1,14 @@
 //! Tests of replication: one replica, pairs of them, the master, and groups that cut their logs.
 #![tactic(auto)]
 
-pub mod one_replica;
+#[cfg(test)]
+mod one_replica;
 mod rows;
-pub mod shared;
+#[cfg(test)]
+mod shared;
 #[cfg(test)]
 mod tests;
-pub mod twins;
+#[cfg(test)]
+mod twins;
 
 pub use rows::ranges_have_their_edges;

@@ -1,8 +1,11 @@
 //! Tests of nodes, inboxes, connections over failing devices, and messages between nodes.
 #![tactic(auto)]
 
-pub mod engines;
-pub mod memory;
-pub mod posts;
+#[cfg(test)]
+mod engines;
+#[cfg(test)]
+mod memory;
+#[cfg(test)]
+mod posts;
 #[cfg(test)]
 mod tests;

@@ -3,6 +3,7 @@
 #![tactic(auto)]
 
 pub mod names;
-pub mod streams;
+#[cfg(test)]
+mod streams;
 #[cfg(test)]
 mod tests;

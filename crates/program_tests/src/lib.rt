@@ -2,10 +2,17 @@
 //! subcommands with their input and output.
 #![tactic(auto)]
 
-pub mod client_core;
-pub mod examples;
-pub mod played;
-pub mod script_texts;
-pub mod served;
-pub mod user_clients;
-pub mod words;
+#[cfg(test)]
+mod client_core;
+#[cfg(test)]
+mod examples;
+#[cfg(test)]
+mod played;
+#[cfg(test)]
+mod script_texts;
+#[cfg(test)]
+mod served;
+#[cfg(test)]
+mod user_clients;
+#[cfg(test)]
+mod words;

@@ -1,12 +1,13 @@
 //! Tests of subscriptions, retained publications and sessions.
 #![tactic(auto)]
 
+#[cfg(test)]
 mod indexes;
 mod readings;
 #[cfg(test)]
 mod retaining;
 #[cfg(test)]
-pub mod sessions;
+mod sessions;
 #[cfg(test)]
 mod shown;
 

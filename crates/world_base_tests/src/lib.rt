@@ -2,5 +2,7 @@
 //! anywhere (`rows`).
 #![tactic(auto)]
 
-pub mod messages;
-pub mod rows;
+#[cfg(test)]
+mod messages;
+#[cfg(test)]
+mod rows;

@@ -1,7 +1,9 @@
 //! Tests of whole worlds: long runs, tables of rows, ways to recover.
 #![tactic(auto)]
 
-pub mod rows;
-pub mod tables;
+#[cfg(test)]
+mod rows;
+#[cfg(test)]
+mod tables;
 #[cfg(test)]
 mod tests;
