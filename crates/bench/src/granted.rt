@@ -19,8 +19,8 @@ pub fn run(rt: &HostRuntime) -> Result<()> {
     measure(rt, 4_000)
 }
 
-// Measures with an index of its own. Each function below is lent the index, so that no way out of
-// it has to drop it.
+// Measures with an index of its own. Each function below is lent the index, so that no exit from it
+// has to drop it.
 fn measure(rt: &HostRuntime, clients: u32) -> Result<()> {
     let mut index = ListIndex::new(rt.alloc());
     measure_over(rt, &mut index, clients)

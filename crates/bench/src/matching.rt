@@ -62,7 +62,7 @@ fn copies(alloc: Global, topic_text: &str) -> Result<Vec<TopicName>> {
     Ok(topics)
 }
 
-// Adds the copies of a topic. The list is lent, so that no way out of the loop has to drop it.
+// Adds the copies of a topic. The list is lent, so that no exit from the loop has to drop it.
 fn put_copies(alloc: Global, topic_text: &str, topics: &mut Vec<TopicName>) -> Result<()> {
     for _ in 0..COPIES {
         topics.push(TopicName::new(alloc, topic_text)?)?;

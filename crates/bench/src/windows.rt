@@ -40,7 +40,7 @@ fn measure_in(rt: &HostRuntime, session: &mut Session, window: u32) -> Result<()
 }
 
 // Returns the time of an entry, over rounds of this many. The session and the packets are lent, so
-// that no way out of the loop has to drop them.
+// that no exit from the loop has to drop them.
 fn time_rounds(
     rt: &HostRuntime,
     session: &mut Session,

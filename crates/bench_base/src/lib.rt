@@ -32,7 +32,7 @@ pub fn print_memory<R: Files + Print + AllocGlobal>(rt: &R, before: &str) -> Res
     print_lines(rt, before, status.as_str())
 }
 
-// The text is lent, so that no way out of the loop has to drop it.
+// The text is lent, so that no exit from the loop has to drop it.
 fn print_lines<R: Print>(rt: &R, before: &str, status: &str) -> Result<()> {
     for line in status.lines() {
         if line.starts_with("VmRSS") || line.starts_with("VmHWM") {

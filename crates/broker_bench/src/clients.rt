@@ -56,7 +56,7 @@ impl Clients {
         self.put(Command::Expel(ClientId::new(self.alloc, client)?))
     }
 
-    /// Makes these subscriptions of a client in one packet.
+    /// Subscribes a client to these filters, by one packet.
     pub fn subscribe(&mut self, count: u64, wanted: Vec<Subscription>) -> Result<()> {
         let name = name_of(count)?;
         let subscribe = Subscribe {
@@ -115,7 +115,7 @@ impl Clients {
     }
 
     // Does a command, and all that the clients answer is under way then. What the broker sends is
-    // lent, so that no way out has to drop it.
+    // lent, so that no early return has to drop it.
     fn apply_and_answer(&mut self, command: &Command, given: &mut Vec<Output>) -> Result<bool> {
         self.broker.apply(command, given)?;
         self.answer_all(given.as_slice())?;
@@ -140,7 +140,7 @@ impl Clients {
     }
 }
 
-// Adds a filter. The list is lent, so that no way out has to drop it.
+// Adds a filter. The list is lent, so that no early return has to drop it.
 fn put_filter(alloc: Global, text: &str, qos: QoS, wanted: &mut Vec<Subscription>) -> Result<()> {
     let filter = Filter::new(alloc, text)?;
     wanted.push(Subscription { filter, qos })?;

@@ -32,7 +32,8 @@ impl Filters {
     }
 }
 
-/// Has as many clients come, ask for filters and be lost: their sessions stay.
+/// Connects this many clients, subscribes them to filters, and ends their connections: their
+/// sessions stay.
 pub fn gather(clients: &mut Clients, alloc: Global, sessions: u32, filters: Filters) -> Result<()> {
     for session in 0..sessions {
         visit(clients, alloc, session, filters)?;
@@ -65,7 +66,7 @@ pub fn wanted(alloc: Global, filters: u32, owner: Option<u32>) -> Result<Vec<Sub
     Ok(wanted)
 }
 
-// Adds these filters. The list is lent, so that no way out of the loop has to drop it.
+// Adds these filters. The list is lent, so that no exit from the loop has to drop it.
 fn put_all(
     alloc: Global,
     filters: u32,

@@ -54,7 +54,7 @@ fn fill(rt: &HostRuntime, clients: &mut Clients) -> Result<()> {
     put_in(clients, &topic)
 }
 
-// Publishes what waits for the session. The topic is lent, so that no way out of the loop has to
+// Publishes what waits for the session. The topic is lent, so that no exit from the loop has to
 // drop it.
 fn put_in(clients: &mut Clients, topic: &TopicName) -> Result<()> {
     for _ in 0..WAITING {

@@ -28,7 +28,7 @@ pub fn run(rt: &HostRuntime) -> Result<()> {
 }
 
 // Prints the time of one traffic with nothing handed over, and with all. What is large is lent
-// below, so that no way out has to drop it.
+// below, so that no early return has to drop it.
 fn compare(rt: &HostRuntime, connections: u64, qos: QoS, packets: u8) -> Result<()> {
     let traffic = Traffic::new(rt.alloc(), connections, qos, packets)?;
     compare_with(rt, connections, qos, packets, &traffic)
@@ -144,7 +144,7 @@ fn join(alloc: Global, node: &mut NodeCore, port: u64, out: &mut Vec<u8>) -> Res
     take(alloc, node, &connect, true, out)
 }
 
-// Has the client by a port subscribe.
+// Subscribes the client of a port.
 fn listen(alloc: Global, node: &mut NodeCore, port: u64, out: &mut Vec<u8>) -> Result<()> {
     let subscribe = subscribe(alloc, port)?;
     take(alloc, node, &subscribe, true, out)

@@ -37,7 +37,7 @@ fn measure(rt: &HostRuntime, qos: QoS, subscribers: u64, beside: u32) -> Result<
 }
 
 // Prints the time of a publication to this many subscribers, with other sessions beside them. Each
-// function below is lent the broker, so that no way out of it has to drop it.
+// function below is lent the broker, so that no exit from it has to drop it.
 fn measure_with(
     rt: &HostRuntime,
     clients: &mut Clients,

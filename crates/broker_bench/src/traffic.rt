@@ -49,8 +49,8 @@ impl Traffic {
     }
 }
 
-// Adds the parts of a round, pair by pair. They are lent, so that no way out of the loop has to
-// drop them.
+// Adds the parts of a round, pair by pair. They are lent, so that no exit from the loop has to drop
+// them.
 fn put_rounds(
     alloc: Global,
     pairs: u64,
@@ -128,7 +128,7 @@ fn say(
     put_pieces(alloc, ports, packets, bytes.as_slice(), parts)
 }
 
-// Adds a part for each piece of these bytes. They are lent, so that no way out of the loop has to
+// Adds a part for each piece of these bytes. They are lent, so that no exit from the loop has to
 // drop them.
 fn put_pieces(
     alloc: Global,

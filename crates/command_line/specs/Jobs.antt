@@ -1,4 +1,4 @@
--- The job of a command line, by the matches that `clap` has of its words.
+-- The job of a command line, from the matches that `clap` returns for its words.
 use Rattle.std.specs.Prelude.{◌≡◌, ◌<◌, ◌^◌, ℕ, List, true, false, Option, Some, None, codes, option_map}
 use Rattle.std.specs.Str.Parse.{IsNumeral, digits_value, without_leading_plus}
 use Rattle.packet_base.specs.QoS.{qos_number}
@@ -50,14 +50,14 @@ pub record IsSubscribe (rows : List Row) (job : Subscribe) : Type 0 where
   pub tries : HasNumber (codes "tries") rows job.tries
   pub addresses : all_of (codes "address") rows ≡ Some (texts job.addresses.items)
 
--- the members of a way out and its client, both or neither
+-- the members of a recovery and its client, both or neither
 abbrev pub IsEscapeOf : Option Text → Option Text → Option Escape → Type 0
 IsEscapeOf None None None = Unit {0}
 IsEscapeOf (Some members) (Some client) (Some job) =
     (members ≡ job.members.now) × (client ≡ job.client.now)
 IsEscapeOf _ _ _ = ⊥
 
--- the way out that the words ask for, if they do
+-- the recovery that the words ask for, if they do
 abbrev pub IsEscape : List Row → Option Escape → Type 0
 IsEscape rows job = IsEscapeOf (first_of (codes "escape") rows) (first_of (codes "client") rows) job
 
@@ -66,19 +66,19 @@ pub record IsPlay (rows : List Row) (job : Play) : Type 0 where
   pub script : first_of (codes "file") rows ≡ option_map (λ script. script.now) job.script
   pub escape : IsEscape rows job.escape
 
--- the job is that of the subcommand of this name, with the values of its matches
+-- the job is that of the subcommand with this name and these matches
 abbrev pub IsJobOf : Text × List Row → Job → Type 0
 IsJobOf met (jobs.Serve job) = (met.0 ≡ codes "serve") × IsServe met.1 job
 IsJobOf met (jobs.Publish job) = (met.0 ≡ codes "pub") × IsPublish met.1 job
 IsJobOf met (jobs.Subscribe job) = (met.0 ≡ codes "sub") × IsSubscribe met.1 job
 IsJobOf met (jobs.Play job) = (met.0 ≡ codes "play") × IsPlay met.1 job
 
--- the job is that of the subcommand that was met
+-- the job is that of the subcommand that was found
 abbrev pub IsJob : Option (Text × List Row) → Job → Type 0
 IsJob None job = ⊥
 IsJob (Some met) job = IsJobOf met job
 
--- a refusal of the words has one of these kinds
+-- the refusal is of one of these kinds
 abbrev pub IsRefusal : Kinds → LineFault → Type 0
 IsRefusal kinds (faults.Words error) = IsAmong (kind_of error) kinds
 IsRefusal kinds faults.Incomplete = Unit {0}

@@ -1,4 +1,4 @@
--- The program's command line: its subcommands and their arguments, as they are declared to `clap`.
+-- The program's command line, as it is declared to `clap`: subcommands and their arguments.
 use Rattle.std.specs.Prelude.{◌≡◌, ◌∷◌, [], ℕ, true, false, Some, codes, pos}
 use Rattle.clap.specs.Words.{App, Rule, Text, app_of, new_app, new_rule, rule_of}
 use Rattle.clap.specs.Words.{with_rule, with_subcommand}
@@ -13,7 +13,7 @@ abbrev pub required_option : Text → Rule
 required_option name =
     record (new_rule name) { long = Some name; required = true; value_names = 1 }
 
--- `--name VALUE`, which may be left out
+-- `--name VALUE`, which is optional
 abbrev pub free_option : Text → Rule
 free_option name = record (new_rule name) { long = Some name; value_names = 1 }
 
@@ -22,7 +22,7 @@ abbrev pub number_option : Text → ℕ → ℕ → Rule
 number_option name least most =
     record (required_option name) { parser = Some (parsers.Signed (pos least) (pos most)) }
 
--- `--config FILE`, which has to be given
+-- `--config FILE`, which is required
 abbrev pub config_rule : Rule
 config_rule = required_option (codes "config")
 
@@ -34,7 +34,7 @@ qos_rule = number_option (codes "qos") 0 2
 abbrev pub count_rule : Rule
 count_rule = number_option (codes "count") 1 1000000
 
--- 10 if it is left out
+-- `--tries N`; 10 if it is left out
 abbrev pub tries_rule : Rule
 tries_rule = record (number_option (codes "tries") 1 1000) {
   required = false;
@@ -56,7 +56,7 @@ address_rule = record (new_rule (codes "address")) {
   value_names = 1;
 }
 
--- `[FILE]`, which may be missing
+-- `[FILE]`, which is optional
 abbrev pub file_rule : Rule
 file_rule = record (new_rule (codes "file")) { value_names = 1 }
 
@@ -91,8 +91,8 @@ play_app = with_rule
     (with_rule (with_rule (new_app (codes "play")) (free_option (codes "escape")))
     (free_option (codes "client"))) file_rule
 
--- the program without its subcommands: it has a version, requires a subcommand, and answers a
--- command line without words by the help
+-- the program without its subcommands: it has a version, requires a subcommand, and prints the help
+-- for a command line without words
 abbrev pub bare_program : App
 bare_program = record (new_app (codes "vbroker")) {
   top = record ((new_app (codes "vbroker")).top) {

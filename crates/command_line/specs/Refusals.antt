@@ -3,7 +3,7 @@ use Rattle.std.specs.Prelude.{ℕ}
 use Rattle.command_line.specs.declared.fault.TableFault.{TableFault}
 use Rattle.command_line.specs.declared.fault.TableFault.TheVariants.{Shape, Memory}
 
--- a text that gives no table of nodes
+-- the number of a text that is no table of nodes
 abbrev pub table_number : TableFault → ℕ
 table_number Shape = 10
 table_number Memory = 12

@@ -105,7 +105,7 @@ pub(crate) fn addresses<'a>(alloc: Global) -> Arg<'a>
         .help("Servers, as 127.0.0.1:1883, tried in turn")
 }
 
-// Returns `--NAME VALUE`, which may be left out.
+// Returns `--NAME VALUE`, which is optional.
 fn free_option<'a>(alloc: Global, name: &'a str, value: &'a str, help: &'a str) -> Arg<'a>
     ensures { IsArgument (free_option name.entry.now) result }
 {

@@ -1,4 +1,4 @@
-// The program's subcommands.
+// The program's subcommands, as they are declared to `clap`.
 
 ghost use Rattle.std.specs.Prelude.{◌≡◌, IfOk};
 ghost use Rattle.clap.specs.Words.{App, Rule, new_app, with_rule, with_subcommand};
@@ -79,7 +79,6 @@ fn bare<'a>(alloc: Global, name: &'a str, about: &'a str, after_help: &'a str) -
         .after_help(after_help)
 }
 
-// Adds an argument to the command.
 fn add<'a>(command: Command<'a>, arg: Arg<'a>) -> Result<Command<'a>, AllocError>
     ensures { (app : App) (rule : Rule) → IsCommand app command.entry → IsArgument rule arg.entry
         → IfOk result (IsCommand (with_rule app rule)) }
@@ -87,7 +86,6 @@ fn add<'a>(command: Command<'a>, arg: Arg<'a>) -> Result<Command<'a>, AllocError
     command.arg(arg)
 }
 
-// Adds a subcommand to the command.
 fn enter<'a>(command: Command<'a>, subcommand: Command<'a>) -> Result<Command<'a>, AllocError>
     ensures { (app sub_app : App) → IsCommand app command.entry
         → IsCommand sub_app subcommand.entry

@@ -1,4 +1,4 @@
-// The values of a TOML document.
+// Reading the values of a TOML document.
 
 ghost use Rattle.std.specs.Prelude.{◌≡◌, ◌≤◌, ◌↔◌, ℕ, List, true, Some, None, IfOk, IfSome, IsNone, IsErrOf};
 ghost use Rattle.std.specs.List.{list_all};
@@ -16,10 +16,11 @@ use std::alloc::Global;
 use std::collections::btree_map::Iter;
 use toml::{Table, Value};
 
-/// The greatest number of a node, as an integer of TOML.
+/// The greatest number of a node, as a TOML integer.
 const MAX_NODE: i64 = ballot_base::MAX_NODE as i64;
 
-/// Returns the table of nodes in a document, with no number above the greatest of a node.
+/// Returns the table of nodes in a document. Fails with `Shape` for any other document; no number
+/// of the table is above the greatest of a node.
 pub(crate) fn document_table(alloc: Global, document: &Table) -> Result<NodeTable, TableFault>
     ensures value { IfOk result (λ table. table_view document.now ≡ document_of table) }
     ensures shape { IsErrOf result TableFault.Shape → (table : NodeTable)
@@ -41,7 +42,7 @@ pub(crate) fn document_table(alloc: Global, document: &Table) -> Result<NodeTabl
     })
 }
 
-// Returns the value of the next entry, if its key is this one.
+// Returns the value of the next entry, if its key is `key`.
 fn next_value<'a>(entries: &mut Iter<'a, String, Value>, key: &str) -> Option<&'a Value>
     ensures some { IfSome result (λ value. members_view entries.old
         ≡ member key.now (view value.now) (members_view entries.new)) }

@@ -1,4 +1,4 @@
-// Why what the user wrote could not be read.
+// Why a command line or a table of nodes is refused.
 
 ghost use Rattle.std.specs.Prelude.{◌≡◌};
 ghost use Rattle.command_line.specs.Refusals.{table_number};
@@ -10,10 +10,10 @@ use std::{error, fmt};
 /// Why a command line gives no job.
 #[derive(Debug, Drop)]
 pub enum LineFault {
-    /// The program does not know the words, or help or the version was asked for. Its text is for
+    /// The program does not know the words, or they ask for help or the version. The text is for
     /// the user.
     Words(Error),
-    /// The words were accepted, but a value that the job needs is not among their matches.
+    /// The words were accepted, but a value that the job needs is missing among their matches.
     Incomplete,
     /// Memory ran out.
     Memory,
@@ -22,7 +22,7 @@ pub enum LineFault {
 /// Why a text gives no table of nodes.
 #[derive(Clone, Copy, Debug, PartialEq, Eq)]
 pub enum TableFault {
-    /// The text is no TOML document of a lawful table of nodes.
+    /// The text is no TOML document of a lawful table.
     Shape,
     /// Memory ran out.
     Memory,

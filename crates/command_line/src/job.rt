@@ -2,7 +2,7 @@
 
 use packet_base::QoS;
 
-/// What a command line asks for: one of the subcommands, with its values. The texts are the user's
+/// The job that a command line asks for: a subcommand with its values. The texts are the user's
 /// words.
 #[derive(Debug, Drop)]
 pub enum Job<'a> {
@@ -10,7 +10,7 @@ pub enum Job<'a> {
     Serve(Serve<'a>),
     /// Publishes once.
     Publish(Publish<'a>),
-    /// Prints what is published.
+    /// Prints publications.
     Subscribe(Subscribe<'a>),
     /// Plays a script.
     Play(Play<'a>),
@@ -30,15 +30,15 @@ pub struct Publish<'a> {
     pub id: &'a str,
     /// The Topic Name, which is not checked here.
     pub topic: &'a str,
-    /// The QoS at which it is delivered.
+    /// The QoS at which it is published.
     pub qos: QoS,
     /// The payload.
     pub message: &'a str,
-    /// Whether a server is to keep it for later subscribers (RETAIN).
+    /// The RETAIN flag: whether a server keeps it for later subscribers.
     pub retain: bool,
     /// How many connections are opened at most, 1 to 1,000.
     pub tries: u32,
-    /// The addresses of servers, at least one, which are not checked here.
+    /// The addresses of servers, at least one; they are not checked here.
     pub addresses: Vec<&'a str>,
 }
 
@@ -49,29 +49,29 @@ pub struct Subscribe<'a> {
     pub id: &'a str,
     /// The Topic Filter, which is not checked here.
     pub filter: &'a str,
-    /// The greatest QoS that is asked for.
+    /// The greatest QoS that is requested.
     pub qos: QoS,
     /// How many publications are printed, 1 to 1,000,000.
     pub count: u32,
     /// How many connections are opened at most, 1 to 1,000.
     pub tries: u32,
-    /// The addresses of servers, at least one, which are not checked here.
+    /// The addresses of servers, at least one; they are not checked here.
     pub addresses: Vec<&'a str>,
 }
 
 /// The words of `play`.
 #[derive(Debug, Drop)]
 pub struct Play<'a> {
-    /// The file with the script; without one it is standard input.
+    /// The file with the script; none for standard input.
     pub script: Option<&'a str>,
-    /// The way out to print instead of the transcript, if one is asked for.
+    /// The recovery to print in place of the transcript, if the words ask for one.
     pub escape: Option<Escape<'a>>,
 }
 
-/// Prints the way out of the world in which a script ends.
+/// The words for a recovery of the world in which a script ends.
 #[derive(Debug, Drop)]
 pub struct Escape<'a> {
-    /// The members of the next ballot, with commas between them, which are not checked here.
+    /// The members of the next ballot, with commas between them; they are not checked here.
     pub members: &'a str,
     /// The Client Identifier, which is not checked here.
     pub client: &'a str,

@@ -1,4 +1,4 @@
-// Getting the job from the matches of a command line.
+// The job of a command line, from its matches.
 
 ghost use Rattle.std.specs.Prelude.{◌≡◌, ℕ, [], Option, Some, None, IfOk, IfErr, IsErrOf, codes};
 ghost use Rattle.packet_base.specs.declared.qos.QoS.{QoS};
@@ -19,7 +19,7 @@ use clap::ArgMatches;
 use packet_base::QoS;
 use std::alloc::Global;
 
-/// Returns the job of the subcommand that was met, with the values of its arguments.
+/// Returns the job of the subcommand that was found, with the values of its arguments.
 pub(crate) fn job_of<'a>(alloc: Global, matches: &ArgMatches<'a>) -> Result<Job<'a>, LineFault>
     ensures job { IfOk result (IsJob (subcommand_rows_of matches.now)) }
     ensures refused { IfErr result (IsRefusal []) }
@@ -41,7 +41,6 @@ pub(crate) fn job_of<'a>(alloc: Global, matches: &ArgMatches<'a>) -> Result<Job<
     Err(LineFault::Incomplete)
 }
 
-// Returns the job `serve` of its words.
 fn serve<'a>(found: &ArgMatches<'a>) -> Result<Serve<'a>, LineFault>
     ensures job { IfOk result (IsServe (rows_of (found_of found.now))) }
     ensures refused { IfErr result (IsRefusal []) }
@@ -52,7 +51,6 @@ fn serve<'a>(found: &ArgMatches<'a>) -> Result<Serve<'a>, LineFault>
     Ok(Serve { config })
 }
 
-// Returns the job `pub` of its words.
 fn publish<'a>(alloc: Global, found: &ArgMatches<'a>) -> Result<Publish<'a>, LineFault>
     ensures job { IfOk result (IsPublish (rows_of (found_of found.now))) }
     ensures refused { IfErr result (IsRefusal []) }
@@ -76,7 +74,6 @@ fn publish<'a>(alloc: Global, found: &ArgMatches<'a>) -> Result<Publish<'a>, Lin
     })
 }
 
-// Returns the job `sub` of its words.
 fn subscribe<'a>(alloc: Global, found: &ArgMatches<'a>) -> Result<Subscribe<'a>, LineFault>
     ensures job { IfOk result (IsSubscribe (rows_of (found_of found.now))) }
     ensures refused { IfErr result (IsRefusal []) }
@@ -99,7 +96,6 @@ fn subscribe<'a>(alloc: Global, found: &ArgMatches<'a>) -> Result<Subscribe<'a>,
     })
 }
 
-// Returns the job `play` of its words.
 fn play<'a>(found: &ArgMatches<'a>) -> Result<Play<'a>, LineFault>
     ensures job { IfOk result (IsPlay (rows_of (found_of found.now))) }
     ensures refused { IfErr result (IsRefusal []) }
@@ -113,7 +109,7 @@ fn play<'a>(found: &ArgMatches<'a>) -> Result<Play<'a>, LineFault>
     })
 }
 
-// Returns the way out that is asked for, if one is: both of its arguments are present, or neither.
+// Returns the recovery that the words ask for: both of its arguments are present, or neither.
 fn escape<'a>(found: &ArgMatches<'a>) -> Result<Option<Escape<'a>>, LineFault>
     ensures job { IfOk result (IsEscape (rows_of (found_of found.now))) }
     ensures refused { IfErr result (IsRefusal []) }
@@ -154,7 +150,6 @@ fn number(found: &ArgMatches<'_>, id: &str) -> Result<u32, LineFault>
     }
 }
 
-// Returns the QoS.
 fn qos(found: &ArgMatches<'_>) -> Result<QoS, LineFault>
     ensures value { IfOk result (λ qos.
         HasNumber (codes "qos") (rows_of (found_of found.now)) (qos_number qos)) }
@@ -170,7 +165,6 @@ fn qos(found: &ArgMatches<'_>) -> Result<QoS, LineFault>
     }
 }
 
-// Returns the addresses, in order.
 fn addresses<'a>(alloc: Global, found: &ArgMatches<'a>) -> Result<Vec<&'a str>, LineFault>
     ensures value { IfOk result (λ all.
         all_of (codes "address") (rows_of (found_of found.now)) ≡ Some (texts all.items)) }

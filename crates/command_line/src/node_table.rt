@@ -2,13 +2,12 @@
 
 use ballot_base::Config;
 
-/// Which nodes there are, and which of them begin as the members of ballot 1.
+/// The nodes of a program, and the members of ballot 1 among them.
 #[derive(Drop)]
 pub struct NodeTable {
     /// The configuration of ballot 1. It is lawful, and its members are among the nodes.
     pub config: Config,
-    /// The nodes, in the order of the table. Their numbers are from 1 to `MAX_NODE`, and none
-    /// occurs twice.
+    /// The nodes, in the order of the table. Their numbers are from 1 to `MAX_NODE`, and differ.
     pub nodes: Vec<ListeningNode>,
 }
 

@@ -1,4 +1,4 @@
-// The text of a table of nodes.
+// Reading the table of nodes.
 
 ghost use Rattle.std.specs.Prelude.{◌≡◌, IfOk, IsErrOf};
 ghost use Rattle.std.specs.List.{list_all};
@@ -11,8 +11,8 @@ use crate::node_table::{ListeningNode, NodeTable};
 use ballot_base::MAX_NODE;
 use std::alloc::Global;
 
-/// Reads the table of nodes from a TOML document. [`TableFault::Shape`] comes exactly if the text
-/// is no document of a lawful table, or has an unknown key; the order of its keys is free.
+/// Reads the table of nodes from a TOML document. Fails with [`TableFault::Shape`] exactly if the
+/// text is no document of a lawful table, or has an unknown key; the order of keys is free.
 pub fn table(alloc: Global, text: &str) -> Result<NodeTable, TableFault>
     ensures value { IfOk result (IsTableText text.now) }
     ensures shape { IsErrOf result TableFault.Shape → (table : NodeTable)
@@ -31,7 +31,8 @@ pub fn table(alloc: Global, text: &str) -> Result<NodeTable, TableFault>
     }
 }
 
-// Returns true if the nodes can be told apart, and the members of ballot 1 are among them.
+// Returns true if the numbers of the nodes differ and are in range, and the members of ballot 1 are
+// nodes.
 fn is_lawful(read: &NodeTable) -> bool
     ensures { result ≡ is_lawful_table read.now }
 {
@@ -50,14 +51,12 @@ fn are_told_apart(nodes: &[ListeningNode]) -> bool
     (1 <= node.id && node.id <= MAX_NODE) && (!has_node(others, node.id) && are_told_apart(others))
 }
 
-// Returns true if each of these is a node.
 fn are_nodes(nodes: &[ListeningNode], members: &[u8]) -> bool
     ensures { result ≡ list_all (has_node nodes.now) members.now }
 {
     members.iter().all(|member| has_node(nodes, *member))
 }
 
-// Returns true if a node has this number.
 fn has_node(nodes: &[ListeningNode], id: u8) -> bool
     ensures { result ≡ has_node nodes.now id }
 {

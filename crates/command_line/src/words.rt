@@ -1,4 +1,10 @@
-// The words of a command line.
+// Parsing the words of a command line.
+//
+// `clap` decides what the words mean and which refusal they get; this crate adds no rule of its
+// own. The declaration of the commands, `Program` of specs, is what clauses speak of: a job is
+// returned exactly with the matches of its subcommand, and a refusal only for a fault that the
+// words have. The texts of a job are the user's words, unchecked: identifiers, topics and addresses
+// are checked by the crates that use them.
 
 ghost use Rattle.std.specs.Prelude.{◌≡◌, ◌≢◌, [], IfOk, IfErr, OnOk, IsErrOf, map};
 ghost use Rattle.command_line.specs.declared.job.Job.{Job};
@@ -15,14 +21,14 @@ use clap::error::ErrorKind;
 use std::alloc::Global;
 use std::convert::AsStr;
 
-/// Reads the words of a command line, the first of which is the program's name. The job's texts are
-/// the words themselves.
+/// Parses the words of a command line, the first of which is the program's name. The texts of the
+/// job are the words themselves.
 pub fn line<'a, S: AsStr>(alloc: Global, words: &'a [S]) -> Result<Job<'a>, LineFault>
-    // The job is the subcommand of the words, and its values are their matches.
+    // The job is that of the subcommand, with the values of its matches.
     ensures job { IfOk result (IsJob (subcommand_of program (map S.text words.entry.now))) }
     ensures taken { OnOk result (fault_of program (map S.text words.entry.now) ≡ []) }
 
-    // Words are refused for a fault that they have, and for no other.
+    // Words are refused only for a fault that they have.
     ensures refused { IfErr result (IsRefusal (fault_of program (map S.text words.entry.now))) }
     ensures missing { IsErrOf result LineFault.Incomplete
         → (job : Job) → IsJob (subcommand_of program (map S.text words.entry.now)) job → ⊥ }

@@ -1,4 +1,4 @@
--- What a job that ended without an error has done, as far as its input and output show it.
+-- What a job that succeeded has done, as far as its input and output show it.
 use Rattle.std.specs.Prelude.{◌≡◌, ◌∷◌, ◌++◌, ℕ, List, [], Option, codes}
 use Rattle.std.specs.Io.KnownBytes.{Appends}
 use Rattle.command_line.specs.declared.job.Job.{Job}
@@ -7,20 +7,20 @@ use Rattle.user_client.specs.Subscriber.{SubscriberView, PrintsAccepted, new_lis
 use Rattle.jobs.specs.Failures.{CanPublish, CanSubscribe}
 use Rattle.jobs.specs.Transcripts.{PlaysScript}
 
--- the last that a writer took is the line `bye`
+-- the line `bye` is the last that a writer took
 abbrev pub SaysBye : {O : Type 0} → (O → Option (List ℕ)) → O → Type 0
 SaysBye {O} contents output =
     (before : O) × Appends (contents before) (contents output) (codes "bye" ++ 10 ∷ [])
 
--- a new client of this identifier accepted publications, and a line was printed for each of the
--- first, in order, as many as this count
+-- a new client of this identifier accepted publications, and the first `count` of them were
+-- printed, a line each, in order
 pub record PrintsAll (id : List ℕ) (count : ℕ) (old new : Option (List ℕ)) : Type 0 where
   pub end : SubscriberView
   pub printed : PrintsAccepted (new_listening id count) old end new
   pub all : end.left ≡ 0
 
--- The job is done: `input` is what was to be read before it, where that is known, and between these
--- two states of its output the job was printed.
+-- The job is done: `input` is what was left to read before it, where that is known, and between
+-- these two states of its output the job was printed.
 abbrev pub IsJobDone : {O : Type 0} → (O → Option (List ℕ)) → Job → Option (List ℕ) → O → O → Type 0
 IsJobDone contents (jobs.Serve job) input old new = SaysBye contents new
 IsJobDone contents (jobs.Publish job) input old new = CanPublish job

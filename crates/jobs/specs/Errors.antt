@@ -1,5 +1,4 @@
--- The exit status of a program that ends with an error, and how the errors of its parts become the
--- program's.
+-- The exit status for each error, and the program's error from those of its parts.
 use Rattle.std.specs.Prelude.{ℕ}
 use Rattle.clap.specs.Values.{kind_of}
 use Rattle.clap.specs.declared.error.kind.ErrorKind.{ErrorKind}
@@ -17,8 +16,8 @@ use Rattle.user_client.specs.declared.user_client_error.UserClientError.TheVaria
 use Rattle.jobs.specs.declared.job_error.JobError.{JobError}
 use Rattle.jobs.specs.declared.job_error.JobError.TheVariants as errors
 
--- 1 for file, network, memory, clock and threads, a session that was there and one that was lost.
--- 2 for the command line. 3 for a table, a script or another argument, and no way out
+-- 1 for file, network, memory, clock and threads, and for `session present` and `lost`. 2 for the
+-- command line. 3 for a table, a script or another argument, and for no recovery
 abbrev pub exit_status : JobError → ℕ
 exit_status errors.Memory = 1
 exit_status errors.Input = 1

@@ -36,7 +36,7 @@ asked_publication job = record {
 abbrev pub CanPublish : Publish → Type 0
 CanPublish job = IsPublishable job.id.now (asked_publication job)
 
--- the error is that of the first that is wrong, or memory ran out
+-- the error is that of the first fault, or memory ran out
 abbrev pub RefusesToPublish : Publish → JobError → Type 0
 RefusesToPublish job error = (cause : UserClientError)
     × RefusesPublisher job.id.now (asked_publication job) cause × (error ≡ error_of_client cause)
@@ -49,7 +49,7 @@ FailsToPublish job error = (CanPublish job → ⊥) → RefusesToPublish job err
 abbrev pub CanSubscribe : Subscribe → Type 0
 CanSubscribe job = (client_fault job.id.now ≡ None) × (filter_fault job.filter.now ≡ None)
 
--- the error is that of the first that is wrong, or memory ran out
+-- the error is that of the first fault, or memory ran out
 abbrev pub RefusesToSubscribe : Subscribe → JobError → Type 0
 RefusesToSubscribe job error = (cause : UserClientError)
     × RefusesListener job.id.now job.filter.now cause × (error ≡ error_of_client cause)
@@ -58,7 +58,7 @@ RefusesToSubscribe job error = (cause : UserClientError)
 abbrev pub FailsToSubscribe : Subscribe → JobError → Type 0
 FailsToSubscribe job error = (CanSubscribe job → ⊥) → RefusesToSubscribe job error
 
--- a job may fail with this error; `serve` and `play` are told files, which may have any text
+-- a job may fail with this error; `serve` and `play` are given files, whose texts may be anything
 abbrev pub FailsAt : Job → JobError → Type 0
 FailsAt (jobs.Serve job) error = Unit {0}
 FailsAt (jobs.Publish job) error = FailsToPublish job error

@@ -1,4 +1,4 @@
--- What a line orders, the word for what a node does, and how an order is refused.
+-- The meaning of a line of input as an order, the word for what a node does, and the refusals.
 use Rattle.std.specs.Prelude.{◌≡◌, ◌==◌, ℕ, ◌⊎◌, List, [], ◌∷◌, ◌++◌, Option, Some, None, option_map, codes, if◌then◌else◌, map, min}
 use Rattle.std.specs.List.{Contains}
 use Rattle.std.specs.Str.Parse.{digits_value}
@@ -37,7 +37,7 @@ IsWordRefused client fault =
 abbrev pub no_order : WordFault
 no_order = faults.Refused 24
 
--- the number of a word of digits alone, 255 in place of more; any other word has none
+-- the number of a word of digits; 255 for greater ones; none for any other word
 unfoldable pub named_node : Text → Option ℕ
 named_node word = if is_decimal word then Some (min (digits_value 10 word) 255) else None
 
@@ -49,7 +49,7 @@ AreNumbers word numbers = map named_node (parts_of word) ≡ map Some numbers
 abbrev pub LacksNumber : Text → Type 0
 LacksNumber word = (part : Text) × Contains (parts_of word) part × (named_node part ≡ None)
 
--- what has no meaning is no order; what has one is refused only because memory ran out
+-- what has no meaning is refused as no order; what has one, only because memory ran out
 abbrev pub IsNoOrder : Type 0 → WordFault → Type 0
 IsNoOrder Lacks fault = (fault ≡ no_order × Lacks) ⊎ (fault ≡ faults.Memory)
 
@@ -77,7 +77,7 @@ IsExpel line client = line ≡ codes "expel " ++ client
 abbrev pub IsNoExpel : Text → Type 0
 IsNoExpel line = (client : Text) → IsExpel line client → ⊥
 
--- what a line orders: to expel a client, whose identifier has no fault, or what its words are
+-- the order of a line: to expel a client, whose identifier has no fault, or what its words mean
 abbrev pub IsOrder : Text → Order → Type 0
 IsOrder line order =
     ((client : Text)

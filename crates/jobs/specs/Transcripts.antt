@@ -13,19 +13,19 @@ pub record Prints (text : List ℕ) (old new : Option (List ℕ)) (losses : ℕ)
   pub played : Plays text [] transcript losses
   pub written : Appends old new transcript
 
--- the lines of a way out were written
+-- the lines of a recovery were written
 pub record PrintsRecovery (text members : List ℕ) (client : List ℕ) (old new : Option (List ℕ))
     : Type 0 where
   pub way : List ℕ
   pub printed : TellsRecovery text members client [] way
   pub written : Appends old new way
 
--- the way out was written for the members and the client that the words name
+-- the recovery was written for the members and the client that the words name
 abbrev pub PrintsRecoveryOf : Escape → List ℕ → Option (List ℕ) → Option (List ℕ) → Type 0
 PrintsRecoveryOf job text old new = (members : List ℕ)
     × AreNumbers job.members.now members × PrintsRecovery text members job.client.now old new
 
--- the transcript was written, or the way out if the words ask for one
+-- the transcript was written, or the recovery if the words ask for one
 abbrev pub PrintsPlayed : Option Escape → List ℕ → Option (List ℕ) → Option (List ℕ) → Type 0
 PrintsPlayed None text old new = Prints text old new 0
 PrintsPlayed (Some job) text old new = PrintsRecoveryOf job text old new

@@ -1,4 +1,4 @@
-// Why the program ends with another status than 0.
+// Why the program fails.
 
 ghost use Rattle.std.specs.Prelude.{◌≡◌};
 ghost use Rattle.jobs.specs.Errors.{exit_status};
@@ -13,7 +13,7 @@ use std::io::ErrorKind;
 use thiserror::Error;
 use user_client::UserClientError;
 
-/// Why the program ends with another status than 0. Its text is for the user.
+/// Why the program ends with a status other than 0. Its text is for the user.
 #[derive(Debug, Drop, Error)]
 pub enum JobError {
     /// Memory ran out.
@@ -46,21 +46,21 @@ pub enum JobError {
     /// The file is no table of nodes.
     #[error("config")]
     Table,
-    /// A text is no script, by this line of it, counted from 1.
+    /// A text is no script: its first malformed line, counted from 1.
     #[error("{cause}", cause = PlayError::Line(*.0))]
     Script(u64),
     /// A script was played to its end and its transcript was written, but its world ran out of
     /// memory.
     #[error("{cause}: the transcript shows a world that lost something", cause = Memory)]
     Losses,
-    /// The world in which a script ends has no way out for the members and the client that were
+    /// The world in which a script ends has no recovery for the members and the client that were
     /// named.
     #[error("idle")]
     Idle,
     /// A client's identifier, topic, filter or message was refused.
     #[error("refused {0}")]
     Refused(u8),
-    /// The server had a session of the client's identifier before.
+    /// The server already had a session of the client's identifier.
     #[error("session present")]
     SessionPresent,
     /// All connections of a client were lost, or its session was.
@@ -69,9 +69,9 @@ pub enum JobError {
 }
 
 impl JobError {
-    /// Returns the exit status. It is 1 for an error of file, network, memory, clock or threads,
-    /// and for `session present` and `lost`. It is 2 for a command line that is refused. It is 3
-    /// for a refused table, script or argument, and if there is no way out.
+    /// Returns the exit status: 1 for an error of file, network, memory, clock or threads, and for
+    /// `session present` and `lost`; 2 for a refused command line; 3 for a refused table, script or
+    /// argument, and if there is no recovery.
     pub fn status(&self) -> u8
         ensures { result ≡ exit_status self.now }
     {

@@ -1,4 +1,11 @@
-// Doing a job.
+// Running a job.
+//
+// A job gets its input, output and standard error as parameters, so tests run it in memory. What
+// clauses say is about refused texts, what is printed on the output, and the exit status; no clause
+// says what is printed on standard error, or sent over a network. An error is one line on standard
+// error and one exit status, both of `JobError`; nothing below this crate prints or exits. Output
+// that cannot be written is an error of `play` and `sub`; `serve` goes on without it, but fails at
+// the end if it cannot write `bye`.
 
 ghost use Rattle.std.specs.Prelude.{◌≡◌, ◌≢◌, IfErr, OnOk};
 ghost use Rattle.jobs.specs.Done.{IsJobDone};
@@ -15,8 +22,8 @@ use std::sync::Wait;
 use std::thread::Threads;
 use std::time::Clock;
 
-/// Does a job over one reader and two writers, and returns the exit status. An error is printed in
-/// one line, which no clause says.
+/// Runs a job over one reader and two writers, and returns the exit status. Prints an error in one
+/// line, which no clause says.
 pub fn perform<R, I, O, E>(
     rt: &R,
     job: &Job<'_>,
@@ -40,7 +47,7 @@ where
     }
 }
 
-// Does a job over one reader and two writers.
+// Runs a job over one reader and two writers.
 fn do_job<R, I, O, E>(
     rt: &R,
     job: &Job<'_>,

@@ -1,4 +1,4 @@
-//! What the program does for each of its subcommands, over one reader and two writers.
+//! Runs the program's subcommands over one reader and two writers.
 #![tactic(auto)]
 
 mod job_error;

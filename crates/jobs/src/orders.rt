@@ -1,4 +1,4 @@
-// Orders to the nodes of a server: lines of its input.
+// Orders to the nodes of a server, as lines of its input.
 
 ghost use Rattle.std.specs.Prelude.{◌≡◌, None, IfErr, IfOk, OnOk};
 ghost use Rattle.packet_base.specs.ClientId.{client_fault};
@@ -21,23 +21,21 @@ use std::io::{BufRead, ErrorKind, Write};
 use std::sync::Wait;
 use std::time::Clock;
 
-// What a line orders.
+// The meaning of a line.
 #[derive(Drop)]
 enum Order {
-    // The server ends.
     Quit,
-    // The status of each node is printed.
+    // Prints the status of each node.
     Status,
-    // The next ballot is given to a configuration.
+    // Assigns the next ballot to a configuration.
     Assign(Config),
-    // A node crashes.
     Crash(u8),
-    // The session of a client ends.
+    // Ends a client's session.
     Expel(ClientId),
 }
 
-/// Obeys the lines of the input to its end or to `quit`, and answers each. The only error is an
-/// input that cannot be read.
+/// Carries out the orders of the input, and prints an answer for each, until `quit` or the end of
+/// the input. Fails only if the input cannot be read.
 pub(crate) fn obey<R, I, O>(
     rt: &R,
     cluster: &Cluster,
@@ -61,7 +59,7 @@ where
     unreachable!()
 }
 
-// Returns what the next line orders, or why it is refused. The end of the input orders to quit.
+// Returns the order of the next line, or why it is refused. The end of the input is `quit`.
 fn next_order<I: BufRead>(
     alloc: Global,
     input: &mut I,
@@ -73,7 +71,7 @@ fn next_order<I: BufRead>(
         Err(error) => match error.kind() {
             ErrorKind::InvalidData => Ok(Err(no_order())),
             ErrorKind::OutOfMemory => {
-                // The rest of the line is no order.
+                // Skip the rest of the line: it is no order.
                 input.skip_until(b'\n').ok().ok_or(JobError::Input)?;
                 Ok(Err(WordFault::Memory))
             }
@@ -82,7 +80,7 @@ fn next_order<I: BufRead>(
     }
 }
 
-// Returns what a line orders, or why it is refused.
+// Returns the order of a line, or why it is refused.
 fn order_of(alloc: Global, line: &str) -> Result<Order, WordFault>
     ensures order { IfOk result (IsOrder line.now) }
     ensures refused { IfErr result (RefusesLine line.now) }
@@ -96,7 +94,7 @@ fn order_of(alloc: Global, line: &str) -> Result<Order, WordFault>
     order_of_words(alloc, fields.as_slice())
 }
 
-// Returns what the words of a line order that expels no client, or why they are refused.
+// Returns the order of a line's words, `expel` apart, or why they are refused.
 fn order_of_words(alloc: Global, words: &[&str]) -> Result<Order, WordFault>
     ensures order { IfOk result (Orders (texts words.now)) }
     ensures refused { IfErr result (IsNoOrder (OrderNothing (texts words.now))) }
@@ -114,8 +112,7 @@ fn order_of_words(alloc: Global, words: &[&str]) -> Result<Order, WordFault>
     }
 }
 
-// Returns the order to end the session of the client with this identifier, or why the identifier is
-// refused.
+// Returns the order to expel the client, or why its identifier is refused.
 fn expel_of(alloc: Global, client: &str) -> Result<Order, WordFault>
     ensures order { IfOk result (λ order. order ≡ orders.Expel client.now) }
     ensures sound { OnOk result (client_fault client.now ≡ None) }
@@ -124,7 +121,7 @@ fn expel_of(alloc: Global, client: &str) -> Result<Order, WordFault>
     Ok(Order::Expel(client_of(alloc, client)?))
 }
 
-// Does an order and prints the result. Clients are served also if nothing can be printed.
+// Carries out an order and prints the result. Serving goes on even if nothing can be printed.
 fn answer<R, O>(rt: &R, cluster: &Cluster, nodes: &[ListeningNode], order: Order, output: &mut O)
 where
     R: Wait + Clock,
@@ -143,7 +140,7 @@ where
             Ok(true) => {
                 let _ = writeln!(output, "crashed {number}");
             }
-            // The node does not run.
+            // No such node runs.
             Ok(false) => print_refusal(output, Idle.number()),
             Err(error) => print_refusal(output, error.number()),
         },
@@ -151,7 +148,7 @@ where
     }
 }
 
-// Ends the session of a client, and prints that, or why not.
+// Ends a client's session, and prints that or the refusal.
 fn expel<R, O>(rt: &R, cluster: &Cluster, client: &ClientId, output: &mut O)
 where
     R: Wait + Clock,
@@ -166,7 +163,7 @@ where
     }
 }
 
-// Prints that an order is refused, with the number of the refusal.
+// Prints the refusal of an order, by its number.
 fn print_refusal<O: Write>(output: &mut O, number: u8) {
     let _ = writeln!(output, "refused {number}");
 }

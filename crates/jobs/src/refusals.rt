@@ -1,4 +1,4 @@
-// A command line that gives no job.
+// Command lines that give no job.
 
 ghost use Rattle.std.specs.Prelude.{◌≡◌};
 ghost use Rattle.clap.specs.Values.{kind_of};
@@ -12,7 +12,7 @@ use command_line::LineFault;
 use std::io::Write;
 
 /// Prints why a command line gives no job, and returns the exit status. Help and the version go to
-/// the output if they were asked for, everything else to `faults`. No clause says what is printed.
+/// `output` if they were asked for, all else to `faults`. No clause says what is printed.
 pub fn refuse<O: Write, E: Write>(fault: &LineFault, output: &mut O, faults: &mut E) -> u8
     ensures { result ≡ line_status fault.now }
 {
@@ -26,7 +26,7 @@ pub fn refuse<O: Write, E: Write>(fault: &LineFault, output: &mut O, faults: &mu
     }
 }
 
-// Prints what the words of the command line are answered by.
+// Prints the answer of `clap` to the words.
 fn print<O: Write, E: Write>(error: &Error, output: &mut O, faults: &mut E) {
     // There is nowhere else to print it.
     if error.use_stderr() {
@@ -37,7 +37,7 @@ fn print<O: Write, E: Write>(error: &Error, output: &mut O, faults: &mut E) {
     }
 }
 
-// Returns the exit status for this answer to the words.
+// Returns the exit status of this answer.
 fn status_of_words(kind: ErrorKind) -> u8
     ensures { result ≡ words_status kind }
 {

@@ -1,4 +1,4 @@
-// Scripts of nodes and clients, and their transcripts.
+// Playing scripts, and printing their transcripts.
 
 ghost use Rattle.std.specs.Prelude.{◌≡◌, ◌<◌, ℕ, IfOk, OnOk, IsErrOf};
 ghost use Rattle.script.specs.Scripts.{Refuses, lines_of};
@@ -19,8 +19,8 @@ use std::alloc::Global;
 use std::io::{BufRead, Write};
 use std::rt::Files;
 
-/// Plays the script of a file, or of the input if no file is named. Writes its transcript, or a way
-/// out of the world in which it ends.
+/// Plays the script of a file, or of the input if no file is named. Prints its transcript, or a
+/// recovery from the world in which it ends if the words ask for one.
 pub(crate) fn run<R, I, O>(
     rt: &R,
     job: &Play<'_>,
@@ -54,7 +54,7 @@ where
     }
 }
 
-// Plays a script, and writes a way out of the world in which it ends, for the members and the
+// Plays a script, and prints a recovery from the world in which it ends, for the members and the
 // client that the words name.
 fn print_recovery<O: Write>(
     alloc: Global,
@@ -80,7 +80,8 @@ fn print_recovery<O: Write>(
     escape_text(alloc, text, members.as_slice(), &client, output)
 }
 
-// Plays a script, and writes a way out of the world in which it ends, as lines that may follow it.
+// Plays a script, and writes a recovery from the world in which it ends, as lines that may follow
+// the script.
 fn escape_text<O: Write>(
     alloc: Global,
     text: &[u8],
@@ -96,7 +97,7 @@ fn escape_text<O: Write>(
     ensures untouched { IsErrOf result JobError.Idle
         → O.contents output.new ≡ O.contents output.old }
 
-    // A text that is no script is refused for its first line that does not have its form.
+    // A text that is no script is refused for its first malformed line.
     ensures refused { (number : ℕ) → IsErrOf result (JobError.Script number)
         → Refuses (lines_of text.now) (Line number) }
 {
@@ -116,8 +117,7 @@ pub fn play_text<O: Write>(alloc: Global, text: &[u8], output: &mut O) -> Result
     ensures out_of_memory { IsErrOf result JobError.Losses → (losses : ℕ) × ((0 < losses)
         × Prints text.now (O.contents output.old) (O.contents output.new) losses) }
 
-    // A text that is no script is refused for its first line that does not have its form; nothing
-    // of it is written.
+    // A text that is no script is refused for its first malformed line, and nothing is written.
     ensures refused { (number : ℕ) → IsErrOf result (JobError.Script number)
         → Refuses (lines_of text.now) (Line number) }
     ensures untouched { (number : ℕ) → IsErrOf result (JobError.Script number)

@@ -1,4 +1,4 @@
-// Nodes that serve clients over TCP.
+// Serving the nodes of a table over TCP.
 
 ghost use Rattle.std.specs.Prelude.{◌≡◌, IfErr, OnOk};
 ghost use Rattle.jobs.specs.Done.{SaysBye};
@@ -21,11 +21,10 @@ use std::time::Clock;
 use streams::{Listener, MAX_CONNECTIONS};
 
 /// How many files a node may have open at once: its listener, its connections, a refused one, and
-/// one by which its listener is closed. None of them is open yet when they are tried.
+/// one by which its listener is closed. None of them is open yet when this is tried.
 const FILES: usize = MAX_CONNECTIONS as usize + 3;
 
-/// Serves clients as a file's table of nodes says, if as many files can be open at once as its
-/// nodes need.
+/// Serves the nodes of a file's table, if as many files can be open at once as they need.
 pub(crate) fn run<R, I, O, E>(
     rt: &R,
     job: &Serve<'_>,
@@ -50,7 +49,7 @@ where
     serve_nodes(rt, &table, input, output, faults)
 }
 
-// Checks whether this many files can be open at once.
+// Fails if fewer than `count` more files can be open at once.
 fn find_files<R: Files + AllocGlobal>(rt: &R, count: usize) -> Result<(), JobError> {
     let mut files = Vec::with_capacity(rt.alloc(), count)?;
     for _ in 0..count {
@@ -62,11 +61,10 @@ fn find_files<R: Files + AllocGlobal>(rt: &R, count: usize) -> Result<(), JobErr
     Ok(())
 }
 
-/// Serves clients as a table of nodes says, and obeys the lines of the input, until its end or the
-/// line `quit`. Prints on `faults`, which is standard error, where each node listens, and which
-/// listeners other machines may reach. An input that cannot be read ends it with that error. No
-/// clause says any of this: the clauses are about texts that are refused, and about `bye` at the
-/// end.
+/// Serves the nodes of a table, and carries out the orders of the input until its end or the line
+/// `quit`. Prints on `faults`, which is standard error, where each node listens, and which
+/// listeners other machines may reach. Fails if the input cannot be read. No clause says any of
+/// this: the clauses are about refused texts, and about `bye` at the end.
 pub fn serve_table<R, I, O, E>(
     rt: &R,
     text: &str,
@@ -91,7 +89,6 @@ where
     serve_nodes(rt, &table(rt.alloc(), text)?, input, output, faults)
 }
 
-// Serves clients as a table of nodes says.
 fn serve_nodes<R, I, O, E>(
     rt: &R,
     table: &NodeTable,
@@ -119,7 +116,7 @@ where
     write(b"bye\n", output)
 }
 
-// Listens where each node has to listen, and then prints it.
+// Opens the listener of each node, and then prints where all listen.
 fn listen_all<R, E>(
     rt: &R,
     nodes: &[ListeningNode],
@@ -139,7 +136,7 @@ where
     Ok(listeners)
 }
 
-// Opens the listener of a node; an error names its address.
+// Opens the listener of a node. The error has its address.
 fn listen<R>(rt: &R, node: &ListeningNode) -> Result<TcpListener, JobError>
 where
     R: AllocGlobal + Net<Listener = TcpListener, Stream = TcpStream>,
@@ -154,7 +151,7 @@ where
     }
 }
 
-// Prints where a node listens, and whether other machines may reach it. Clients are served also if
+// Prints where a node listens, and whether other machines may reach it. Serving goes on even if
 // nothing can be printed.
 fn print_address<E: Write>(listener: &Listener, id: u8, faults: &mut E) {
     if let Ok(address) = listener.address() {

@@ -1,4 +1,4 @@
-// The two clients, over TCP.
+// The two clients over TCP.
 
 ghost use Rattle.std.specs.Prelude.{◌≡◌, IfErr, OnOk};
 ghost use Rattle.jobs.specs.Done.{PrintsAll};
@@ -12,17 +12,17 @@ use std::thread;
 use std::time::{Clock, Duration};
 use user_client::{Publisher, Servers, Subscriber};
 
-/// How long a client waits after a connection that was lost, in milliseconds.
+/// How long a client waits after a lost connection, in milliseconds.
 const PAUSE_MILLIS: u64 = 200;
 
-// Servers at these addresses, one after another.
+// The servers at these addresses, tried in turn.
 #[derive(Drop)]
 struct TcpServers<'a, R> {
     // Connects to them, and sleeps.
     rt: &'a R,
     // In the order in which they are tried.
     addresses: &'a [&'a str],
-    // The index of the address that is tried next; 0 after the last.
+    // The index of the address to try next; 0 after the last.
     next: usize,
 }
 
@@ -49,8 +49,8 @@ impl<'a, R: Net<Stream = TcpStream> + Clock> Servers for TcpServers<'a, R> {
     }
 }
 
-/// Publishes once, and waits until it is acknowledged. The addresses are tried one after another.
-/// The clauses are about the words of the job alone: none says that anything is sent.
+/// Publishes once, and waits until that is acknowledged. Tries the addresses in turn. The clauses
+/// are about the words of the job alone: none says that anything is sent.
 pub fn publish<R>(rt: &R, job: &Publish<'_>) -> Result<(), JobError>
 where
     R: Clock + AllocGlobal + Net<Stream = TcpStream>,
@@ -73,8 +73,8 @@ where
     Ok(publisher.run(&mut servers, job.tries)?)
 }
 
-/// Prints what is published, a line each, until as many came as were asked for. The addresses are
-/// tried one after another. No clause says that a server sent it.
+/// Prints publications, a line each, until as many were printed as the job's `count`. Tries the
+/// addresses in turn. No clause says that a server sent them.
 pub fn subscribe<R, O>(rt: &R, job: &Subscribe<'_>, output: &mut O) -> Result<(), JobError>
 where
     R: Clock + AllocGlobal + Net<Stream = TcpStream>,

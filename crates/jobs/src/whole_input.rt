@@ -1,4 +1,4 @@
-// Whole texts, from files and from the input.
+// Reading whole texts, from files and from the input.
 
 ghost use Rattle.std.specs.Prelude.{◌≡◌, IfOk, IfSome};
 

@@ -1,4 +1,4 @@
-// Whole texts, to the output.
+// Writing whole texts to the output.
 
 ghost use Rattle.std.specs.Prelude.{OnErr, OnOk, IsErrOf};
 ghost use Rattle.std.specs.Io.KnownBytes.{Appends};

@@ -9,7 +9,7 @@ use topics::MalformedKind;
 /// Why a word of an order, or of the command line, is refused.
 #[derive(Clone, Copy)]
 pub(crate) enum WordFault {
-    /// It does not say what it should. This is the number of the refusal.
+    /// It is refused, with this number.
     Refused(u8),
     /// Memory ran out.
     Memory,

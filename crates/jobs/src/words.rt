@@ -1,4 +1,4 @@
-// Words of orders, and of the command line: numbers of nodes and identifiers of clients.
+// The words of orders and of the command line: numbers of nodes and identifiers of clients.
 
 ghost use Rattle.std.specs.Prelude.{◌≡◌, Some, None, IfErr, IfOk, OnOk};
 ghost use Rattle.packet_base.specs.ClientId.{client_fault};
@@ -21,7 +21,8 @@ pub(crate) fn no_order() -> WordFault
     WordFault::Refused(Idle.number())
 }
 
-/// Returns the number of a word of digits alone, or 255, which no node has, in place of more.
+/// Returns the number of a word of digits, or 255, which no node has, for greater ones. Any other
+/// word is no order.
 pub(crate) fn named_node(word: &str) -> Result<u8, WordFault>
     ensures number { IfOk result (λ number. named_node word.now ≡ Some number) }
     ensures refused { IfErr result (IsNoOrder (named_node word.now ≡ None)) }
@@ -39,14 +40,13 @@ fn is_decimal(word: &str) -> bool
     !word.is_empty() && are_digits(word.as_bytes())
 }
 
-// Returns true if each byte is a decimal digit.
 fn are_digits(bytes: &[u8]) -> bool
     ensures { result ≡ list_all is_ascii_digit bytes.now }
 {
     bytes.iter().all(|byte| byte.is_ascii_digit())
 }
 
-/// Returns the numbers of a word, with commas between them, or why it is refused.
+/// Returns the numbers between the commas of a word, or why it is refused.
 pub(crate) fn members_of(alloc: Global, word: &str) -> Result<Members, WordFault>
     ensures members { IfOk result (AreNumbers word.now) }
     ensures refused { IfErr result (IsNoOrder (LacksNumber word.now)) }

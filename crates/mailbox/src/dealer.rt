@@ -11,18 +11,18 @@ use std::alloc::{AllocError, Global};
 use std::marker::{Model, PhantomData};
 use std::sync::Arc;
 
-/// A receiver that makes the lanes of its inbox.
+/// The receiver of an inbox whose lanes are still being made.
 #[derive(Drop)]
 pub(crate) struct Dealer<T: Drop, J: Naming> {
-    /// What waits in the inbox. All its ends share this.
+    /// The items that wait, shared by all ends.
     pub(crate) queue: Arc<Queue<T>, Global>,
     /// Knows how many lanes were made.
     pub(crate) pass: Knowledge<T>,
     /// The number of the inbox.
     pub(crate) inbox: u8,
-    /// How many items of each lane that it has made were taken: none.
+    /// How many items of each lane were taken, one entry for each lane made so far: all 0.
     pub(crate) counts: Vec<u64>,
-    /// Which inbox the number means. The caller chooses it.
+    /// Which inbox the number names; the caller chooses it.
     pub(crate) naming: PhantomData<J>,
 }
 
@@ -48,8 +48,7 @@ impl<T: Drop, J: Naming> Model for Dealer<T, J> {
 }
 
 impl<T: Drop, J: Naming> Dealer<T, J> {
-    /// Makes the lane of the next number, which has sent nothing. The only error is that memory ran
-    /// out.
+    /// Makes the next lane, on which nothing was sent. The only error is that memory ran out.
     pub(crate) fn deal(&mut self) -> Result<Lane<T, J>, AllocError>
         requires few { self.old.lanes < MAX_LANES }
         ensures lane { IfOk result (λ lane.

@@ -1,4 +1,14 @@
-// An inbox before it has lanes, and how it gets them.
+// An inbox before it has lanes.
+//
+// All ends share one bounded queue of `MAX_ITEMS` slots. Its invariant is `DeliveryRule`: for each
+// lane, the items taken followed by the items held are what the lane sent, in order. There is no
+// lock. `send` hands the item back if the queue is full and `take` returns none if it is empty, and
+// the caller decides who takes then. A lane sends at most `MAX_SENT` items, so the items of all 64
+// lanes stay below 2^64 and no count overflows.
+//
+// An inbox is made in two calls. `named` is generic in the type that gives the numbers of all
+// inboxes of a run their meaning, and that type is chosen once each of these inboxes exists. So
+// equal numbers prove that a lane and a receiver belong together, even if they were under locks.
 
 ghost use Rattle.std.specs.Prelude.{◌≡◌, ◌<◌, ◌≤◌, [], IfOk};
 ghost use Rattle.mailbox.specs.Ends.{fresh_lanes, max_items};
@@ -13,15 +23,14 @@ use std::alloc::{AllocError, Global};
 use std::marker::{Model, PhantomData};
 use std::sync::Arc;
 
-/// An empty inbox that has no number and no lanes yet. In contracts it is its identity, which no
+/// An empty inbox without a number and without lanes. In contracts it is its identity, which no
 /// other inbox has.
 #[derive(Drop)]
 pub struct Inbox<T: Drop> {
-    // What waits in the inbox, with capacity for [`MAX_ITEMS`]. It is empty.
+    // Holds up to [`MAX_ITEMS`] items; now empty.
     queue: Arc<Queue<T>, Global>,
     // Knows that there are no lanes yet.
     pass: Knowledge<T>,
-    // The allocator of lanes.
     alloc: Global,
 }
 
@@ -45,7 +54,8 @@ impl<T: Drop> Model for Inbox<T> {
 }
 
 impl<T: Drop> Inbox<T> {
-    /// Returns an empty inbox with capacity for [`MAX_ITEMS`] items.
+    /// Returns an empty inbox with capacity for [`MAX_ITEMS`] items. The only error is that memory
+    /// ran out.
     pub fn new(alloc: Global) -> Result<Self, AllocError>
         ensures { IfOk result (λ inbox. inbox.slots ≡ max_items) }
     {
@@ -54,8 +64,8 @@ impl<T: Drop> Inbox<T> {
         Ok(Inbox { queue, pass, alloc })
     }
 
-    /// Returns the receiver and the lanes of this inbox, which is the one of this number in the
-    /// run.
+    /// Names the inbox by its number, and makes `lanes` lanes, 1 to [`MAX_LANES`]. Returns its
+    /// receiver and the lanes, in order. The only error is that memory ran out.
     pub fn named<J: Naming>(
         self,
         number: u8,

@@ -1,4 +1,4 @@
-// One sender's end of an inbox.
+// The sending end of an inbox.
 
 ghost use Rattle.std.specs.Prelude.{◌≡◌, ◌⊎◌, ◌-◌, ◌++◌, ◌∷◌, [], length, OnOk, OnErr, IfErr};
 ghost use Rattle.mailbox.specs.Ends.{LaneView, WasFull, IsFullByReceipt, IsSpent};
@@ -11,15 +11,15 @@ use std::alloc::Global;
 use std::marker::{Model, PhantomData};
 use std::sync::{Arc, Wait};
 
-/// How many items a lane may send.
+/// How many items a lane may send in its life.
 pub const MAX_SENT: u64 = 1 << 55;
 
-/// The right to send through one lane of an inbox. It has one holder, and knows what it sent.
+/// The right to send through one lane of an inbox. Nobody else holds this lane.
 #[derive(Drop)]
 pub struct Lane<T: Drop, J: Naming> {
-    /// What waits in the inbox. All its ends share this.
+    /// The items that wait, shared by all ends.
     pub(crate) queue: Arc<Queue<T>, Global>,
-    /// Knows what the lane sent, and how many items of it were taken at least.
+    /// Knows what the lane sent, and a lower bound of how many of these items were taken.
     pub(crate) pass: Knowledge<T>,
     /// The number of the inbox.
     pub(crate) inbox: u8,
@@ -27,7 +27,7 @@ pub struct Lane<T: Drop, J: Naming> {
     pub(crate) lane: u8,
     /// How many items it sent, at most [`MAX_SENT`].
     pub(crate) count: u64,
-    /// Which inbox the number means. The caller chooses it.
+    /// Which inbox the number names; the caller chooses it.
     pub(crate) naming: PhantomData<J>,
 }
 
@@ -57,7 +57,7 @@ impl<T: Drop, J: Naming> Model for Lane<T, J> {
 }
 
 impl<T: Drop, J: Naming> Lane<T, J> {
-    /// Returns the number of the inbox that this lane leads to.
+    /// Returns the number of its inbox.
     pub fn inbox_number(&self) -> u8
         ensures { result ≡ self.now.inbox }
     {
@@ -78,7 +78,7 @@ impl<T: Drop, J: Naming> Lane<T, J> {
         self.count
     }
 
-    /// Returns a receipt of what the lane has sent so far.
+    /// Returns a receipt of how many items the lane has sent so far.
     pub fn receipt(&mut self) -> Receipt<T, J>
         ensures says { result ≡ record {
           inbox = self.old.inbox;
@@ -93,9 +93,9 @@ impl<T: Drop, J: Naming> Lane<T, J> {
         }
     }
 
-    /// Ends the lane, which then sends no more. Returns the given receipt with what is known now:
-    /// how many items this lane sent, and how many all lanes together will ever send at most. That
-    /// limit is lower by as many as this lane could still have sent.
+    /// Ends the lane: nothing more can be sent by it. Returns the receipt with two facts added: how
+    /// many items this lane sent, and a bound on what all lanes will ever send, which is lower by
+    /// what this lane could still have sent.
     pub fn end(self, receipt: Receipt<T, J>) -> Receipt<T, J>
         requires { receipt.inbox ≡ self.inbox }
         ensures { result ≡ record receipt {
@@ -122,15 +122,14 @@ impl<T: Drop, J: Naming> Lane<T, J> {
         }
     }
 
-    /// Sends an item. It comes back only if the inbox was full at some moment of the call, or if
-    /// the lane has sent [`MAX_SENT`] items. If the receipt says that there is room, it does not
-    /// come back.
+    /// Sends an item. Hands it back only if the inbox was full at some moment of the call, or if
+    /// the lane has sent [`MAX_SENT`] items; never if the receipt shows that there is room.
     pub fn send<R: Wait>(&mut self, rt: &R, item: T, receipt: Receipt<T, J>) -> Result<(), T>
         requires { receipt.inbox ≡ self.old.inbox }
         ensures sent { OnOk result
             (self.new ≡ record self.old { sent = self.old.sent ++ item ∷ [] }) }
 
-        // What comes back is the item, and then nothing was sent.
+        // The item that comes back is this one, and then nothing was sent.
         ensures full { OnErr result (WasFull self.old receipt ⊎ IsSpent self.old) }
         ensures room { OnErr result (IsFullByReceipt self.old receipt ⊎ IsSpent self.old) }
         ensures back { IfErr result (λ back. back ≡ item) }

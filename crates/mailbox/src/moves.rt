@@ -1,12 +1,12 @@
-// The rule of an inbox's queue, and what each use of a pass does to what is known. Two of these are
-// atomic steps that change what the inbox holds: `Sends`, a push by a lane, and `Takes`, a pop by
-// the receiver. The others only pass on what is known.
+// The rule of an inbox's queue, and the operations on passes, which are what each end knows of it.
+// Two are atomic steps that change what the inbox holds: `Sends`, a push by a lane, and `Takes`, a
+// pop by the receiver. The others only move knowledge.
 
 use crate::view::View;
 use crossbeam_queue::protocol::{Join, Lesson, Outcome, Protocol, Split};
 use crossbeam_queue::{Pass, RuledArrayQueue};
 
-/// What an inbox holds is what its lanes sent and its receiver did not take yet.
+/// The invariant of the queue: it holds what its lanes sent and its receiver has not taken.
 pub struct DeliveryRule;
 
 impl<T> Protocol<(u8, T), View<T>> for DeliveryRule {
@@ -21,7 +21,7 @@ impl<T> Protocol<(u8, T), View<T>> for DeliveryRule {
 /// The queue of an inbox, under its rule.
 pub type Queue<T> = RuledArrayQueue<(u8, T), View<T>, DeliveryRule>;
 
-/// What a pass of that queue knows.
+/// A pass of that queue: what one end of the inbox knows.
 pub type Knowledge<T> = Pass<(u8, T), View<T>>;
 
 /// The push by which a lane sends an item.
@@ -76,7 +76,7 @@ impl<T> Split<View<T>> for Seals {
     ghost right = { λ known. nobody };
 }
 
-/// A lane gives all that it knows to a pass that the receiver takes.
+/// A lane lends all that it knows to a pass that the receiver absorbs.
 pub struct Lends;
 
 impl<T> Split<View<T>> for Lends {
@@ -87,7 +87,7 @@ impl<T> Split<View<T>> for Lends {
     ghost right = { λ known. known };
 }
 
-/// A lane says what it has sent, by a pass of its own.
+/// A lane issues a receipt of what it has sent.
 pub struct LaneKnows;
 
 impl<T> Split<View<T>> for LaneKnows {
@@ -98,7 +98,7 @@ impl<T> Split<View<T>> for LaneKnows {
     ghost right = { lane_knows };
 }
 
-/// The receiver says what it has taken, by a pass of its own.
+/// The receiver issues a receipt of what it has taken.
 pub struct ReceiverKnows;
 
 impl<T> Split<View<T>> for ReceiverKnows {
@@ -109,7 +109,7 @@ impl<T> Split<View<T>> for ReceiverKnows {
     ghost right = { receiver_knows };
 }
 
-/// A lane sends no more, and says that.
+/// A lane ends, and issues a receipt of that.
 pub struct Ends;
 
 impl<T> Split<View<T>> for Ends {
@@ -120,7 +120,7 @@ impl<T> Split<View<T>> for Ends {
     ghost right = { ended };
 }
 
-/// What a receipt says is added.
+/// A pass learns what a receipt says.
 pub struct Hears;
 
 impl<T> Join<View<T>> for Hears {
@@ -131,7 +131,7 @@ impl<T> Join<View<T>> for Hears {
     ghost spent = { nobody };
 }
 
-/// The receiver adds what a lane knows, compares, and gives it back.
+/// The receiver absorbs what a lane knows, compares, and gives it back.
 pub struct Meets;
 
 impl<T> Join<View<T>> for Meets {

@@ -1,10 +1,10 @@
-// Which inbox a number means.
+// Which inbox a number names.
 
 use std::marker::Brand;
 
-/// Which inbox each number means. This is chosen before the first inbox of a run is named. In a
-/// function that is generic in a `Naming`, equal numbers show that a lane and a receiver belong to
-/// one inbox, even if these were under a lock. The caller of the function passes [`Brand`], and
+/// Which inbox each number names. This is chosen before the first inbox of a run is named. In a
+/// function that is generic in a `Naming`, equal numbers prove that a lane and a receiver belong to
+/// one inbox, even if they were under a lock. The caller of the function passes [`Brand`], and
 /// chooses the inboxes that it made.
 pub trait Naming {
     ghost use Rattle.std.specs.Prelude.{ℕ};

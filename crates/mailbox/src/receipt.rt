@@ -1,19 +1,19 @@
-// What the ends of an inbox say to each other.
+// Facts about an inbox that one end passes to another.
 
 use crate::moves::Knowledge;
 use crate::naming::Naming;
 use std::marker::{Model, PhantomData};
 
-/// Says how many items a lane has sent at least, how many of all lanes were taken at least, and how
-/// many these will ever send at most. Only contracts know what it says, and no field keeps it. So
-/// the code that gets one has to look at the inbox itself.
+/// Bounds on an inbox: a lower bound of what one lane has sent, a lower bound of what was taken of
+/// all lanes, and an upper bound of what all lanes will ever send. They exist in contracts alone:
+/// no field keeps them, so code that gets a receipt has to look at the inbox itself.
 #[derive(Drop)]
 pub struct Receipt<T: Drop, J: Naming> {
-    /// Knows what the receipt says.
+    /// Knows the bounds.
     pub(crate) pass: Knowledge<T>,
     /// The number of the inbox.
     pub(crate) inbox: u8,
-    /// Which inbox the number means. The caller chooses it.
+    /// Which inbox the number names; the caller chooses it.
     pub(crate) naming: PhantomData<J>,
 }
 

@@ -15,10 +15,10 @@ use std::alloc::Global;
 use std::marker::{Model, PhantomData};
 use std::sync::{Arc, Wait};
 
-/// The right to take what the lanes of an inbox send. It has one holder, and knows what it took.
+/// The right to take what the lanes of an inbox send. Nobody else holds it.
 #[derive(Drop)]
 pub struct Receiver<T: Drop, J: Naming> {
-    /// What waits in the inbox. All its ends share this.
+    /// The items that wait, shared by all ends.
     pub(crate) queue: Arc<Queue<T>, Global>,
     /// Knows what was taken.
     pub(crate) pass: Knowledge<T>,
@@ -26,7 +26,7 @@ pub struct Receiver<T: Drop, J: Naming> {
     pub(crate) inbox: u8,
     /// How many items of each lane were taken. The rule of the inbox keeps each below 2^55.
     pub(crate) counts: Vec<u64>,
-    /// Which inbox the number means. The caller chooses it.
+    /// Which inbox the number names; the caller chooses it.
     pub(crate) naming: PhantomData<J>,
 }
 
@@ -55,7 +55,7 @@ impl<T: Drop, J: Naming> Model for Receiver<T, J> {
 }
 
 impl<T: Drop, J: Naming> Receiver<T, J> {
-    /// Returns the number of the inbox that this receiver takes from.
+    /// Returns the number of its inbox.
     pub fn inbox_number(&self) -> u8
         ensures { result ≡ self.now.inbox }
     {
@@ -84,16 +84,17 @@ impl<T: Drop, J: Naming> Receiver<T, J> {
         true
     }
 
-    /// Takes the item that came first, with the number of its lane. There is none only if the inbox
-    /// was empty at some moment of the call. Then every item that was sent, as far as the receipt
-    /// says, was taken before.
+    /// Takes the oldest item, with the number of its lane. Returns none only if the inbox was empty
+    /// at some moment of the call; then every item that the receipt knows to be sent was taken
+    /// before.
     pub fn take<R: Wait>(&mut self, rt: &R, receipt: Receipt<T, J>) -> Option<(u8, T)>
         requires { receipt.inbox ≡ self.old.inbox }
         ensures taken { IfSome result (λ item.
             self.new ≡ record self.old { taken = self.old.taken ++ item ∷ [] }) }
         ensures lane { IfSome result (λ item. item.0 < self.old.lanes) }
 
-        // If nothing came, the inbox was empty: everything that the receipt knows about was taken.
+        // If nothing came, the inbox was empty: every item that the receipt knows to be sent was
+        // taken.
         ensures empty { IfNone result (WasEmpty self.old receipt) }
         ensures arrived { IfNone result (HasArrived receipt self.old.taken) }
         ensures same { IfNone result (self.new ≡ self.old) }
@@ -123,12 +124,12 @@ impl<T: Drop, J: Naming> Receiver<T, J> {
         }
     }
 
-    /// Returns how many items of a lane of this inbox were taken. The lane then knows it too.
+    /// Returns how many items of a lane of this inbox were taken. The lane learns it, too.
     pub fn meet(&mut self, lane: &mut Lane<T, J>) -> u64
         requires { lane.old.inbox ≡ self.old.inbox }
         ensures exact { result ≡ length (items_of_lane lane.old.lane self.old.taken) }
 
-        // The items that were taken are the first that the lane sent, and no fewer than it knew.
+        // These are the first items that the lane sent, and no fewer than it knew.
         ensures first { items_of_lane lane.old.lane self.old.taken ≡ take result lane.old.sent }
         ensures known { lane.old.met ≤ result }
 
@@ -143,9 +144,9 @@ impl<T: Drop, J: Naming> Receiver<T, J> {
         self.counts[usize::from(lane.lane)]
     }
 
-    /// Takes all that is left, once the lanes send no more: `counts` gets how many items of each
-    /// lane were taken before, and `left` those that are left over, in order. Takes no memory: both
-    /// have their capacity beforehand.
+    /// Takes all that is left, once the lanes send no more. `counts` gets how many items of each
+    /// lane were taken before, `left` the items taken now, in order. Allocates nothing: the
+    /// capacity of both is reserved beforehand.
     pub fn take_rest<R: Wait>(
         &mut self,
         rt: &R,
@@ -158,7 +159,8 @@ impl<T: Drop, J: Naming> Receiver<T, J> {
         requires empty { left.old.items ≡ [] }
         requires room { MAX_ITEMS ≤ vec_capacity left.old }
 
-        // Those counted and those left over are, lane by lane and in order, all that was sent.
+        // Lane by lane, the items counted followed by those left over are all that was sent, in
+        // order.
         ensures whole { All (ArrivesWhole counts.new left.new.items) lanes.new }
         ensures counted { EachIndex counts.new (λ lane.
             slice_index counts.new lane ≡ length (items_of_lane lane self.old.taken)) }
@@ -180,7 +182,7 @@ impl<T: Drop, J: Naming> Receiver<T, J> {
         unreachable!()
     }
 
-    // Takes what is there, as far as there is capacity for it.
+    // Takes items while there are any and `left` has capacity.
     fn drain<R: Wait>(&mut self, rt: &R, left: &mut Vec<(u8, T)>)
         ensures { TakesMore self.old self.new left.old.items left.new.items }
     {

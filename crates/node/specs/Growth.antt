@@ -1,5 +1,4 @@
--- How much the items that a node takes add to its log, and when the log is to be cut because of its
--- size.
+-- How much the items that a node takes add to its log, and when its size makes a cut due.
 use Rattle.std.specs.Prelude.{ℕ, ◌+◌, ◌*◌, ◌-◌, ◌^◌, Bool, ◌&&◌, not, nat_lt, max, min, List, length, fold, sum_by}
 use Rattle.packet.specs.declared.packet.Packet.{Packet}
 use Rattle.packet.specs.declared.packet.Packet.TheVariants as packets
@@ -49,23 +48,23 @@ grown bytes item = bytes + bytes_of_item item
 abbrev pub bytes_since_cut : List (ℕ × Item) → ℕ
 bytes_since_cut taken = fold (λ bytes (one : ℕ × Item). grown bytes one.1) 0 taken
 
--- there are commands that a cut drops
+-- there are commands that a cut would drop
 abbrev pub can_drop : CoreState → Bool
 can_drop core =
     not core.replica.state.stopped
     && nat_lt core.replica.state.log.base core.replica.state.committed
 
--- how many bytes a command to drop counts, in addition to those that were taken
+-- how many bytes each command that a cut would drop counts, beside its text
 abbrev pub command_bytes : ℕ
 command_bytes = COMMAND_BYTES
 
--- up to this size a log is not cut because of it: 16 MiB
+-- up to this size no cut is due: 16 MiB
 abbrev pub max_uncut_bytes : ℕ
 max_uncut_bytes = MAX_UNCUT_BYTES
 
--- Whether the log of a node that took these items is to be cut because of its size. It is if there
--- are commands to drop, and what was taken since the last cut counts more than 16 MiB and more than
--- the snapshot has bytes. Each command to drop counts that many more.
+-- True if the size of a node's log makes a cut due: there are commands to drop, and what was taken
+-- since the last cut, with `command_bytes` more for each command to drop, exceeds both 16 MiB and
+-- the snapshot.
 abbrev pub wants_cut : List (ℕ × Item) → CoreState → Bool
 wants_cut taken core =
     can_drop core

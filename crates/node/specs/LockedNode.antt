@@ -1,4 +1,4 @@
--- A node that runs under a lock, its turns, and its end.
+-- A node under a lock: its takings and its end.
 use Rattle.std.specs.Prelude.{◌≡◌, ℕ, ◌<◌, List, Option, Bool, length, slice_index, slice_index_or, All, EachIndex, IfSome}
 use Rattle.mailbox.specs.Delivery.{items_of_lane}
 use Rattle.mailbox.specs.Ends.{LaneView}
@@ -15,25 +15,25 @@ pub record NodeView : Type 0 where
   pub lanes : ℕ
   pub is_gated : Bool
 
--- a permit to take this many items; with a gate, the number of the taking, and whether the gate
--- opened for it
+-- a permit to take up to this many items; with a gate, the number of the taking, and whether the
+-- gate opened for it
 pub record Permit : Type 0 where
   pub taking : Option ℕ
   pub most : ℕ
   pub is_open : Bool
 
--- the taking that a gate was asked for is the next of a node
+-- the taking that a gate was asked for is the node's next
 abbrev pub IsNext : Permit → NodeStateView → Type 0
 IsNext permit seen = IfSome permit.taking (λ taking. taking ≡ next_taking seen.takings)
 
--- a gate was asked for the taking of this number of the node of this number, and answered this
+-- a gate was asked whether this node may do this taking, and answered this
 pub record WasAsked {G : Type 0}
     (answers : G → ℕ → ℕ → Bool → Type 0) (node taking : ℕ) (answer : Bool)
     : Type 0 where
   pub gate : G
   pub answered : answers gate node taking answer
 
--- a gate was informed that the node of this number has done its taking of this number
+-- a gate was told that this node has done this taking
 pub record WasInformed {G : Type 0} (hears : G → ℕ → ℕ → Type 0) (node taking : ℕ) : Type 0 where
   pub gate : G
   pub heard : hears gate node taking
@@ -46,9 +46,9 @@ pub record AreItsLanes (node : NodeView) (lanes : List (LaneView Item)) : Type 0
   pub placed : (index : ℕ) (other : LaneView Item) → index < length lanes →
       (slice_index_or lanes index other).lane ≡ index
 
--- The report is of a node that was the replay of what it took, from this first state on. What it
--- took from each lane followed by what is left over is, in order, all that the lane sent. The
--- report says how many items of each lane it took, and where the node's log begins.
+-- The report is of a node that was the replay of what it took, from this first state on. Lane by
+-- lane, what it took followed by what is left over is all that was sent, in order. The report has
+-- the count of items taken of each lane, and the base of the node's log.
 pub record ReportsOn (first : CountedCore) (lanes : List (LaneView Item)) (report : Report)
     : Type 0 where
   pub taken : List (ℕ × Item)

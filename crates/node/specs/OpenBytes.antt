@@ -1,31 +1,31 @@
--- How a node's count of bytes that are not known to be agreed changes, while its log only grows.
+-- How the count of bytes that are not known to be agreed changes while a node's log only grows.
 use Rattle.std.specs.Prelude.{ℕ, ◌+◌, ◌≤◌, nat_lt, min, if◌then◌else◌, List, [], ◌∷◌, Option, Some, None}
 use Rattle.world_base.specs.declared.node_core.Status.{Status}
 use Rattle.node.specs.Intake.{IntakeView, status_shown, took}
 
--- bytes that a node took, and how many places its log had once it had taken them
+-- bytes that a node took, and how long its log was then
 pub record Taken : Type 0 where
   pub bytes : ℕ
   pub places : ℕ
 
--- how many of these bytes may be in places after the first `places`
+-- how many of these bytes may be in places from `places` on
 abbrev pub bytes_behind : ℕ → List Taken → ℕ
 bytes_behind places [] = 0
 bytes_behind places (taken ∷ others) =
     (if nat_lt places taken.places then taken.bytes else 0) + bytes_behind places others
 
--- how many places a log has, and how many of them are agreed; none before a node is served
+-- how many places the log has; 0 before the node is served
 abbrev pub held_of : Option Status → ℕ
 held_of None = 0
 held_of (Some status) = status.held
 
--- how many commands a node knows to be committed: 0 if it shows no status
+-- how many commands are committed; 0 before the node is served
 abbrev pub committed_of : Option Status → ℕ
 committed_of None = 0
 committed_of (Some status) = status.committed
 
--- A node took these bytes, the newest first, and then its count is this one. Each time it shows its
--- status its log has no fewer places, and no fewer of them are agreed.
+-- The intake of a node that took these bytes, newest first. Between two statuses neither the length
+-- of the log nor the agreed part falls.
 pub data Counts : List Taken → IntakeView → Type 0 where
   -- nothing was taken yet
   begins : Counts []

@@ -4,8 +4,8 @@ use Rattle.world_base.specs.declared.node_core.Standing.{Standing}
 use Rattle.world_base.specs.declared.node_core.Standing.TheVariants.{Awaits, Proposed, Closed}
 use Rattle.node.specs.declared.overdue.TheConstants.{FIRST_PACKET_MILLIS}
 
--- the first packet of a connection is awaited, more than ten seconds after it was accepted; times
--- count milliseconds
+-- the connection's first packet is not whole more than ten seconds after it was accepted; times are
+-- milliseconds
 abbrev pub is_overdue : Standing → ℕ → ℕ → Bool
 is_overdue Awaits opened now = nat_lt (opened + FIRST_PACKET_MILLIS) now
 is_overdue Proposed opened now = false

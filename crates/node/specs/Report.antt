@@ -12,7 +12,7 @@ HasCapacity lanes report =
     × (report.left.items ≡ [])
     × (max_items ≤ vec_capacity report.left)
 
--- what was taken from a lane followed by what is left over of it is, in order, all that it sent
+-- what was taken of a lane followed by what is left over of it is all that it sent, in order
 abbrev pub ReportsAll : List (ℕ × Item) → List (ℕ × Item) → LaneView Item → Type 0
 ReportsAll taken left lane = items_of_lane lane.lane taken ++ items_of_lane lane.lane left
     ≡ lane.sent

@@ -11,8 +11,8 @@ use Rattle.world_base.specs.node_core.Core.{CountedCore, opening_core}
 use Rattle.world_base.specs.node_core.PortOutput.{hands_over}
 use Rattle.world_base.specs.node_core.Losses.{ItemStepOrLost}
 
--- A chain from the first state of a node: one step for each item, in order, each with the lane from
--- which it came. In between, queued bytes may have been handed over.
+-- The fold of `step` over the items that a node took, each with its lane, from its first state on.
+-- In between, queued bytes may have been handed over.
 pub data Replays (first : CountedCore) : List (ℕ × Item) → CountedCore → Type 0 where
   -- no item was taken yet
   opens : Replays first [] first
@@ -26,8 +26,8 @@ pub data Replays (first : CountedCore) : List (ℕ × Item) → CountedCore → 
       → Replays first history core
       → Replays first history (record core { core = hands_over port core.core })
 
--- the model of a node: its inbox with all that was taken from it, the node itself, and how often an
--- item was asked for
+-- the model of a node: its inbox with all that was taken from it, its core, and how often an item
+-- was asked for
 pub record NodeStateView : Type 0 where
   pub receiver : ReceiverView Item
   pub node : CountedCore
@@ -37,7 +37,7 @@ pub record NodeStateView : Type 0 where
 abbrev pub next_taking : ℕ → ℕ
 next_taking takings = min (takings + 1) (2 ^ 64 - 1)
 
--- one item was taken, and the node's step with it was done
+-- one item was taken, and the node's core did one step with it
 pub record TakesOne (old new : NodeStateView)
     (before after : List (Effect Command Output)) : Type 0 where
   pub lane : ℕ
@@ -45,12 +45,11 @@ pub record TakesOne (old new : NodeStateView)
   pub taken : new.receiver ≡ record old.receiver { taken = old.receiver.taken ++ (lane, item) ∷ [] }
   pub stepped : ItemStepOrLost old.node item new.node before after
 
--- the node of each inbox's number began as the node of that number in this configuration of ballot
--- 1
+-- each number names the node that opens under it in this configuration of ballot 1
 abbrev pub EachOpensAs : Config → (ℕ → CountedCore) → Type 0
 EachOpensAs config first_of =
     (inbox : ℕ) → first_of inbox ≡ record { core = opening_core inbox config; losses = 0 }
 
--- the node of a number for which none was chosen
+-- the core that a number names for which none was chosen
 abbrev pub no_core : CountedCore
 no_core = record { core = opening_core 0 (record { members = []; primary = 0 }); losses = 0 }

@@ -1,4 +1,4 @@
--- Which bytes that a node took are counted, and after which ticks its log is cut.
+-- Which bytes count against the intake budget, and when logs are cut.
 use Rattle.std.specs.Prelude.{◌≡◌, ℕ, ◌+◌, ◌<◌, ◌≤◌, List, true}
 use Rattle.ballot_base.specs.LawfulConfig.{max_node}
 use Rattle.node.specs.OpenBytes.{Counts, Taken, bytes_behind, committed_of}
@@ -11,19 +11,19 @@ OpenBytesAreCounted =
     (all : List Taken) (intake : IntakeView) → Counts all intake →
     bytes_behind (committed_of intake.status) all ≤ intake.earlier + intake.later
 
--- No two nodes, whose numbers are at most `max_node`, have their logs cut after the same tick.
+-- No two nodes, whose numbers are at most `max_node`, cut their logs after the same tick.
 abbrev pub CutsComeApart : Type 0
 CutsComeApart =
     (node other ticks : ℕ) → node ≤ max_node → other ≤ max_node →
     cuts_after node ticks ≡ true → cuts_after other ticks ≡ true → node ≡ other
 
--- a cut of a node, fewer than 50 ticks after this many. The number is what the law promises, so it
--- stands apart from the code's constants, which `cuts_after` uses.
+-- a cut of a node fewer than 50 ticks after this many; the number 50 is what the theorem promises,
+-- so it stands apart from the constant of the code, which `cuts_after` uses
 pub record CutFollows (node ticks : ℕ) : Type 0 where
   pub more : ℕ
   pub soon : more < 50
   pub cuts : cuts_after node (ticks + more) ≡ true
 
--- Of any 50 ticks in a row there is one after which a node has its log cut.
+-- Among any 50 ticks in a row, a node's log is cut after one.
 abbrev pub CutsComeOften : Type 0
 CutsComeOften = (node ticks : ℕ) → CutFollows node ticks

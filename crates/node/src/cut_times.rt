@@ -1,4 +1,4 @@
-// When a node has its log cut, whatever its size.
+// When a node's log is cut, whatever its size.
 
 ghost use Rattle.std.specs.Prelude.{◌≡◌};
 ghost use Rattle.node.specs.CutTimes.{cuts_after};
@@ -10,7 +10,7 @@ const TICKS_A_CUT: u64 = 50;
 /// factor with 50, so no two nodes cut after the same tick (`cuts_come_apart`).
 const TICKS_APART: u64 = 7;
 
-/// Returns true if the node of a number has its log cut after this many ticks.
+/// Returns true if the log of node `number` is cut after this many ticks.
 pub fn cuts_after(number: u8, ticks: u64) -> bool
     ensures { result ≡ cuts_after number ticks }
 {

@@ -1,4 +1,4 @@
-// How many bytes are brought by the items that a node takes.
+// How many bytes the items that a node takes add to its log.
 
 ghost use Rattle.std.specs.Prelude.{◌≡◌, ◌+◌, ◌*◌, ℕ, length, max, nat_lt, sum_by};
 ghost use Rattle.node.specs.Growth.{bytes_of_body, bytes_of_command, bytes_of_packet, command_bytes};
@@ -9,14 +9,15 @@ use broker_spec::Command;
 use packet::{Packet, Subscribe, Unsubscribe};
 use world_base::node_core::Item;
 
-/// Up to this size a log is not cut because of it.
+/// Up to this size no cut is due because of it, in bytes.
 const MAX_UNCUT_BYTES: u64 = 16_777_216;
 
-/// What a command of the log counts in addition to the bytes of its packet.
+/// What a command of the log counts in addition to its packet, in bytes.
 const COMMAND_BYTES: u64 = 128;
 
-/// Returns true if these bytes and commands count more than 16 MiB, and more than the snapshot has
-/// bytes. Items brought them since the last cut.
+/// Returns true if a log is so large that a cut is due: what was taken since the last cut is more
+/// than 16 MiB, and more than the snapshot. `bytes` is what the items brought; each of the
+/// `commands` that a cut would drop counts [`COMMAND_BYTES`] more.
 pub(crate) fn is_large(bytes: u64, commands: u64, snapshot: &[u8]) -> bool
     ensures { (all : ℕ) → bytes ≡ saturated all →
         result ≡ nat_lt
@@ -26,8 +27,7 @@ pub(crate) fn is_large(bytes: u64, commands: u64, snapshot: &[u8]) -> bool
     size > MAX_UNCUT_BYTES.max(snapshot.len() as u64)
 }
 
-/// Returns how many bytes items brought since the last cut, after one more item. The count
-/// saturates at 2^64 - 1.
+/// Returns `bytes` plus what the item brings (saturates at 2^64 - 1); 0 after a cut.
 pub(crate) fn grown(bytes: u64, item: &Item) -> u64
     ensures { result ≡ saturated (grown bytes item.now) }
 {
@@ -39,7 +39,6 @@ pub(crate) fn grown(bytes: u64, item: &Item) -> u64
     }
 }
 
-// Adds the bytes of a message of another node.
 fn add_body(bytes: u64, body: &Body<Command>) -> u64
     ensures { result ≡ saturated (bytes + bytes_of_body body.now) }
 {
@@ -50,7 +49,6 @@ fn add_body(bytes: u64, body: &Body<Command>) -> u64
     }
 }
 
-// Adds the bytes of commands.
 fn add_commands(bytes: u64, commands: &[Command]) -> u64
     ensures { result ≡ saturated (bytes + sum_by bytes_of_command commands.now) }
 {
@@ -61,7 +59,6 @@ fn add_commands(bytes: u64, commands: &[Command]) -> u64
     bytes
 }
 
-// Adds the bytes of a command.
 fn add_command(bytes: u64, command: &Command) -> u64
     ensures { result ≡ saturated (bytes + bytes_of_command command.now) }
 {
@@ -71,7 +68,6 @@ fn add_command(bytes: u64, command: &Command) -> u64
     }
 }
 
-// Adds the bytes of a packet.
 fn add_packet(bytes: u64, packet: &Packet) -> u64
     ensures { result ≡ saturated (bytes + bytes_of_packet packet.now) }
 {
@@ -86,7 +82,6 @@ fn add_packet(bytes: u64, packet: &Packet) -> u64
     }
 }
 
-// Adds the bytes of the filters that a client subscribes to.
 fn add_subscribe(bytes: u64, subscribe: &Subscribe) -> u64
     ensures { result ≡ saturated (bytes
         + sum_by (λ (subscription : _). length subscription.filter) subscribe.now.filters) }
@@ -99,7 +94,6 @@ fn add_subscribe(bytes: u64, subscribe: &Subscribe) -> u64
     bytes
 }
 
-// Adds the bytes of the filters that a client unsubscribes from.
 fn add_unsubscribe(bytes: u64, unsubscribe: &Unsubscribe) -> u64
     ensures { result
         ≡ saturated (bytes + sum_by (λ (filter : _). length filter) unsubscribe.now.filters) }
@@ -112,7 +106,6 @@ fn add_unsubscribe(bytes: u64, unsubscribe: &Unsubscribe) -> u64
     bytes
 }
 
-// Adds bytes to a count.
 fn add(bytes: u64, more: usize) -> u64
     ensures { result ≡ saturated (bytes + more) }
 {

@@ -1,4 +1,11 @@
-// What a node takes from its clients, and when it takes nothing more.
+// The intake budget of a node.
+//
+// A primary answers a client once every member holds the command, so whatever it takes for a member
+// that lags waits in memory. The budget bounds that at its source. More bytes are admitted only
+// while three bounds hold: on open places, on bytes taken and not known to be agreed, and on bytes
+// in transit. The log is divided at `earlier_end`: once the status shows that the places before it
+// are agreed, the bytes in them are dropped from the count, and those after it become the earlier
+// ones. So the count is never below the truth, and two numbers suffice for any log.
 
 ghost use Rattle.std.specs.Prelude.{◌≡◌, ◌+◌, ◌≤◌, None, false, true};
 ghost use Rattle.node.specs.Intake.{admits, is_agreed, open_places, status_shown, took};
@@ -7,29 +14,29 @@ use ballot_base::Status;
 use node_base::devices::PIECE_BYTES;
 use std::marker::Model;
 
-/// How many places may be open when more bytes are taken.
+/// Bytes are admitted only while at most this many places are open.
 const MAX_OPEN: u64 = 4_096;
 
-/// How many bytes may be in open places when more bytes are taken.
+/// Bytes are admitted only while at most this many taken bytes are not known to be agreed.
 const MAX_OPEN_BYTES: u64 = 67_108_864;
 
-/// How many bytes may be in transit when more are taken.
+/// Bytes are admitted only while at most this many bytes are in transit.
 const MAX_IN_TRANSIT: u64 = 262_144;
 
-/// What a node takes from its clients, and its status. It counts the bytes that are not known to be
-/// agreed: they may be in places of the log that some member does not hold. The type bounds how
-/// many these are.
+/// The intake budget of a node, and its status. Counts the bytes that are not known to be agreed:
+/// they may be in places of the log that some member does not hold. The type's invariant bounds
+/// them.
 #[derive(Drop)]
 pub struct Intake {
     // None before the node is served.
     status: Option<Status>,
-    // How many bytes are in transit to the node.
+    // Bytes in transit to the node.
     in_transit: u64,
-    // How many places at the front of the node's log have the bytes that `earlier` counts.
+    // The number of places at the front of the log whose bytes `earlier` counts.
     earlier_end: u64,
-    // How many bytes that the node took are in these places.
+    // Bytes taken into these places.
     earlier: u64,
-    // How many bytes that it took are in places after these.
+    // Bytes taken into places after these.
     later: u64,
 }
 
@@ -77,7 +84,8 @@ impl Intake {
         self.status
     }
 
-    /// Counts bytes as in transit to the node, if it takes more. Returns whether it does.
+    /// Reserves `bytes` as in transit to the node. Returns false, and reserves nothing, if a bound
+    /// is exceeded.
     pub fn admit(&mut self, bytes: u64) -> bool
         requires { bytes ≤ PIECE_BYTES }
         ensures admits { result ≡ admits self.old }
@@ -94,7 +102,7 @@ impl Intake {
         admits
     }
 
-    /// Counts bytes that were in transit as taken.
+    /// Moves bytes from in transit to taken.
     pub fn count_taken(&mut self, bytes: u64)
         ensures { self.new ≡ took bytes self.old }
     {
@@ -103,7 +111,7 @@ impl Intake {
         self.later += taken;
     }
 
-    /// Takes the node's new status. Bytes that every member now holds are no longer counted.
+    /// Sets the node's status. Bytes that every member now holds are no longer counted.
     pub fn show(&mut self, status: Status)
         ensures { self.new ≡ status_shown status self.old }
     {
@@ -116,7 +124,7 @@ impl Intake {
     }
 }
 
-// Returns how many places are not known to be held by every member, while the node is the active
+// Returns how many places are not known to be held by every member; 0 unless the node is the active
 // primary.
 fn open_places(status: &Option<Status>) -> u64
     ensures { result ≡ open_places status.now }
@@ -127,7 +135,7 @@ fn open_places(status: &Option<Status>) -> u64
     }
 }
 
-// Returns true if everything in the first places of the log is agreed, or everything in the log.
+// Returns true if the first `earlier_end` places are agreed, or the whole log.
 fn is_agreed(earlier_end: u64, status: &Status) -> bool
     ensures { result ≡ is_agreed earlier_end status.now }
 {

@@ -1,4 +1,12 @@
-// A node that runs: its state under a lock, its gate, and its end.
+// A node under a lock, the gate before its takings, and its end.
+//
+// A node has neither a thread nor a device: whoever sends it an item takes what waits, one thread
+// at a time. `passing` is taken before `state` and `missed`; these two are never held together.
+// Without a gate only `state` is taken, and one permit allows several items under one lock. With a
+// gate `passing` is held from reading the number of the next taking until the gate was told that it
+// is done, so takings come one after another. `state` is not held while the gate is asked or a
+// thread sleeps. A gate that stays shut only delays: after `GATE_ASKS` tries the node goes on, and
+// the report counts it.
 
 ghost use Rattle.std.specs.Prelude.{◌≡◌, ◌↔◌, All, IfOk, IfSome, IsSomeAnd, IsTrue, is_some, map, true};
 ghost use Rattle.mailbox.specs.Ends.{ArrivesWhole, unmet};
@@ -18,15 +26,14 @@ use std::thread;
 use std::time::{Clock, Duration};
 use world_base::node_core::Item;
 
-/// How many times, at most, a gate is asked before one taking.
+/// How many times a gate is asked before one taking, at most.
 const GATE_ASKS: u32 = 10_000;
 
-/// How long the thread sleeps after each time that the gate does not open, in milliseconds.
+/// How long a thread sleeps between two such tries, in milliseconds.
 const ASK_MILLIS: u64 = 1;
 
-/// What the lock of a node holds. Code that starts threads is generic in this type. So it is proved
-/// once that the whole may be handed from thread to thread, and not part by part at each thread
-/// that is started.
+/// What the lock of a node holds. Code that starts threads is generic in this type, so it is proved
+/// once that the whole may be handed from thread to thread, not at each thread that is started.
 pub trait HasState<J: NodeNaming>: Drop {
     /// Returns the node's state.
     fn state(&mut self) -> &mut NodeState<J>;
@@ -38,23 +45,23 @@ impl<J: NodeNaming> HasState<J> for NodeState<J> {
     }
 }
 
-/// A node that runs: its state under a lock, and the gate before each of its takings. It has no
-/// thread of its own: whoever sent it an item takes what waits, one thread after another.
+/// A node under a lock, with the gate before each of its takings. It has no thread of its own:
+/// whoever sent it an item takes what waits, one thread at a time.
 #[derive(Drop)]
 pub struct Node<'g, J: NodeNaming, S: HasState<J>, G: Gate> {
-    // The node with its receiver. One thread at a time takes items.
+    // The node with its receiver.
     state: Mutex<S>,
-    // The number of the node, which is that of its inbox.
+    // The number of the node and of its inbox.
     number: u8,
     // Asked before each taking, if there is one.
     gate: Option<&'g G>,
-    // The holder of this asks the gate, takes, and informs the gate.
+    // Held, if there is a gate, until a taking is done.
     passing: Mutex<()>,
-    // The number of takings for which the gate did not open, at most 2^64 - 1.
+    // The number of takings for which the gate did not open (saturates at 2^64 - 1).
     missed: Mutex<u64>,
-    // The allocated report for its end.
+    // Allocated beforehand, so that closing needs no memory.
     report: Report,
-    // Which node the number means. The caller chooses it.
+    // Which node the number names; the caller chooses it.
     naming: PhantomData<J>,
 }
 
@@ -75,8 +82,8 @@ impl<'g, J: NodeNaming, S: HasState<J>, G: Gate> Model for Node<'g, J, S, G> {
 }
 
 impl<'g, J: NodeNaming, G: Gate> Node<'g, J, NodeState<J>, G> {
-    /// Starts a node, with a gate before each of its takings or without one. Its report is
-    /// allocated now. The only error is that memory runs out: then the state is dropped.
+    /// Returns a node with this state, and a gate or none. Allocates its report. The only error is
+    /// that memory ran out: then the state is dropped.
     pub fn start(
         alloc: Global,
         state: NodeState<J>,
@@ -99,18 +106,20 @@ impl<'g, J: NodeNaming, G: Gate> Node<'g, J, NodeState<J>, G> {
         })
     }
 
-    /// Ends the node, once its lanes send no more, and reports what happened to everything that
-    /// they sent. Takes no memory.
+    /// Ends the node, once its lanes send no more, and reports the fate of everything that they
+    /// sent. Allocates nothing. The state is under a lock, so the call checks again that these are
+    /// all its lanes; it would not return if they were others.
     pub fn close<R: Wait>(self, rt: &R, lanes: &mut [Lane<Item, J>]) -> Report
         requires lanes { AreItsLanes self lanes.old }
 
-        // What was taken and what is left over are, lane by lane and in order, all that was sent.
+        // Lane by lane, what was taken followed by what is left over is all that was sent, in
+        // order.
         ensures whole { All (ArrivesWhole result.taken.items result.left.items) lanes.new }
         ensures lanes { map unmet lanes.new ≡ map unmet lanes.old }
 
-        // The report is about a node that was the replay of what was taken. It says where the log
-        // of this node begins, and how many items of each lane were taken: the first ones that the
-        // lane sent.
+        // The report is about a node that was the replay of what was taken. It has the base of the
+        // node's log, and for each lane how many items were taken: the first ones that the lane
+        // sent.
         ensures reports { ReportsOn (J.first_of self.entry.number) lanes.new result }
     {
         let Node {
@@ -121,7 +130,7 @@ impl<'g, J: NodeNaming, G: Gate> Node<'g, J, NodeState<J>, G> {
             ..
         } = self;
         let state = state.into_inner();
-        // They are all its lanes, but no clause is about what was under a lock.
+        // They are all its lanes, but no clause speaks of what was under a lock.
         if state.inbox_number() == number
             && state.lanes() == report.taken.len()
             && state.has_all(lanes)
@@ -134,7 +143,7 @@ impl<'g, J: NodeNaming, G: Gate> Node<'g, J, NodeState<J>, G> {
 }
 
 impl<'g, J: NodeNaming, S: HasState<J>, G: Gate> Node<'g, J, S, G> {
-    /// Returns the node's number, that of its inbox.
+    /// Returns the number of the node and of its inbox.
     pub fn number(&self) -> u8
         ensures { result ≡ self.now.number }
     {
@@ -161,14 +170,13 @@ impl<'g, J: NodeNaming, S: HasState<J>, G: Gate> Node<'g, J, S, G> {
         self.state.lock(rt)
     }
 
-    /// Begins a taking: waits until the gate opens for the node's next taking, if it opens in time.
-    /// Without a gate it does not wait. With a gate, takings come one after another: until this one
-    /// is done no other begins. No clause says how long it waits, or what another thread may begin.
+    /// Begins a taking. Without a gate it returns at once. With a gate it waits until the one
+    /// before is done, and then until the gate opens for this one, or was asked [`GATE_ASKS`]
+    /// times. No clause says how long it waits, or what another thread may begin.
     pub fn begin_taking<R: Wait + Clock>(&self, rt: &R) -> Permit<'_>
         ensures one { IfSome result.taking (λ _. result.most ≡ 1) }
 
-        // A gate was asked for this node and the number of the taking, and the permit says what it
-        // answered.
+        // The gate was asked about this node and taking, and the permit has its answer.
         ensures asked { self.now.is_gated ≡ true → IsSomeAnd result.taking (λ taking.
             WasAsked G.answers self.now.number taking result.is_open) }
     {
@@ -181,8 +189,8 @@ impl<'g, J: NodeNaming, S: HasState<J>, G: Gate> Node<'g, J, S, G> {
         Permit::of_taking(taking, is_open, passing)
     }
 
-    // Waits until the gate opens for a taking, but not for ever. Returns what it answered last: a
-    // taking for which it did not open is counted.
+    // Asks the gate until it opens, at most `GATE_ASKS` times. Returns its last answer, and counts
+    // the taking if that is no.
     fn await_gate<R: Wait + Clock>(&self, rt: &R, gate: &G, taking: u64) -> bool
         ensures { WasAsked G.answers self.now.number taking result }
     {
@@ -200,7 +208,7 @@ impl<'g, J: NodeNaming, S: HasState<J>, G: Gate> Node<'g, J, S, G> {
         is_open
     }
 
-    /// Ends a taking: informs the gate that it is done.
+    /// Ends a taking: tells the gate that it is done.
     pub fn end_taking<R: Wait>(&self, rt: &R, permit: Permit<'_>)
         ensures { self.now.is_gated ≡ true → IfSome permit.entry.taking (λ taking.
             WasInformed G.hears self.now.number taking) }

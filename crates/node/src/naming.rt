@@ -1,11 +1,11 @@
-// Which node a number means.
+// Which node a number names.
 
 use mailbox::Naming;
 use std::marker::Brand;
 
-/// With which state the node of each inbox's number began. This is chosen before the first node of
-/// a run is served: the caller of a function that is generic in a `NodeNaming` passes [`Brand`],
-/// and chooses the nodes that it opened.
+/// The first state of the node that each number names. This is chosen before the first node of a
+/// run is served: the caller of a function that is generic in a `NodeNaming` passes [`Brand`], and
+/// chooses the nodes that it opened.
 pub trait NodeNaming: Naming {
     ghost use Rattle.std.specs.Prelude.{ℕ};
     ghost use Rattle.world_base.specs.node_core.Core.{CountedCore};

@@ -1,4 +1,10 @@
 // A node with its inbox.
+//
+// The invariant: the core is the fold of `NodeCore::step` over the items taken from the inbox, in
+// order. Handing over queued bytes may come in between; nothing else changes the core. Receiver and
+// core are one value, kept under one lock, and no call returns the core to be changed. So no item
+// is taken without its step, and none is stepped twice. `grown` and `takings` are counters beside
+// it: when the size of the log makes a cut due, and what a gate is asked about.
 
 ghost use Rattle.std.specs.Prelude.{◌≡◌, ◌≤◌, ◌++◌, ◌*◌, ◌↔◌, [], length, map, slice_index, take, true, false, All, EachIndex, IfOk, IsTrue, OnErr, OnOk};
 ghost use Rattle.mailbox.specs.Delivery.{items_of_lane, no_bounds};
@@ -25,17 +31,15 @@ use std::sync::Wait;
 use world_base::node_connections::{Handed, Port, Standing};
 use world_base::node_core::{Item, NodeCore};
 
-/// A node with the receiver of its inbox. Whatever calls come, the node is what its first state
-/// became by one step for each item that was taken, in order.
+/// A node with the receiver of its inbox. Whatever calls come, the node's state is the fold of
+/// `step` over the items taken.
 #[derive(Drop)]
 pub struct NodeState<J: NodeNaming> {
-    // Takes the items.
     receiver: Receiver<Item, J>,
-    // The node after one step for each of them.
     core: NodeCore,
-    // How many bytes the items brought that were taken since the last cut, at most 2^64 - 1.
+    // The bytes that the items since the last cut brought (saturates at 2^64 - 1).
     grown: u64,
-    // How many times [`NodeState::take_one`] was called, at most 2^64 - 1.
+    // How many times [`NodeState::take_one`] was called (saturates at 2^64 - 1).
     takings: u64,
 }
 
@@ -58,7 +62,7 @@ impl<J: NodeNaming> Model for NodeState<J> {
 }
 
 impl<J: NodeNaming> NodeState<J> {
-    /// Returns a node from whose inbox nothing was taken.
+    /// Returns a node that has taken no item.
     pub fn new(receiver: Receiver<Item, J>, core: NodeCore) -> NodeState<J>
         requires fresh { receiver.taken ≡ [] }
         requires first { core ≡ J.first_of receiver.inbox }
@@ -108,18 +112,17 @@ impl<J: NodeNaming> NodeState<J> {
         self.receiver.receipt()
     }
 
-    /// Returns the number of the next call of [`NodeState::take_one`], from 1. It stays at
-    /// 2^64 - 1 once it is that.
+    /// Returns the number of the next call of [`NodeState::take_one`], from 1 (saturates at 2^64 -
+    /// 1).
     pub fn next_taking(&self) -> u64
         ensures { result ≡ next_taking self.now.takings }
     {
         self.takings.saturating_add(1)
     }
 
-    /// Takes the item that came first and does the node's step with it. Returns whether there was
-    /// one. There is none only if the inbox was empty at some moment of the call. Then every item
-    /// that was sent, as far as the receipt says, was taken before. Each call is counted, whether
-    /// an item waited or not.
+    /// Takes the oldest item and does the node's step with it. Returns false if there was none:
+    /// then the inbox was empty at some moment of the call, and every item that the receipt knows
+    /// to be sent was taken before. Each call counts as a taking.
     pub fn take_one<R: Wait>(
         &mut self,
         rt: &R,
@@ -130,14 +133,13 @@ impl<J: NodeNaming> NodeState<J> {
         ensures took { result ≡ true →
             TakesOne self.old self.new effects.old.items effects.new.items }
 
-        // The node that steps is a replay of all that was taken.
+        // The node is still the fold of `step` over all items taken.
         ensures replays { Replays
             (J.first_of self.old.receiver.inbox) self.old.receiver.taken self.old.node }
 
         ensures takings { self.new.takings ≡ next_taking self.old.takings }
 
-        // No item waited, and nothing else changed: everything was taken that the receipt knows
-        // about.
+        // No item waited and nothing else changed: all that the receipt knows to be sent was taken.
         ensures empty { result ≡ false → WasEmpty self.old.receiver receipt }
         ensures arrived { result ≡ false → HasArrived receipt self.old.receiver.taken }
         ensures same { result ≡ false →
@@ -155,17 +157,17 @@ impl<J: NodeNaming> NodeState<J> {
         }
     }
 
-    /// Returns how many items of a lane of this inbox were taken. The lane then knows it, too.
+    /// Returns how many items of a lane of this inbox were taken. The lane learns it, too.
     pub fn meet(&mut self, lane: &mut Lane<Item, J>) -> u64
         requires { lane.old.inbox ≡ self.old.receiver.inbox }
         ensures exact { result ≡ length (items_of_lane lane.old.lane self.old.receiver.taken) }
 
-        // They are the first that the lane sent, and no fewer than it knew.
+        // These are the first items that the lane sent, and no fewer than it knew.
         ensures first { items_of_lane lane.old.lane self.old.receiver.taken
             ≡ take result lane.old.sent }
         ensures known { lane.old.met ≤ result }
 
-        // The node is a replay of all that was taken.
+        // The node is still the fold of `step` over all items taken.
         ensures replays { Replays
             (J.first_of lane.old.inbox) self.old.receiver.taken self.old.node }
 
@@ -176,8 +178,8 @@ impl<J: NodeNaming> NodeState<J> {
         self.receiver.meet(lane)
     }
 
-    /// Appends what was queued for a port and not yet handed over, and says whether more may come,
-    /// as [`NodeCore::outgoing`]. Nothing is taken.
+    /// Appends the bytes queued for a port and not yet handed over, and returns whether more may
+    /// come, as [`NodeCore::outgoing`]. No item is taken.
     pub fn outgoing(&mut self, port: Port, out: &mut Vec<u8>) -> Result<Handed, Memory>
         ensures bytes { OnOk result
             (out.new.items ≡ out.old.items ++ pending_bytes (listed_at port self.old.node.core)) }
@@ -187,7 +189,7 @@ impl<J: NodeNaming> NodeState<J> {
           node = record self.old.node { core = hands_over port self.old.node.core };
         }) }
 
-        // The node that hands over is a replay of all that was taken.
+        // The node is still the fold of `step` over all items taken.
         ensures replays { Replays
             (J.first_of self.old.receiver.inbox) self.old.receiver.taken self.old.node }
 
@@ -215,16 +217,15 @@ impl<J: NodeNaming> NodeState<J> {
         self.core.standing(port)
     }
 
-    /// Returns what the node's replica shows of itself.
+    /// Returns the status of the node's replica.
     pub fn status(&self) -> Status
         ensures { result ≡ status_of self.now.node.core.replica.state }
     {
         self.core.status()
     }
 
-    /// Returns true if the log is to be cut because of its size. It is if it has commands to drop,
-    /// and what was taken since the last cut counts more than 16 MiB and more than the snapshot has
-    /// bytes.
+    /// Returns true if the size of the log makes a cut due: there are commands to drop, and what
+    /// was taken since the last cut exceeds both 16 MiB and the snapshot.
     pub fn wants_cut(&self) -> bool
         ensures { result ≡ wants_cut self.now.receiver.taken self.now.node.core }
     {
@@ -233,17 +234,17 @@ impl<J: NodeNaming> NodeState<J> {
         self.core.can_cut() && is_large(self.grown, commands, snapshot)
     }
 
-    /// Returns how many steps lost something, for want of memory or since a snapshot was not read
-    /// (saturates at 2^64 - 1).
+    /// Returns how many steps lost something, because memory ran out or a snapshot could not be
+    /// read (saturates at 2^64 - 1).
     pub fn losses(&self) -> u64
         ensures { result ≡ self.now.node.losses }
     {
         self.core.losses()
     }
 
-    /// Ends the node, once its lanes send no more, and reports what happened to everything that
-    /// they sent. Takes no memory: the report's capacity was allocated before. `gate_missed` is
-    /// what it has to say about the gate.
+    /// Ends the node, once its lanes send no more, and reports the fate of everything that they
+    /// sent. Allocates nothing: `report` has its capacity. `gate_missed` is the count of takings
+    /// for which the gate did not open.
     pub fn close<R: Wait>(
         self,
         rt: &R,
@@ -254,15 +255,15 @@ impl<J: NodeNaming> NodeState<J> {
         requires lanes { AreAllLanes self.receiver lanes.old }
         requires capacity { HasCapacity self.receiver.lanes report }
 
-        // What was taken and what is left over are, lane by lane and in order, all that was sent.
+        // Lane by lane, what was taken followed by what is left over is all that was sent, in
+        // order.
         ensures whole { All (ArrivesWhole result.taken.items result.left.items) lanes.new }
         ensures lanes { map unmet lanes.new ≡ map unmet lanes.old }
 
-        // What the node replayed and what is left over are, lane by lane and in order, all that was
-        // sent.
+        // The same for the items that the node replayed.
         ensures all { All (ReportsAll self.receiver.taken result.left.items) lanes.new }
 
-        // For each lane, the count of taken items is that of the replay.
+        // The count of each lane is that of the replay.
         ensures counted { EachIndex result.taken.items (λ lane.
             slice_index result.taken.items lane ≡ length (items_of_lane lane self.receiver.taken)) }
         ensures each { length result.taken.items ≡ self.receiver.lanes }

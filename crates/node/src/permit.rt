@@ -8,20 +8,20 @@ use crate::node_state::NodeState;
 use std::marker::Model;
 use std::sync::MutexGuard;
 
-/// How many items may be taken at once if there is no gate.
+/// How many items one permit allows if there is no gate.
 const MAX_AT_ONCE: u32 = 16;
 
-/// The permit to take items of a node. Only `begin_taking` of a node gives it: with a gate after
-/// asking it, for one item.
+/// The permit to take items of a node. Only `begin_taking` of a node makes one; with a gate, for
+/// one item, after asking.
 #[derive(Drop)]
 pub struct Permit<'n> {
     // The number of the taking, if there is a gate.
     taking: Option<u64>,
-    // How many items may be taken with it: one if there is a gate, else `MAX_AT_ONCE`.
+    // The number of items that it allows: 1 with a gate, else `MAX_AT_ONCE`.
     most: u32,
-    // Whether the gate opened for it, or there is none.
+    // True if the gate opened, or if there is none.
     is_open: bool,
-    // Until this is dropped no other taking begins.
+    // With a gate: no other taking begins until this is dropped.
     passing: Option<MutexGuard<'n, ()>>,
 }
 
@@ -41,7 +41,7 @@ impl<'n> Model for Permit<'n> {
 }
 
 impl<'n> Permit<'n> {
-    /// Returns a permit without a gate.
+    /// Returns a permit of a node without a gate.
     pub(crate) fn free() -> Permit<'n>
         ensures { result ≡ record { taking = None; most = MAX_AT_ONCE; is_open = true } }
     {
@@ -53,7 +53,7 @@ impl<'n> Permit<'n> {
         }
     }
 
-    /// Returns a permit for the taking of this number, which keeps others from beginning.
+    /// Returns the permit for taking `taking`, which keeps other takings from beginning.
     pub(crate) fn of_taking(taking: u64, is_open: bool, passing: MutexGuard<'n, ()>) -> Permit<'n>
         ensures { result ≡ record { taking = Some taking; most = 1; is_open = is_open } }
     {
@@ -65,7 +65,7 @@ impl<'n> Permit<'n> {
         }
     }
 
-    /// Returns how many items may be taken: one if a gate was asked.
+    /// Returns how many items may be taken: 1 if a gate was asked.
     pub fn most(&self) -> u32
         ensures most { result ≡ self.now.most }
         ensures one { IfSome self.now.taking (λ _. result ≡ 1) }
@@ -80,8 +80,8 @@ impl<'n> Permit<'n> {
         self.taking
     }
 
-    /// Returns true if the node's next taking is the one that a gate was asked for. Without a gate
-    /// it is.
+    /// Returns true if `state`'s next taking is the one that the gate was asked about, or if there
+    /// is no gate.
     pub fn is_for<J: NodeNaming>(&self, state: &NodeState<J>) -> bool
         ensures { IsTrue result ↔ IsNext self.now state.now }
     {

@@ -1,4 +1,4 @@
-// What happened to the items that were sent to a node.
+// The fate of the items that were sent to a node.
 
 ghost use Rattle.std.specs.Prelude.{IfOk};
 ghost use Rattle.node.specs.Report.{HasCapacity};
@@ -8,16 +8,16 @@ use mailbox::MAX_ITEMS;
 use std::alloc::Global;
 use world_base::node_core::Item;
 
-/// What happened to the items that were sent to a node, once it takes no more.
+/// The fate of the items that were sent to a node, once it takes no more.
 #[derive(Drop)]
 pub struct Report {
-    /// How many items of each lane the node took.
+    /// How many items of each lane were taken.
     pub taken: Vec<u64>,
-    /// The items that it did not take, in order, each with its lane.
+    /// The items that were not taken, in order, each with its lane.
     pub left: Vec<(u8, Item)>,
-    /// The place at which its log begins: a snapshot replaces the commands below it.
+    /// The base of its log: a snapshot stands for the places below.
     pub base: u64,
-    /// How many times the node continued though its gate had not opened.
+    /// How many takings were done though the gate had not opened.
     pub gate_missed: u64,
 }
 

@@ -1,5 +1,5 @@
-// Laws about bytes that are counted, and about cuts of logs. The calls do nothing; their contracts
-// are the laws.
+// Theorems on the intake budget, and on when logs are cut. The calls do nothing; their contracts
+// are the theorems.
 
 ghost use Rattle.node.specs.Theorems.{CutsComeApart, CutsComeOften, OpenBytesAreCounted};
 
@@ -14,7 +14,7 @@ pub fn cuts_come_apart()
     ensures { CutsComeApart }
 {}
 
-/// States that of any 50 ticks in a row there is one after which a node has its log cut.
+/// States that among any 50 ticks in a row, a node's log is cut after one.
 pub fn cuts_come_often()
     ensures { CutsComeOften }
 {}

@@ -1,6 +1,6 @@
-//! One connection over a device to read from and one to write to. What comes on it is reported to a
-//! `ReportSink`, piece by piece. What is queued for it is written in order, as far as the device
-//! takes it.
+//! One connection over a device to read from and one to write to. Each piece that is read, at most
+//! [`PIECE_BYTES`](crate::devices::PIECE_BYTES), is reported to a `ReportSink`; queued bytes are
+//! written in order, as far as the device takes them.
 
 mod ending;
 mod flow;

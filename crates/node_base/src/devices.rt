@@ -1,6 +1,6 @@
-//! Reading from and writing to devices that may fail: streams, files, or bytes in memory. Each
-//! device is in a [`Counted`], which counts its failed calls, so that a fault is reported only if
-//! the device had one. Also the gate at which a test holds nodes before they take an item.
+//! Reads and writes on devices that may fail: streams, files, or bytes in memory. Each device is in
+//! a [`Counted`], which counts its failed calls, so a fault is reported only if a call failed. Also
+//! the gate at which a test holds nodes before they take an item.
 
 mod counted;
 mod gate;

@@ -1,4 +1,4 @@
--- How other errors become those of a played script.
+-- The error of playing, from those of its parts.
 use Rattle.ballot_base.specs.declared.errors.error.OpeningError.{OpeningError}
 use Rattle.ballot_base.specs.declared.errors.error.OpeningError.TheVariants as openings
 use Rattle.script.specs.declared.error.ScriptFault.{ScriptFault}
@@ -18,7 +18,7 @@ abbrev pub error_of_opening : OpeningError → PlayError
 error_of_opening openings.BadMembers = errors.Line 1
 error_of_opening openings.Memory = errors.Memory
 
--- for a way out that is not returned
+-- for a recovery that is not returned
 abbrev pub error_of_escape : EscapeError → PlayError
 error_of_escape escapes.Idle = errors.Idle
 error_of_escape escapes.Memory = errors.Memory

@@ -25,12 +25,12 @@ assign_of members primary =
     if list_all is_byte members && is_byte primary
     then Some (events.Assign (record { members = members; primary = primary })) else None
 
--- how many bytes are carried when this many wait
+-- how many of the waiting bytes an amount stands for
 abbrev pub count_of : ℕ → Amount → ℕ
 count_of waiting amounts.All = waiting
 count_of waiting (amounts.Bytes count) = count
 
--- the event of a line, when this many bytes wait on the connection that it names
+-- the event of a line, if this many bytes wait on the connection that it names
 abbrev pub event_of : ℕ → ScriptLine → Option Event
 event_of waiting (lines.Assign members primary) = assign_of members primary
 event_of waiting (lines.Deliver message) = Some (events.Deliver message)
@@ -50,7 +50,8 @@ event_of waiting (lines.Publish client publication) = Some (events.Publish clien
 event_of waiting (lines.Subscribe client filter qos) = Some (events.Subscribe client filter qos)
 event_of waiting (lines.Unsubscribe client filter) = Some (events.Unsubscribe client filter)
 
--- how many bytes wait on the connection that a line names, the way that they are carried
+-- how many bytes wait on the connection that a line names, in the direction in which it carries
+-- them
 abbrev pub waiting_for : ScriptLine → WorldState → ℕ
 waiting_for (lines.CarryUp connection amount) world = length (up_of (pair_of connection world))
 waiting_for (lines.CarryDown connection amount) world = length (down_of (pair_of connection world))

@@ -1,4 +1,4 @@
--- What the private calls do with a line of a script, and with what clients accepted.
+-- What the private calls do with a line of a script, and with accepted publications.
 use Rattle.std.specs.Prelude.{◌≡◌, ℕ, Bool, true, false, List, [], ◌∷◌, ◌++◌, Some, Result, length, map}
 use Rattle.master.specs.declared.event.Idle.{Idle}
 use Rattle.session_base.specs.declared.publication.Publication.{Publication}
@@ -15,7 +15,7 @@ use Rattle.play.specs.Events.{asked_in, event_of}
 use Rattle.play.specs.Transcripts.{EventComesTo, IsAskedIn, IsEventLine, Played, ScriptStep}
 use Rattle.play.specs.AcceptedLines.{accepted_by_client, lines_after}
 
--- a line that asks a client for a call
+-- a line that makes a client call its keeper
 abbrev pub is_call : ScriptLine → Bool
 is_call (lines.Abandon client) = true
 is_call (lines.Disconnect client) = true
@@ -24,11 +24,11 @@ is_call (lines.Subscribe client filter qos) = true
 is_call (lines.Unsubscribe client filter) = true
 is_call _ = false
 
--- what a line asks of a client, whatever waits on connections
+-- the call that a line asks of a client, whatever waits on connections
 abbrev pub IsCallOf : ScriptLine → Event → Type 0
 IsCallOf line event = (waiting : ℕ) → event_of waiting line ≡ Some event
 
--- what a line asks for had this result
+-- the event that a line asks for had this result
 pub record LineComesTo (line : ScriptLine) (old : WorldState) (result : Result (Unit {0}) Idle)
     (new : WorldState) : Type 0 where
   pub comes : EventComesTo (asked_in old line) old result new
@@ -38,14 +38,14 @@ pub record LineComesTo (line : ScriptLine) (old : WorldState) (result : Result (
   pub asks : IsAskedIn (asked_in old line) old result asked new
   pub exact : KeepsReached asked old new
 
--- its line was appended
+-- the line of an event was appended
 pub record LineWasWritten (index : ℕ) (result : Result (Unit {0}) Idle) (world : WorldState)
     (old new : List ℕ) : Type 0 where
   pub line : List ℕ
   pub is_line : IsEventLine index result world line
   pub is : new ≡ old ++ line
 
--- the last line was
+-- the last line of a transcript was appended
 pub record EndsTranscript (world : WorldState) (old new : List ℕ) : Type 0 where
   pub agreed : ℕ
   pub are_agreed : AgreeOnSoMany world.nodes agreed
@@ -57,7 +57,7 @@ pub record EndsTranscript (world : WorldState) (old new : List ℕ) : Type 0 whe
 abbrev pub names_of : List Recipient → List (List ℕ)
 names_of recipients = map (λ (recipient : Recipient). recipient.client) recipients
 
--- everything that they show is written
+-- every publication that they accepted is written
 abbrev pub AreWritten : List Recipient → WorldState → Type 0
 AreWritten [] world = Unit {0}
 AreWritten (one ∷ more) world = (one.written ≡ length (accepted_by_client one.client world))
@@ -69,7 +69,7 @@ lines_unwritten [] world = []
 lines_unwritten (one ∷ more) world =
     lines_after one.written one.client world ++ lines_unwritten more world
 
--- everything that it shows is now written
+-- the recipient, with every publication that it accepted written
 abbrev pub written_at : WorldState → Recipient → Recipient
 written_at world recipient = record recipient {
   written =
@@ -89,14 +89,14 @@ pub record Appends (clients : List (List ℕ)) (index : ℕ) (script_line : Scri
   pub step : ScriptStep clients index script_line before after lines
   pub is : new ≡ old ++ lines
 
--- the lines for these lines of a script were appended
+-- the lines of a transcript for these lines of a script were appended
 pub record AppendsLines (clients : List (List ℕ)) (script_lines : List ScriptLine)
     (first last : WorldState) (old new : List ℕ) : Type 0 where
   pub lines : List ℕ
   pub played : Played clients first script_lines lines last
   pub is : new ≡ old ++ lines
 
--- and the last line after them, with this count of losses
+-- these lines and the last line were appended, with this count of losses
 pub record PlaysOn (clients : List (List ℕ)) (script_lines : List ScriptLine) (first : WorldState)
     (old new : List ℕ) (losses : ℕ) : Type 0 where
   pub last : WorldState

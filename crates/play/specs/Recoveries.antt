@@ -1,4 +1,4 @@
--- The way out of the world in which a script ends, and its lines.
+-- The recovery from the world in which a script ends, and its lines.
 use Rattle.std.specs.Prelude.{◌≡◌, ℕ, List, [], ◌∷◌, ◌++◌, codes}
 use Rattle.std.specs.Fmt.{decimal}
 use Rattle.script.specs.Scripts.{IsScript, lines_of}
@@ -22,15 +22,15 @@ abbrev pub members_text : List ℕ → List ℕ
 members_text [] = []
 members_text (member ∷ members) = decimal member ++ more_members members
 
--- a word, a field and the end of the line, or two fields with a space, 32, between them
+-- a line of a word and a field; the word ends with its space
 abbrev pub one_field : List ℕ → List ℕ → List ℕ
 one_field word field = word ++ (field ++ 10 ∷ [])
 
--- a line with a word and two fields
+-- a line of a word and two fields, with a space, 32, between the fields
 abbrev pub two_fields : List ℕ → List ℕ → List ℕ → List ℕ
 two_fields word field other = word ++ (field ++ (32 ∷ (other ++ 10 ∷ [])))
 
--- the line of each event that a way out may have, as a script writes it
+-- the line of each event that a recovery may have, as a script writes it
 abbrev pub event_line : Event → List ℕ
 event_line (events.Assign config) =
     two_fields (codes "assign ") (members_text config.members) (decimal config.primary)
@@ -50,8 +50,8 @@ event_lines (event ∷ more) = event_line event ++ event_lines more
 
 -- ---- the world in which a script ends
 
--- a text is a script, whose lines lead from its world as it opens to this one, and memory ran out
--- in none of them
+-- the text is a script, whose lines lead from its opening world to this one, and memory ran out in
+-- none of them
 pub record EndsIn (text : List ℕ) (last : WorldState) : Type 0 where
   pub script : Script
   pub is_script : IsScript (lines_of text) script
@@ -62,7 +62,7 @@ pub record EndsIn (text : List ℕ) (last : WorldState) : Type 0 where
   pub played : Played script.opening.clients.items first script.lines.items lines last
   pub whole : last.losses ≡ 0
 
--- the lines of events that lead out of that world were appended
+-- the lines of a recovery from that world were appended
 pub record TellsRecovery (text members : List ℕ) (client : List ℕ) (old new : List ℕ) : Type 0 where
   pub last : WorldState
   pub ends : EndsIn text last
@@ -71,7 +71,7 @@ pub record TellsRecovery (text members : List ℕ) (client : List ℕ) (old new 
   pub leads : LeadsClientOut client last events
   pub is : new ≡ old ++ event_lines events
 
--- there is no way out
+-- there is no recovery
 pub record HasNoRecovery (text members : List ℕ) (client : List ℕ) : Type 0 where
   pub last : WorldState
   pub ends : EndsIn text last

@@ -1,5 +1,4 @@
--- The transcript of a script: the worlds that its lines lead through, and what is written for
--- each.
+-- The transcript of a script: the worlds that its lines lead through, and the lines for each.
 use Rattle.std.specs.Prelude.{◌≡◌, ℕ, List, [], ◌∷◌, ◌++◌, Option, Some, None, Result, Ok, Err, IsErr, length}
 use Rattle.session_base.specs.declared.publication.Publication.{Publication}
 use Rattle.master.specs.declared.event.Idle.{Idle}
@@ -19,7 +18,7 @@ use Rattle.play.specs.AcceptedLines.{new_lines}
 
 -- ---- one line of a script
 
--- the event of a line had this result, as `World::step` says; a line that names no event is idle
+-- the event of a line had this result, as `World::step`; a line that names no event is idle
 abbrev pub EventComesTo : Option Event → WorldState → Result (Unit {0}) Idle → WorldState → Type 0
 EventComesTo None old result new = IsErr result × (new ≡ old)
 EventComesTo (Some event) old result new = EventHappens event old result new
@@ -30,8 +29,8 @@ abbrev pub IsAskedIn : Option Event → WorldState → Result (Unit {0}) Idle
 IsAskedIn None old result asked new = asked ≡ []
 IsAskedIn (Some event) old result asked new = EventAsks event old result asked new
 
--- the line of event `index`: it was idle, or the line counts the messages sent so far and the
--- agreed commands
+-- the line of event `index`: it was idle, or the line has the counts of messages sent and of
+-- commands agreed so far
 abbrev pub IsEventLine : ℕ → Result (Unit {0}) Idle → WorldState → List ℕ → Type 0
 IsEventLine index (Err idle) new line = line ≡ idle_line index
 IsEventLine index (Ok done) new line =
@@ -39,8 +38,8 @@ IsEventLine index (Ok done) new line =
     × (line ≡ done_line index (length new.nodes.sent) agreed)
 
 -- One line of a script: the line of its event, and a line for each publication that a client newly
--- accepted. Even if memory ran out in it, the nodes did what they may do, and agree as before.
--- Each client stays exact, by what it was asked to publish.
+-- accepted. Even if memory ran out in it, the nodes did what they may do, and agree as before; and
+-- each client stays exact, by what it was asked to publish.
 pub record ScriptStep (clients : List (List ℕ)) (index : ℕ) (script_line : ScriptLine)
     (old new : WorldState) (lines : List ℕ) : Type 0 where
   pub result : Result (Unit {0}) Idle
@@ -64,8 +63,8 @@ pub data Played (clients : List (List ℕ)) (first : WorldState)
       → ScriptStep clients (length script_lines) script_line old new more
       → Played clients first (script_lines ++ script_line ∷ []) (lines ++ more) new
 
--- each line of a script has its event, these are the lines of its transcript, and the last line
--- says how many commands are agreed
+-- each line of a script has its event, these are the lines of its transcript, and the last line has
+-- the count of agreed commands
 pub record IsTranscript (script : Script) (last : WorldState) (transcript : List ℕ) : Type 0 where
   pub first : WorldState
   pub opened : AreReached script.opening.nodes script.opening.config first.nodes
@@ -79,8 +78,9 @@ pub record IsTranscript (script : Script) (last : WorldState) (transcript : List
   pub are_agreed : AgreeOnSoMany last.nodes agreed
   pub is : transcript ≡ lines ++ end_line agreed last.nodes.master.active
 
--- A text is a script that was played to its end, and its transcript was appended; this many events
--- lost something. Even so, at the end the nodes agree, and the headline holds for each client.
+-- The text is a script that was played to its end, and its transcript was appended; this many
+-- events lost something. Even so, at the end the nodes agree, and the promise holds for each
+-- client.
 pub record Plays (text old new : List ℕ) (losses : ℕ) : Type 0 where
   pub script : Script
   pub is_script : IsScript (lines_of text) script

@@ -1,4 +1,4 @@
-// Why a script was not played as it should be.
+// Why a script was not played to its end, or lost something.
 
 use ballot_base::errors::OpeningError;
 use machine::Memory;
@@ -8,17 +8,16 @@ use std::error::Error;
 use std::fmt;
 use world_pipes::events::EscapeError;
 
-/// Why a script was not played as it should be.
+/// Why a script was not played to its end, or lost something.
 #[derive(Clone, Copy, Debug, PartialEq, Eq)]
 pub enum PlayError {
-    /// The text is no script. This is the first of its lines that does not have its form, counted
-    /// from 1. Nothing was played.
+    /// The text is no script: its first malformed line, counted from 1. Nothing was played.
     Line(u64),
     /// Memory ran out. The transcript ends before its last line, maybe within a line.
     Memory,
-    /// It was played to its end, and memory ran out in some event.
+    /// The script was played to its end, but memory ran out in some event.
     Losses,
-    /// The world in which it ends has no way out for these members and this client.
+    /// The world in which it ends has no recovery for these members and this client.
     Idle,
 }
 
@@ -90,7 +89,7 @@ impl From<OpeningError> for PlayError {
 
     fn from(error: OpeningError) -> PlayError {
         match error {
-            // A script that is read opens a world that may open.
+            // A script that was read opens a world that may open.
             OpeningError::BadMembers => PlayError::Line(1),
             OpeningError::Memory => PlayError::Memory,
         }

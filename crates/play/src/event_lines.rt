@@ -1,4 +1,4 @@
-// The lines of the events of a way out.
+// The lines of a recovery's events.
 
 ghost use Rattle.std.specs.Prelude.{◌≡◌, ◌++◌, OnOk, codes};
 ghost use Rattle.std.specs.Fmt.{decimal};
@@ -9,7 +9,7 @@ use packet_base::ClientId;
 use std::alloc::{AllocError, Global};
 use world_pipes::events::Event;
 
-/// Appends the line of an event, as a script writes it; nothing for an event that no way out has.
+/// Appends the line of an event, as a script writes it; nothing for an event that no recovery has.
 pub(crate) fn write_event(
     alloc: Global,
     event: &Event,
@@ -28,7 +28,7 @@ pub(crate) fn write_event(
     }
 }
 
-// Appends the line of an Assign, as `assign 1,2 1`.
+// Appends an Assign, as `assign 1,2 1`.
 fn write_assign(alloc: Global, config: &Config, text: &mut Vec<u8>) -> Result<(), AllocError>
     ensures { OnOk result (text.new.items ≡ text.old.items
         ++ two_fields (codes "assign ") (members_text config.now.members)
@@ -66,7 +66,7 @@ fn write_others(alloc: Global, members: &[u8], text: &mut Vec<u8>) -> Result<(),
     Ok(())
 }
 
-// Appends the line of a delivery, as `deliver 7`.
+// Appends a delivery, as `deliver 7`.
 fn write_deliver(alloc: Global, number: u64, text: &mut Vec<u8>) -> Result<(), AllocError>
     ensures { OnOk result
         (text.new.items ≡ text.old.items ++ one_field (codes "deliver ") (decimal number)) }
@@ -75,7 +75,7 @@ fn write_deliver(alloc: Global, number: u64, text: &mut Vec<u8>) -> Result<(), A
     text.extend_from_slice(line.as_str().as_bytes())
 }
 
-// Appends the line of an opening, as `open a 2`.
+// Appends an opening, as `open a 2`.
 fn write_open(
     alloc: Global,
     client: &ClientId,
@@ -91,7 +91,7 @@ fn write_open(
     text.extend_from_slice(rest.as_str().as_bytes())
 }
 
-// Appends the line of bytes to the node, as `up 3 15`.
+// Appends bytes to the node, as `up 3 15`.
 fn write_up(
     alloc: Global,
     connection: u64,
@@ -105,7 +105,7 @@ fn write_up(
     text.extend_from_slice(line.as_str().as_bytes())
 }
 
-// Appends the line of bytes to the client, as `down 3 4`.
+// Appends bytes to the client, as `down 3 4`.
 fn write_down(
     alloc: Global,
     connection: u64,
@@ -119,7 +119,7 @@ fn write_down(
     text.extend_from_slice(line.as_str().as_bytes())
 }
 
-// Appends the line of a lost connection, as `abandon a`.
+// Appends a lost connection, as `abandon a`.
 fn write_abandon(client: &ClientId, text: &mut Vec<u8>) -> Result<(), AllocError>
     ensures { OnOk result
         (text.new.items ≡ text.old.items ++ one_field (codes "abandon ") client.now) }

@@ -51,7 +51,7 @@ pub(crate) fn event_of(
     }
 }
 
-// Returns what a client has to do.
+// Returns the call that a line asks of a client.
 fn call(line: &ScriptLine) -> Result<Event, PlayError>
     requires { is_call line.now ≡ true }
     ensures event { IfOk result (λ event. IsCallOf line.now event) }
@@ -73,7 +73,7 @@ fn call(line: &ScriptLine) -> Result<Event, PlayError>
     }
 }
 
-// Returns the Assign of these members and this primary, if each number is a byte.
+// Returns an Assign, if each number is a byte.
 fn assign(alloc: Global, members: &Numbers, primary: u64) -> Result<Option<Event>, PlayError>
     ensures event { IfOk result (λ event. event ≡ assign_of members.now primary) }
     ensures memory { OnErr result (IsErrOf result PlayError.Memory) }
@@ -86,7 +86,6 @@ fn assign(alloc: Global, members: &Numbers, primary: u64) -> Result<Option<Event
     Ok(Some(Event::Assign(Config { members, primary })))
 }
 
-// Returns true if each of these numbers is a byte.
 fn are_bytes(numbers: &[u64]) -> bool
     ensures { result ≡ list_all is_byte numbers.now }
 {
@@ -106,21 +105,18 @@ fn members_from_numbers(alloc: Global, numbers: &[u64]) -> Result<Members, PlayE
     Ok(Members::from_slice(alloc, bytes.as_slice())?)
 }
 
-// Returns the tick of a node.
 fn tick(node: u64) -> Option<Event>
     ensures { result ≡ option_map events.Tick (node_of node) }
 {
     Some(Event::Tick(node_of(node)?))
 }
 
-// Returns the cut of a node's log.
 fn cut(node: u64) -> Option<Event>
     ensures { result ≡ option_map events.Cut (node_of node) }
 {
     Some(Event::Cut(node_of(node)?))
 }
 
-// Returns the crash of a node.
 fn crash(node: u64) -> Option<Event>
     ensures { result ≡ option_map events.Crash (node_of node) }
 {
@@ -151,21 +147,21 @@ fn open(client: &ClientId, node: u64) -> Result<Option<Event>, PlayError>
     Ok(Some(Event::Open(client.clone()?, node)))
 }
 
-// Returns how many bytes of a connection are carried up.
+// Returns how many bytes of a connection reach its node.
 fn count_up(world: &World, connection: u64, amount: Amount) -> u64
     ensures { result ≡ count_of (length (up_of (pair_of connection world.now))) amount }
 {
     count_of(amount, world.up(connection))
 }
 
-// Returns how many bytes of a connection are carried down.
+// Returns how many bytes of a connection reach its client.
 fn count_down(world: &World, connection: u64, amount: Amount) -> u64
     ensures { result ≡ count_of (length (down_of (pair_of connection world.now))) amount }
 {
     count_of(amount, world.down(connection))
 }
 
-// Returns how many bytes are carried of those that wait.
+// Returns how many of the waiting bytes the amount stands for.
 fn count_of(amount: Amount, waiting: &[u8]) -> u64
     ensures { result ≡ count_of (length waiting.now) amount }
 {
@@ -175,7 +171,7 @@ fn count_of(amount: Amount, waiting: &[u8]) -> u64
     }
 }
 
-// Returns the number of a node, if a node can have it.
+// Returns the number of a node, if it is a byte.
 fn node_of(number: u64) -> Option<u8>
     ensures { result ≡ node_of number }
 {

@@ -1,4 +1,4 @@
-//! Plays a script: the events of its lines happen in a world, and a transcript says the result of
+//! Plays scripts: the events of the lines happen in a world, and a transcript has the result of
 //! each.
 #![tactic(auto)]
 

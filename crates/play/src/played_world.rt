@@ -1,4 +1,11 @@
 // A world in which a script is played.
+//
+// A transcript says of each line what it led to, and of each client what it newly accepted. So
+// beside the world each client's count of written publications is kept: after a line, `AreWritten`
+// holds again, and the next line prints only what is new. A line that cannot happen is idle and
+// changes nothing. Memory that runs out within the world is no error at once: the world counts the
+// loss, goes on, and the transcript is complete; `Losses` comes at its end. Memory that runs out
+// for the transcript itself ends it.
 
 ghost use Rattle.std.specs.Prelude.{◌≡◌, ◌<◌, ◌++◌, ℕ, false, [], map, IfOk, OnOk, OnErr, IsErrOf};
 ghost use Rattle.agreement.specs.World.{can_open};
@@ -22,20 +29,18 @@ use world::World;
 /// A client, and how many of the publications that it accepted are written.
 #[derive(Drop)]
 pub(crate) struct Recipient {
-    /// The Client Identifier of the client.
     pub(crate) client: ClientId,
-    /// How many of them the transcript has, the first ones.
+    /// The first ones of its accepted publications, so many.
     pub(crate) written: usize,
 }
 
 /// A world in which a script is played.
 #[derive(Drop)]
 pub(crate) struct PlayedWorld {
-    // The allocator of events and of lines.
     alloc: Global,
     /// The world after the lines so far.
     pub(crate) world: World,
-    /// Its clients, in their order.
+    /// Its clients, in order.
     pub(crate) recipients: Vec<Recipient>,
 }
 
@@ -72,7 +77,7 @@ impl PlayedWorld {
         })
     }
 
-    /// Does what a line asks for, and appends the result.
+    /// Plays one line, and appends its result.
     pub(crate) fn play(
         &mut self,
         index: u64,
@@ -97,7 +102,7 @@ impl PlayedWorld {
         )
     }
 
-    // Does what a line asks for, if it can happen.
+    // Does the event of a line, if it can happen.
     fn do_line(&mut self, line: &ScriptLine) -> Result<Result<(), Idle>, PlayError>
         ensures comes { IfOk result (λ result.
             LineComesTo line.now self.old.world result self.new.world) }
@@ -110,7 +115,7 @@ impl PlayedWorld {
         }
     }
 
-    // Appends the line of an event that happened, or could not.
+    // Appends the result of an event.
     fn write_line(
         &self,
         index: u64,
@@ -132,7 +137,7 @@ impl PlayedWorld {
         Ok(())
     }
 
-    /// Appends the last line. `Losses` comes after it if memory ran out in the world.
+    /// Appends the last line. Fails with `Losses` after that if memory ran out in the world.
     pub(crate) fn end(&self, transcript: &mut Vec<u8>) -> Result<(), PlayError>
         ensures line { OnOk result
             (EndsTranscript self.now.world transcript.old.items transcript.new.items) }
@@ -152,7 +157,7 @@ impl PlayedWorld {
     }
 }
 
-// Returns the clients; nothing of what they accepted is written yet.
+// Returns the clients, with nothing written of what they accepted.
 fn recipients_of(alloc: Global, clients: &[ClientId]) -> Result<Vec<Recipient>, PlayError>
     ensures made { IfOk result (λ made. made.items ≡ map new_recipient clients.now) }
     ensures memory { OnErr result (IsErrOf result PlayError.Memory) }
@@ -167,7 +172,7 @@ fn recipients_of(alloc: Global, clients: &[ClientId]) -> Result<Vec<Recipient>, 
     Ok(recipients)
 }
 
-// Appends what the clients accepted and was not yet written.
+// Appends what clients accepted and is not yet written.
 fn write_all_new(
     alloc: Global,
     world: &World,
@@ -185,7 +190,7 @@ fn write_all_new(
     Ok(())
 }
 
-// Appends what a client accepted and was not yet written.
+// Appends what one client accepted and is not yet written.
 fn write_new(
     alloc: Global,
     world: &World,
@@ -204,7 +209,7 @@ fn write_new(
     Ok(())
 }
 
-// Returns what a client shows as accepted; nothing if there is no such client.
+// Returns the publications that a client accepted; none if there is no such client.
 fn accepted_by_client<'a>(world: &'a World, client: &ClientId) -> &'a [Accepted]
     ensures { result.now ≡ accepted_by_client client.now world.now }
 {

@@ -15,8 +15,8 @@ use std::alloc::Global;
 pub fn play(alloc: Global, text: &[u8], transcript: &mut Vec<u8>) -> Result<(), PlayError>
     ensures played { OnOk result (Plays text.now transcript.old.items transcript.new.items 0) }
 
-    // A text that is no script is refused for its first line that does not have its form; nothing
-    // of it is played.
+    // A text that is no script is refused for its first malformed line, and nothing of it is
+    // played.
     ensures refused { (number : ℕ) → IsErrOf result (PlayError.Line number)
         → Refuses (lines_of text.now) (Line number) }
     ensures untouched { (number : ℕ) → IsErrOf result (PlayError.Line number)
@@ -34,7 +34,7 @@ pub fn play(alloc: Global, text: &[u8], transcript: &mut Vec<u8>) -> Result<(), 
     play_whole(&mut played, lines.as_slice(), transcript)
 }
 
-// Does what the lines ask for, and appends the results, up to the last line.
+// Plays all lines, and appends their results and the last line.
 fn play_whole(
     played: &mut PlayedWorld,
     lines: &[ScriptLine],
@@ -52,7 +52,7 @@ fn play_whole(
     played.end(transcript)
 }
 
-/// Does what the lines ask for, one after another, and appends the results.
+/// Plays these lines, one after another, and appends their results.
 pub(crate) fn play_all(
     played: &mut PlayedWorld,
     lines: &[ScriptLine],

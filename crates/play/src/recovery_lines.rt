@@ -1,4 +1,4 @@
-// The way out of the world in which a script ends.
+// The recovery from the world in which a script ends.
 
 ghost use Rattle.std.specs.Prelude.{◌≡◌, ◌++◌, ℕ, OnOk, OnErr, IsErrOf};
 ghost use Rattle.script.specs.declared.error.ScriptFault.TheVariants.{Line};
@@ -14,8 +14,9 @@ use script::{Script, read};
 use std::alloc::Global;
 use world_pipes::events::Event;
 
-/// Plays a script and appends a way out of the world in which it ends, as lines that may follow it.
-/// No transcript is written. [`PlayError::Idle`] comes if there is none, by `World::escape`.
+/// Plays a script, and appends a recovery from the world in which it ends, as lines that may follow
+/// the script. No transcript is written. Fails with [`PlayError::Idle`] if there is none, as
+/// `World::escape`.
 pub fn escape(
     alloc: Global,
     text: &[u8],
@@ -27,7 +28,7 @@ pub fn escape(
         (TellsRecovery text.now members.now client.now way.old.items way.new.items) }
     ensures idle { IsErrOf result PlayError.Idle → HasNoRecovery text.now members.now client.now }
 
-    // A text that is no script is refused for its first line that does not have its form.
+    // A text that is no script is refused for its first malformed line.
     ensures refused { (number : ℕ) → IsErrOf result (PlayError.Line number)
         → Refuses (lines_of text.now) (Line number) }
 {
@@ -45,7 +46,6 @@ pub fn escape(
     write_events(alloc, events.as_slice(), way)
 }
 
-// Appends the lines of events.
 fn write_events(alloc: Global, events: &[Event], way: &mut Vec<u8>) -> Result<(), PlayError>
     ensures lines { OnOk result (way.new.items ≡ way.old.items ++ event_lines events.now) }
     ensures memory { OnErr result (IsErrOf result PlayError.Memory) }

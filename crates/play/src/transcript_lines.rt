@@ -16,8 +16,8 @@ pub(crate) fn write_idle(alloc: Global, index: u64, text: &mut Vec<u8>) -> Resul
     text.extend_from_slice(line.as_str().as_bytes())
 }
 
-/// Appends the line of an event that happened, with how many messages were sent so far and how long
-/// the agreed list is: `7 ok msgs=3 agreed=1`.
+/// Appends the line of an event that happened, with how many messages were sent and how many
+/// commands agreed so far: `7 ok msgs=3 agreed=1`.
 pub(crate) fn write_done(
     alloc: Global,
     index: u64,
@@ -50,8 +50,8 @@ pub(crate) fn write_accepted(
     print_line(accepted, text)
 }
 
-/// Appends the last line, with how long the agreed list is and which ballot is active:
-/// `end agreed=8 active=2`.
+/// Appends the last line, with how many commands are agreed and which ballot is active: `end
+/// agreed=8 active=2`.
 pub(crate) fn write_end(
     alloc: Global,
     agreed: u64,

@@ -1,4 +1,4 @@
--- The messages that steps of a node gave for others, one by one.
+-- The messages among the effects of a node's steps, queued one by one.
 use Rattle.std.specs.Prelude.{ℕ, List, [], ◌∷◌, ◌++◌}
 use Rattle.broker_spec.specs.declared.command.Command.{Command}
 use Rattle.broker_spec.specs.declared.command.Output.{Output}

@@ -1,18 +1,18 @@
--- For which node an order about a client is queued, by the status that each node showed last.
+-- The node to which an order about a client goes, by the status that each node showed last.
 use Rattle.std.specs.Prelude.{◌≡◌, ℕ, ◌≤◌, Bool, true, false, ◌&&◌, nat_lt, if◌then◌else◌, List, [], ◌∷◌, Option, Some, None}
 use Rattle.ballot_base.specs.Replica.{serves_in_role}
 use Rattle.lists.specs.Lists.{Each, In}
 use Rattle.post.specs.declared.recipients.Shown.{Shown}
 
--- the node serves clients: it is the active primary of its ballot, and has not stopped
+-- the node serves clients: it is the active primary of its ballot, and did not crash
 abbrev pub serves : Shown → Bool
 serves shown = serves_in_role shown.status.role shown.status.stopped
 
--- none of those that serve among these nodes has a higher ballot
+-- none of these nodes serves in a higher ballot
 abbrev pub NoneIsHigher : ℕ → List Shown → Type 0
 NoneIsHigher ballot = Each (λ shown. serves shown ≡ true → shown.status.ballot ≤ ballot)
 
--- the node of this number serves, in the highest ballot of those that serve among these nodes
+-- the node of this number serves, in the highest ballot in which one of these nodes does
 pub record IsHighest (number : ℕ) (nodes : List Shown) : Type 0 where
   pub shown : Shown
   pub among : In shown nodes
@@ -24,13 +24,13 @@ pub record IsHighest (number : ℕ) (nodes : List Shown) : Type 0 where
 abbrev pub NoneServes : List Shown → Type 0
 NoneServes = Each (λ shown. serves shown ≡ false)
 
--- of two nodes the one that serves in the higher ballot, the first if both have the same
+-- of two nodes the one that serves in the higher ballot; the first if the ballots are equal
 abbrev pub higher : Option Shown → Shown → Option Shown
 higher None shown = if serves shown then Some shown else None
 higher (Some best) shown =
     if serves shown && nat_lt best.status.ballot shown.status.ballot then Some shown else Some best
 
--- the active primary of the highest ballot among one that was found and these nodes
+-- the node that serves in the highest ballot, among one that was found before and these nodes
 abbrev pub highest_from : Option Shown → List Shown → Option Shown
 highest_from found [] = found
 highest_from found (shown ∷ nodes) = highest_from (higher found shown) nodes

@@ -1,4 +1,4 @@
-// A message that a step of a node gave for another node.
+// A message from one node to another.
 
 ghost use Rattle.std.specs.Prelude.{◌≡◌, ◌++◌, ◌∷◌, [], false, true};
 ghost use Rattle.lists.specs.Lists.{has_id};
@@ -16,13 +16,11 @@ use broker_spec::Command;
 use std::marker::Model;
 use world_base::node_core::Item;
 
-/// A message that a step of a node gave, and the number of the node that it is for; 0 is the
-/// master. It cannot be dropped: it ends in an outbox of that node, at the master, or is lost if no
-/// node has that number.
+/// A message that was produced by a node's step, with the number of its receiver; 0 is the master.
+/// It cannot be dropped: it ends in its receiver's outbox or at the master, or is lost if no node
+/// has the number.
 pub struct AddressedMessage {
-    // The number of the node that it is for, or 0.
     receiver: u8,
-    // What the step gave.
     message: Message<Command>,
 }
 
@@ -39,7 +37,7 @@ impl Model for AddressedMessage {
 }
 
 impl AddressedMessage {
-    /// Returns a message that a step of a node gave, with its receiver.
+    /// Returns a message that was produced by a node's step, with its receiver.
     pub(crate) fn new(receiver: u8, message: Message<Command>) -> AddressedMessage
         requires { WasGiven (To receiver message) }
         ensures { result ≡ record { receiver = receiver; message = message } }
@@ -47,15 +45,15 @@ impl AddressedMessage {
         AddressedMessage { receiver, message }
     }
 
-    /// Returns the number of the node that it is for.
+    /// Returns the number of its receiver.
     pub(crate) fn receiver(&self) -> u8
         ensures { result ≡ self.now.receiver }
     {
         self.receiver
     }
 
-    /// Queues the message in an outbox of its node, as [`Outbox::queue`]. Returns whether there was
-    /// room and memory for it; if not, it is lost.
+    /// Queues the message in its receiver's outbox, as [`Outbox::queue`]. Returns false if there
+    /// was no room or memory: then it is lost.
     pub(crate) fn queue_in(self, outbox: &mut Outbox) -> bool
         requires { self.receiver ≡ outbox.old.number }
         ensures queued { result ≡ true → outbox.new ≡ record outbox.old {
@@ -72,7 +70,7 @@ impl AddressedMessage {
         outbox.queue(Item::Peer(message))
     }
 
-    /// Lets the master answer the message, as [`MessagingMaster::answer`].
+    /// Passes the message to the master, and returns its answer, as [`MessagingMaster::answer`].
     pub(crate) fn ask(self, master: &mut MessagingMaster) -> Option<Answer>
         requires { IsMasterNumber self.receiver }
         ensures answer { result
@@ -88,8 +86,8 @@ impl AddressedMessage {
         master.answer(message)
     }
 
-    /// Loses the message: it is not for the master, and `cluster` shows that no node has the number
-    /// of its receiver.
+    /// Drops the message: it is not for the master, and `cluster` has no node of its receiver's
+    /// number.
     pub(crate) fn lose(self, cluster: &Cluster)
         requires master { IsMasterNumber self.receiver → ⊥ }
         requires none { has_id self.receiver cluster.now ≡ false }
@@ -101,7 +99,7 @@ impl AddressedMessage {
         } = self;
     }
 
-    /// Loses the message: `outbox` is not of its receiver.
+    /// Drops the message: `outbox` is not its receiver's.
     pub(crate) fn lose_at(self, outbox: &Outbox)
         requires { outbox.now.number ≡ self.receiver → ⊥ }
     {

@@ -1,4 +1,13 @@
 // The nodes of a program, and their master.
+//
+// The order of locks: a node's state, then the master, then `is_crash_ordered`, an outbox, the
+// intake and the waker of a peer; of each at most one at a time. What a node's steps gave is queued
+// while the lock of its state is held, so messages keep the order of the steps (`queue_given` takes
+// the state as evidence). A node that gets a message of another one is not woken under that lock:
+// the giver has it taken, or wakes it, after it has released its own node. The receiver of an
+// answer of the master is woken at once, under that lock. A message that finds no room or no memory
+// is lost, as the protocol allows; orders fail with an error instead. The master has no thread: it
+// only answers, and whoever asks takes its lock.
 
 ghost use Rattle.std.specs.Prelude.{◌≡◌, ◌&&◌, IfOk, IfSome, IsErrOf, IsOk, None, Ok, OnOk, OnSome, false, is_some, length, nat_lt, true};
 ghost use Rattle.ballot_base.specs.LawfulConfig.{is_lawful};
@@ -24,28 +33,27 @@ use std::sync::{Mutex, Wait};
 use std::thread;
 use std::time::{Clock, Duration, Instant};
 
-/// How long to wait between two looks, in milliseconds.
+/// How long a thread sleeps between two looks at a node's status, in milliseconds.
 const NODE_LOOK_MILLIS: u64 = 1;
 
-/// How many times to look whether a node is served.
+/// The most looks for the status of a node that is not yet served.
 const STATUS_LOOKS: u32 = 1_000;
 
-/// How long to wait until a node has stopped that was ordered to crash, in milliseconds.
+/// The deadline of a crash that was ordered, in milliseconds.
 const STOP_MILLIS: u64 = 40;
 
-/// How many times to look in that time, at most.
+/// The most looks for the crash before that deadline.
 const STOP_LOOKS: u32 = 40;
 
-/// The nodes that serve in one program, with what they send each other, and the master that gives
-/// ballots their configurations. Outboxes and master are under locks, so no clause of a call says
-/// what is queued, or what changes.
+/// The nodes that serve in one program, with their outboxes, and the master that gives ballots
+/// their configurations. Outboxes and master are under locks, so no clause of a call says what is
+/// queued, or what changes.
 #[derive(Drop)]
 pub struct Cluster {
     // In the order in which their numbers were given.
     nodes: Vec<Peer>,
     // Answers orders and nodes, one at a time.
     master: Mutex<MessagingMaster>,
-    // The allocator of answers, and of lists of what nodes show.
     alloc: Global,
 }
 
@@ -59,8 +67,8 @@ impl Model for Cluster {
 }
 
 impl Cluster {
-    /// Returns the nodes of these numbers, and a master whose ballot 1 has this configuration.
-    /// `BadMembers` comes if no ballot may have it; the other error is that memory ran out.
+    /// Returns the nodes of these numbers, and a master whose ballot 1 has this configuration. The
+    /// errors are `BadMembers`, if no ballot may have it, and that memory ran out.
     pub fn new(alloc: Global, numbers: &[u8], config: &Config) -> Result<Cluster, OpeningError>
         ensures ok { IfOk result (λ cluster. cluster ≡ numbers.now) }
         ensures lawful { IsOk result → is_lawful config.now.members config.now.primary ≡ true }
@@ -78,10 +86,10 @@ impl Cluster {
         })
     }
 
-    /// Gives the next ballot to a configuration, and sends it to its primary. Returns the ballot.
-    /// It becomes active once each of its members holds all that was agreed. `BadMembers` comes for
-    /// members that no ballot may have, and for one that is no node here. If memory runs out,
-    /// nothing changes, which no clause says.
+    /// Assigns the next ballot to a configuration, and queues the order for its primary. Returns
+    /// the ballot, which becomes active once each of its members holds all that was agreed. Fails
+    /// with `BadMembers` for members that no ballot may have, and for one that is no node here. If
+    /// memory runs out, nothing changes, which no clause says.
     pub fn assign<R: Wait>(&self, rt: &R, config: Config) -> Result<u64, OrderError>
         ensures given { IfOk result (λ ballot. MayGet config ballot) }
         ensures nodes { OnOk result (are_nodes self.now config.members ≡ true) }
@@ -92,7 +100,7 @@ impl Cluster {
             → (is_lawful config.members config.primary && are_nodes self.now config.members)
             ≡ true }
 
-        // A member that is no node is always answered so, whether or not there is memory.
+        // A member that is no node has this answer whether or not there is memory.
         ensures stranger { are_nodes self.now config.members ≡ false
             → IsErrOf result (OrderError.Refused AssignError.BadMembers) }
     {
@@ -105,11 +113,10 @@ impl Cluster {
         }
     }
 
-    /// Crashes a node, for good. Returns whether there is a node of this number that has not
-    /// stopped, and was not ordered to crash before. The order is queued for the node, and then the
-    /// call waits until the node has stopped, for 40 ms at most (`STOP_MILLIS`) and the last look.
-    /// If memory runs out, the node is not crashed. The clause says only how a number is answered
-    /// that no node has.
+    /// Crashes a node, for good. Returns false if no node of this number is served, if it has
+    /// crashed, or if this was ordered before. Queues the order, and waits until the node has
+    /// crashed, at most [`STOP_MILLIS`] (40 ms) and one look more. Fails only if memory runs out:
+    /// then the node is not crashed. The clause covers only a number that no node has.
     pub fn crash<R: Wait + Clock>(&self, rt: &R, number: u8) -> Result<bool, Memory>
         ensures none { is_node self.now number ≡ false → result ≡ Ok false }
     {
@@ -126,10 +133,9 @@ impl Cluster {
         Ok(true)
     }
 
-    /// Queues the order to end the session of a client for the running active primary of the
-    /// highest ballot. That is the one by what each node showed after its last change: no node is
-    /// asked. Returns whether there is such a node. If memory runs out, the order is not queued. No
-    /// clause says any of this.
+    /// Queues the order to end a client's session for the active primary of the highest ballot that
+    /// has not crashed, by what each node showed last: no node is asked. Returns false if there is
+    /// none. If memory runs out, nothing is queued. No clause says any of this.
     pub fn expel<R: Wait + Clock>(&self, rt: &R, client: &ClientId) -> Result<bool, Memory> {
         let shown = self.shown(rt)?;
         let Some(number) = primary_of(shown.as_slice()) else {
@@ -142,7 +148,7 @@ impl Cluster {
         Ok(true)
     }
 
-    // Returns the status of each node that is served, after its last change.
+    // Returns the status that each served node showed last.
     fn shown<R: Wait + Clock>(&self, rt: &R) -> Result<Vec<Shown>, Memory> {
         let mut shown = Vec::with_capacity(self.alloc, self.nodes.len())?;
         for node in &self.nodes {
@@ -156,9 +162,9 @@ impl Cluster {
         Ok(shown)
     }
 
-    /// Returns the status of a node after its last change. There is none if no node has this
-    /// number, or if it is not served within about a second (`STATUS_LOOKS`). The clause says only
-    /// that some node has the number.
+    /// Returns the status that a node showed last. Returns none if no node has this number, or if
+    /// it is not served within [`STATUS_LOOKS`] looks, about a second. The clause says only that
+    /// some node has the number.
     pub fn status<R: Wait + Clock>(&self, rt: &R, number: u8) -> Option<Status>
         ensures { OnSome result (is_node self.now number ≡ true) }
     {
@@ -180,21 +186,19 @@ impl Cluster {
         self.nodes.len() > 1
     }
 
-    // Returns true if each of these numbers is that of a node.
     fn has_all(&self, numbers: &[u8]) -> bool
         ensures { result ≡ are_nodes self.now numbers.now }
     {
         numbers.iter().all(|number| self.has(*number))
     }
 
-    // Returns true if a node has this number.
     fn has(&self, number: u8) -> bool
         ensures { result ≡ is_node self.now number }
     {
         self.node(number).is_some()
     }
 
-    /// Returns the node of a number.
+    /// Returns the node of this number.
     pub fn node(&self, number: u8) -> Option<&Peer>
         ensures some { IfSome result (λ node. node.now.number ≡ number) }
         ensures is { is_some result ≡ is_node self.now number }
@@ -203,11 +207,11 @@ impl Cluster {
         self.nodes.iter().find(|node| node.number == number)
     }
 
-    /// Queues what steps of a node gave for others, in order. `giver` is that node's state, as
-    /// evidence that the caller has its lock: so messages keep the order of the steps. A message
-    /// for a number that no node has is lost. A message of a node wakes nobody: the caller has it
-    /// taken, or calls [`Cluster::wake_urgent`], once it has released the lock. No clause says that
-    /// a message waits in an outbox afterwards.
+    /// Queues what a node's steps gave for others, in order. `giver` is that node's state, as
+    /// evidence that the caller holds its lock, so messages keep the order of the steps. A message
+    /// for a number that no node has is lost. No receiver is woken for a message of a node: the
+    /// caller has it taken, or calls [`Cluster::wake_urgent`], once it has released the lock. No
+    /// clause says that a message waits in an outbox afterwards.
     pub fn queue_given<J: NodeNaming, R: Wait>(
         &self,
         rt: &R,
@@ -226,7 +230,7 @@ impl Cluster {
         }
     }
 
-    // Queues a message that a step of a node gave for a node.
+    // Queues a node's message for another node.
     fn queue<R: Wait>(&self, rt: &R, addressed: AddressedMessage)
         requires { IsMasterNumber addressed.receiver → ⊥ }
     {
@@ -236,7 +240,7 @@ impl Cluster {
         }
     }
 
-    // Lets the master answer a message that a step of a node gave for it.
+    // Passes a node's message to the master, and queues the answer.
     fn ask_master<R: Wait>(&self, rt: &R, addressed: AddressedMessage)
         requires { IsMasterNumber addressed.receiver }
     {
@@ -246,7 +250,7 @@ impl Cluster {
         }
     }
 
-    // Returns the master's answer to a message that a step of a node gave for it.
+    // Returns the master's answer to a node's message.
     fn answer<R: Wait>(&self, rt: &R, addressed: AddressedMessage) -> Option<Answer>
         requires { IsMasterNumber addressed.receiver }
     {
@@ -254,7 +258,7 @@ impl Cluster {
         addressed.ask(&mut master)
     }
 
-    // Queues an answer of the master for its receiver.
+    // Queues an answer of the master for its receiver, and wakes that.
     fn queue_answer<R: Wait>(&self, rt: &R, answer: Answer) {
         match self.node(answer.receiver()) {
             Some(node) => node.queue_answer(rt, answer),
@@ -262,7 +266,7 @@ impl Cluster {
         }
     }
 
-    // Loses an answer of the master: no node has the number of its receiver.
+    // Drops an answer of the master: no node has its receiver's number.
     fn lose(&self, answer: Answer)
         requires { has_id answer.receiver self.now ≡ false }
     {
@@ -270,8 +274,8 @@ impl Cluster {
     }
 }
 
-// Waits until a node has stopped, but not for long. Each look sleeps a millisecond, and on a busy
-// machine longer, so mostly the time ends the waiting before the looks do.
+// Waits until a node has crashed or the deadline has passed. Each look sleeps a millisecond, and on
+// a busy machine longer, so mostly the deadline ends it, not the number of looks.
 fn await_stop<R: Wait + Clock>(rt: &R, node: &Peer) {
     let Ok(start) = Instant::now(rt) else {
         return;
@@ -284,13 +288,12 @@ fn await_stop<R: Wait + Clock>(rt: &R, node: &Peer) {
     }
 }
 
-// Returns true if a node has stopped, by its status after its last change.
 fn has_stopped<R: Wait>(rt: &R, node: &Peer) -> bool {
     matches!(node.status(rt), Some(status) if status.stopped)
 }
 
-// Returns true if the time is over that a node gets to stop, counted from `start`. It is over, too,
-// if the clock cannot be read.
+// Returns true once the deadline of a crash has passed, counted from `start`, or if the clock
+// cannot be read.
 fn had_its_time<R: Clock>(rt: &R, start: Instant) -> bool {
     match start.elapsed(rt) {
         Ok(time) => time.as_millis() >= u128::from(STOP_MILLIS),
@@ -298,7 +301,6 @@ fn had_its_time<R: Clock>(rt: &R, start: Instant) -> bool {
     }
 }
 
-// Returns a peer for each number.
 fn peers_of(alloc: Global, numbers: &[u8]) -> Result<Vec<Peer>, Memory>
     ensures { IfOk result (λ nodes. peer_numbers nodes.items ≡ numbers.now) }
 {
@@ -312,12 +314,11 @@ fn peers_of(alloc: Global, numbers: &[u8]) -> Result<Vec<Peer>, Memory>
 // The nodes and the master, as receivers of messages.
 #[derive(Drop)]
 struct NodesAndMaster<'a> {
-    // Has their outboxes and the master.
     cluster: &'a Cluster,
 }
 
 impl<'a> Receivers for NodesAndMaster<'a> {
-    // It queues in outboxes under their locks, of which no clause says anything.
+    // It queues under the locks of outboxes, of which no clause speaks.
     ghost queues = { λ _ _ _ _. Unit {0} };
 
     fn queue<R: Wait>(&mut self, rt: &R, addressed: AddressedMessage) {

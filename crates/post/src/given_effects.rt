@@ -1,4 +1,4 @@
-// What steps of a node gave for others, queued message by message in order.
+// Queuing what a node's steps gave for others, in order.
 
 ghost use Rattle.std.specs.Prelude.{◌≡◌, [], ◌∷◌};
 ghost use Rattle.lists.specs.Lists.{Each};
@@ -16,7 +16,7 @@ use std::sync::Wait;
 ///
 /// [`Cluster::queue_given`]: crate::Cluster::queue_given
 pub struct GivenEffects {
-    // Messages and outputs. A step of a node gave each.
+    // Messages and outputs, each produced by a node's step.
     effects: Vec<Effect<Command, Output>>,
 }
 
@@ -51,16 +51,15 @@ pub trait Receivers {
     ghost use Rattle.broker_spec.specs.declared.command.Command.{Command};
     ghost use Rattle.ballot_base.specs.declared.message.Message.{Message};
 
-    // The state before a call, the receiver of the message, the message, and the state after it.
+    // The state before a call, the receiver's number, the message, and the state after it.
     ghost queues: { Self → ℕ → Message Command → Self → Type 0 };
 
-    /// Queues a message that a step of a node gave for its receiver.
+    /// Queues a node's message for its receiver.
     fn queue<R: Wait>(&mut self, rt: &R, addressed: AddressedMessage)
         ensures { queues self.old addressed.receiver addressed.message self.new };
 }
 
-/// Queues all that steps of a node gave for others, in order, each message once. Outputs are for no
-/// other node.
+/// Queues all messages among the effects, in order, each once. Outputs are for no other node.
 pub fn queue_all<C: Receivers, R: Wait>(rt: &R, receivers: &mut C, given: GivenEffects)
     ensures { QueuesAll C.queues receivers.old (messages_of given) receivers.new }
 {
@@ -68,7 +67,6 @@ pub fn queue_all<C: Receivers, R: Wait>(rt: &R, receivers: &mut C, given: GivenE
     queue_each(rt, receivers, effects);
 }
 
-// Queues what each of these effects has for another node.
 fn queue_each<C: Receivers, R: Wait>(
     rt: &R,
     receivers: &mut C,
@@ -82,7 +80,6 @@ fn queue_each<C: Receivers, R: Wait>(
     }
 }
 
-// Queues what one effect has for another node.
 fn queue_one<C: Receivers, R: Wait>(rt: &R, receivers: &mut C, effect: Effect<Command, Output>)
     requires { WasGiven effect }
     ensures { QueuesAll C.queues receivers.old (messages_of (effect ∷ [])) receivers.new }

@@ -1,6 +1,5 @@
-//! Messages between the nodes of one program and their master: messages that steps of nodes gave,
-//! messages of the master, and orders. Each node has an outbox in which they wait for it, and a
-//! waker for the thread that takes them.
+//! Messages between the nodes of one program and their master. Each node has an outbox in which
+//! messages and orders for it wait, and a waker for the thread that takes them.
 #![tactic(auto)]
 
 mod addressed_message;

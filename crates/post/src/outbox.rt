@@ -1,4 +1,4 @@
-//! What waits for one node: messages of other nodes, answers of the master, and orders. It has the
+//! What waits for one node: messages of other nodes, answers of the master, and orders. Also the
 //! master, whose answers are messages, and the waker of the thread that takes what waits.
 
 mod messaging_master;

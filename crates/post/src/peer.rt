@@ -1,4 +1,12 @@
 // A node as the other nodes of its program see it.
+//
+// Each part has a lock of its own, held for one call at most: a thread that shows a status, queues
+// a message or wakes the node waits for no turn of that node. `queue_addressed` runs under the
+// giver's state and wakes nobody. `show` runs under the node's own state, so statuses come in the
+// order of its steps. Bytes of clients are reserved by `admit` before they are sent to the node,
+// and moved by `count_taken` once it has taken them; `AdmittedBytes` cannot be dropped, so no path
+// forgets the second. Before the own thread sleeps it calls `doze` and looks once more, so an item
+// that was queued just then is found, or wakes it.
 
 ghost use Rattle.std.specs.Prelude.{◌≡◌, ◌≤◌, IfOk, IfSome, IsErrOf, false, true};
 ghost use Rattle.ballot_base.specs.LawfulConfig.{is_lawful};
@@ -20,19 +28,18 @@ use std::sync::{Mutex, Wait};
 use std::time::Duration;
 use world_base::node_core::Item;
 
-// Whether an item waits that wakes the node, and whether many wait.
 #[derive(Clone, Copy)]
 struct Urgency {
-    // Whether an item waits that wakes the node.
+    // True if an item waits for which the node is to be woken.
     is_urgent: bool,
-    // Whether enough items wait that the node's own thread should take them.
+    // True if so many wait that the node's own thread should take them.
     is_long: bool,
 }
 
-/// Bytes of a client that count as in transit to a node. It cannot be dropped: it ends when they
-/// are counted as taken. So no code forgets to count them.
+/// Bytes of a client in transit to a node, reserved of its intake budget. It cannot be dropped: it
+/// ends when they are counted as taken.
 pub struct AdmittedBytes {
-    // How many they are; 0 if there is nothing to count.
+    // 0 if nothing is reserved.
     bytes: u64,
 }
 
@@ -45,21 +52,19 @@ impl Model for AdmittedBytes {
 }
 
 /// A node, and what waits for it. Its own thread takes what waits, and sleeps until something
-/// comes. Another thread may take it too, if it holds the node's lane. All but the number is under
+/// comes; another thread may take it, too, if it holds the node's lane. All but the number is under
 /// locks, so no clause of a call says what waits, or what was shown.
 #[derive(Drop)]
 pub struct Peer {
     /// The node's number.
     pub number: u8,
-    // What the other nodes and the master have for it. It is this node's, but it is under a lock,
-    // so no clause says that (see `Outbox`). Whoever locks it compares the numbers, which are
-    // always equal.
+    // What others have for the node. It is this node's, but is under a lock, so no clause says that
+    // (see `Outbox`): whoever locks it compares the numbers, which are always equal.
     outbox: Mutex<Outbox>,
-    // Its status after its last change, and what it takes from its clients.
+    // Its intake budget, and its status after its last change.
     intake: Mutex<Intake>,
-    // Whether the order to crash was queued for it.
+    // True once the order to crash was queued for it.
     is_crash_ordered: Mutex<bool>,
-    // Lets its own thread sleep, and wakes it.
     waker: Waker,
 }
 
@@ -77,8 +82,9 @@ impl Peer {
         }
     }
 
-    /// Queues an item for the node, and wakes it if the item asks for that. Returns whether it was
-    /// queued; it is lost if memory runs out, or if the outbox were another node's (see `Outbox`).
+    /// Queues an item for the node, and wakes it if the item is urgent. Returns false if the item
+    /// is lost: memory ran out, there was no room, or the outbox were another node's (see
+    /// `Outbox`).
     pub(crate) fn queue<R: Wait>(&self, rt: &R, item: Item) -> bool
         requires { IsPosted self.now.number item }
     {
@@ -90,9 +96,9 @@ impl Peer {
         is_queued
     }
 
-    /// Queues a message of another node for the node, and wakes nobody: its giver does so, or has
-    /// it taken, once it has released its own node's lock. If there is no room or memory for it, it
-    /// is lost, as the protocol allows.
+    /// Queues a message of another node, and wakes nobody: its giver does that, or has it taken,
+    /// once it has released its own node's lock. Without room or memory the message is lost, as the
+    /// protocol allows.
     pub(crate) fn queue_addressed<R: Wait>(&self, rt: &R, addressed: AddressedMessage)
         requires { addressed.receiver ≡ self.now.number }
     {
@@ -105,8 +111,8 @@ impl Peer {
         }
     }
 
-    /// Queues the order to crash, unless it was queued before. Returns whether it was queued now.
-    /// If memory runs out, it is not.
+    /// Queues the order to crash. Returns false if it was queued before. Fails if memory runs out:
+    /// then it is not queued.
     pub(crate) fn queue_crash<R: Wait>(&self, rt: &R) -> Result<bool, Memory> {
         let mut is_ordered = self.is_crash_ordered.lock(rt);
         if *is_ordered {
@@ -119,7 +125,7 @@ impl Peer {
         Ok(true)
     }
 
-    /// Queues the order to end the session of a client. If memory runs out, it is not queued.
+    /// Queues the order to end a client's session. Fails if memory runs out: then it is not queued.
     pub(crate) fn queue_expel<R: Wait>(&self, rt: &R, client: &ClientId) -> Result<(), Memory> {
         if self.queue(rt, Item::Expel(client.clone()?)) {
             Ok(())
@@ -128,8 +134,8 @@ impl Peer {
         }
     }
 
-    /// Lets the master give the next ballot to a configuration whose primary is this node, and
-    /// queues its message for the node.
+    /// Assigns the master's next ballot to a configuration whose primary is this node, queues the
+    /// master's message, and wakes the node.
     pub(crate) fn assign<R: Wait>(
         &self,
         rt: &R,
@@ -149,8 +155,7 @@ impl Peer {
         ballot
     }
 
-    // Lets the master give the next ballot to a configuration whose primary is this node. It queues
-    // the message, and does not wake the node.
+    // Does what `assign` does, except that it does not wake the node.
     fn assign_locked<R: Wait>(
         &self,
         rt: &R,
@@ -174,8 +179,7 @@ impl Peer {
         outbox.assign(alloc, &mut master, config)
     }
 
-    /// Queues an answer of the master for the node, and wakes it. If there is no memory for it, it
-    /// is lost.
+    /// Queues an answer of the master, and wakes the node. Without memory the answer is lost.
     pub(crate) fn queue_answer<R: Wait>(&self, rt: &R, answer: Answer)
         requires { answer.receiver ≡ self.now.number }
     {
@@ -196,7 +200,7 @@ impl Peer {
         }
     }
 
-    // Puts an item into the node's outbox. Returns whether there was memory for it.
+    // Puts an item into the node's outbox. Returns false if it is lost.
     fn push<R: Wait>(&self, rt: &R, item: Item) -> bool
         requires { IsPosted self.now.number item }
     {
@@ -205,8 +209,8 @@ impl Peer {
         outbox.number() == self.number && outbox.queue(item)
     }
 
-    /// Takes all that waits now, in the order in which it was queued. The clause says only that
-    /// each item is one that may wait here.
+    /// Takes all that waits, in order. The clause says only that each item is one that may wait
+    /// here.
     pub fn take_waiting<R: Wait>(&self, rt: &R, alloc: Global) -> Vec<Item>
         ensures { Each (IsQueued self.now.number) result.items }
     {
@@ -223,9 +227,8 @@ impl Peer {
         !self.outbox.lock(rt).is_empty()
     }
 
-    /// Asks a thread that queued something for the node to do its turn. Returns whether it should:
-    /// few items wait, one of them is urgent, and the node's own thread sleeps. If more wait, wakes
-    /// that thread.
+    /// Returns true if the calling thread should do this node's turn: an urgent item waits, few
+    /// wait in all, and the node's own thread sleeps. If many wait, wakes that thread instead.
     pub fn ask_for_help<R: Wait>(&self, rt: &R) -> bool {
         let waiting = self.urgency(rt);
         if waiting.is_urgent && waiting.is_long {
@@ -235,7 +238,6 @@ impl Peer {
         waiting.is_urgent && self.waker.is_asleep(rt)
     }
 
-    // Returns how urgent it is to take what waits.
     fn urgency<R: Wait>(&self, rt: &R) -> Urgency {
         let outbox = self.outbox.lock(rt);
         Urgency {
@@ -256,27 +258,27 @@ impl Peer {
         self.waker.wake(rt);
     }
 
-    /// Notes that the node's own thread is about to sleep: it looks for work once more after this
-    /// call. Returns whether there is some already.
+    /// Notes that the node's own thread is about to sleep. Returns true if something waits already:
+    /// then it should not sleep.
     pub fn doze<R: Wait>(&self, rt: &R) -> bool {
         self.waker.doze(rt);
         self.is_wanted(rt)
     }
 
-    /// Sleeps until the node is woken, at most this long.
+    /// Sleeps until the node is woken, or until `time` has passed.
     pub fn sleep<R: Wait>(&self, rt: &R, time: Duration) {
         self.waker.sleep(rt, time);
     }
 
-    /// Shows the node's status to the other nodes. A thread that changes the node does so before it
+    /// Shows the node's status to the other nodes. Whoever changes the node calls this before it
     /// releases the node's lock.
     pub fn show<R: Wait>(&self, rt: &R, status: Status) {
         self.intake.lock(rt).show(status);
     }
 
-    /// Counts this many bytes of a client as in transit to the node, if it takes more. It takes
-    /// none while too much of what it took is not agreed, so that what waits for a member that lags
-    /// is bounded. No clause says when it takes more.
+    /// Reserves `bytes` of the node's intake budget, if any is left. None is while too much of what
+    /// the node took is not agreed, so what waits for a member that lags is bounded. No clause says
+    /// when some is left.
     pub fn admit<R: Wait>(&self, rt: &R, bytes: u64) -> Option<AdmittedBytes>
         requires { bytes ≤ PIECE_BYTES }
         ensures { IfSome result (λ admitted. admitted ≡ bytes) }
@@ -288,7 +290,7 @@ impl Peer {
         }
     }
 
-    /// Counts bytes that were in transit, if there are some, as taken.
+    /// Counts reserved bytes, if there are any, as taken.
     pub fn count_taken<R: Wait>(&self, rt: &R, admitted: Option<AdmittedBytes>) {
         match admitted {
             Some(AdmittedBytes { bytes }) => self.intake.lock(rt).count_taken(bytes),
@@ -296,7 +298,7 @@ impl Peer {
         }
     }
 
-    /// Returns the node's status after its last change. There is none before it is served.
+    /// Returns the status that the node showed last; none before it is served.
     pub(crate) fn status<R: Wait>(&self, rt: &R) -> Option<Status> {
         self.intake.lock(rt).status()
     }

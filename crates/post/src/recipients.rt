@@ -1,20 +1,21 @@
-// The node for which an order about a client is queued.
+// The node to which an order about a client goes.
 
 ghost use Rattle.std.specs.Prelude.{◌≡◌, IfSome, None};
 ghost use Rattle.post.specs.Primaries.{IsHighest, NoneServes, higher, serves};
 
 use ballot_base::Status;
 
-/// A node's number, and its status after its last change.
+/// A node's number, and the status that it showed last.
 #[derive(Clone, Copy)]
 pub(crate) struct Shown {
     /// The node's number.
     pub(crate) number: u8,
-    /// That status. The node may have changed since.
+    /// The node may have changed since.
     pub(crate) status: Status,
 }
 
-/// Returns the number of the running active primary of the highest ballot among these nodes.
+/// Returns the number of the node that serves in the highest ballot: an active primary that did not
+/// crash.
 pub(crate) fn primary_of(nodes: &[Shown]) -> Option<u8>
     ensures some { IfSome result (λ number. IsHighest number nodes.now) }
     ensures none { result ≡ None → NoneServes nodes.now }
@@ -29,7 +30,8 @@ pub(crate) fn primary_of(nodes: &[Shown]) -> Option<u8>
     }
 }
 
-// Returns which of two nodes serves in the higher ballot: the first one if both have the same.
+// Returns the one of two nodes that serves in the higher ballot; the first if the ballots are
+// equal.
 fn higher(found: Option<Shown>, shown: Shown) -> Option<Shown>
     ensures { result ≡ higher found shown }
 {
@@ -43,7 +45,7 @@ fn higher(found: Option<Shown>, shown: Shown) -> Option<Shown>
     }
 }
 
-// Returns true if a node serves clients.
+// Returns true for an active primary that did not crash.
 fn serves(shown: Shown) -> bool
     ensures { result ≡ serves shown }
 {

@@ -48,7 +48,7 @@ pub fn opened(alloc: Global) -> Result<World> {
     Ok(World::opening(alloc, 3, config(alloc, 1)?, clients.as_slice())?)
 }
 
-// Adds the clients. The list is lent, so that no way out of the loop has to drop it.
+// Adds the clients. The list is lent, so that no exit from the loop has to drop it.
 fn put_all(alloc: Global, clients: &mut Vec<ClientId>) -> Result<()> {
     for name in &CLIENTS {
         clients.push(ClientId::new(alloc, name)?)?;
@@ -67,14 +67,14 @@ pub fn named(alloc: Global, client: usize) -> Result<ClientId> {
     Ok(ClientId::new(alloc, CLIENTS[client % 4])?)
 }
 
-/// Lets an event happen.
+/// Does an event.
 pub fn let_happen(world: &mut World, course: &mut Course, event: &Event) -> Result<()> {
     ensure!(world.step(event).is_ok(), "an event could not happen");
     course.events = course.events.saturating_add(1);
     Ok(())
 }
 
-/// Lets an event happen that is made for it, and is proved to be dropped here alone.
+/// Does an event that is made for it, so that its drop is proved here alone.
 pub fn let_happen_and_drop(world: &mut World, course: &mut Course, event: Event) -> Result<()> {
     let happened = let_happen(world, course, &event);
     drop(event);

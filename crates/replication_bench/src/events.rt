@@ -94,7 +94,7 @@ fn time(
     Ok(times)
 }
 
-// Has another node take over, if that is measured.
+// Lets another node take over, if that is measured.
 fn next(
     rt: &HostRuntime,
     world: &mut World,

@@ -65,8 +65,8 @@ fn let_happen(group: &mut Group<Tally>, events: u64, asks: bool) -> Result<u64> 
     Ok(asked)
 }
 
-// Lets the event of a number happen. Returns whether it did. The event is dropped once, and not on
-// each way out of a loop.
+// Does the event of this number. Returns false if it is idle. The event is dropped once, and not at
+// each exit from a loop.
 fn let_one_happen(group: &mut Group<Tally>, number: u64) -> bool {
     let event = event_at(number);
     let happened = group.step(&event).is_ok();

@@ -19,7 +19,7 @@ pub fn run(rt: &HostRuntime) -> Result<()> {
     measure(rt, 1_000_000)
 }
 
-// Measures with a group of its own. Each function below is lent the group, so that no way out of it
+// Measures with a group of its own. Each function below is lent the group, so that no exit from it
 // has to drop it.
 fn measure(rt: &HostRuntime, places: u64) -> Result<()> {
     let mut group = opened(rt.alloc(), &[1])?;
@@ -44,7 +44,7 @@ fn print(rt: &HostRuntime, whole: u128, longest: u128, agreed: u64) -> Result<()
     Ok(())
 }
 
-// Lets the sole member of a group hold this many places.
+// Appends commands until the sole member of a group holds this many places.
 fn serve(group: &mut Group<Tally>, places: u64) -> Result<()> {
     for number in 0..places {
         ensure!(propose(group, number), "a step ran out of memory");
@@ -60,7 +60,7 @@ fn propose(group: &mut Group<Tally>, number: u64) -> bool {
     happened
 }
 
-// Has members 2 and 3 take over. Returns the time of the longest event.
+// Lets members 2 and 3 take over. Returns the time of the longest event.
 fn take_over(rt: &HostRuntime, group: &mut Group<Tally>) -> Result<Duration> {
     change(rt, group)?;
     let mut longest = Duration::ZERO;
@@ -76,7 +76,7 @@ fn change(rt: &HostRuntime, group: &mut Group<Tally>) -> Result<()> {
     Ok(())
 }
 
-// Lets a message come. Returns the time in which it does.
+// Delivers a message. Returns the time that it takes.
 fn deliver(rt: &HostRuntime, group: &mut Group<Tally>, number: u64) -> Result<Duration> {
     let start = rt.process_cpu_time()?;
     group.step(&Event::Deliver(number))?;

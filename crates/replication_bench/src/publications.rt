@@ -25,7 +25,7 @@ pub struct Publications {
 }
 
 impl Publications {
-    /// Makes them, once for all publishers, which copy them.
+    /// Returns them, made once for all publishers, which copy them.
     pub fn new(alloc: Global) -> Result<Publications> {
         let first = publication(alloc, 0)?;
         match publication(alloc, 1) {

@@ -32,7 +32,7 @@ fn assign(alloc: Global, world: &mut World, course: &mut Course, primary: u8) ->
     let_happen_and_drop(world, course, event)
 }
 
-// Has a client lose its connection and connect to the new primary.
+// Reconnects a client to the new primary.
 fn reconnect(
     alloc: Global,
     world: &mut World,
@@ -48,7 +48,7 @@ fn reconnect(
     connect(alloc, world, course, client)
 }
 
-// Lets the node see the end of a connection. That is idle if the node has closed it before.
+// Reports the end of a connection to its node. That is idle if the node has closed it before.
 fn notice(world: &mut World, course: &mut Course, connection: u64) {
     let event = Event::Notice(connection);
     let _ = world.step(&event);

@@ -1,4 +1,4 @@
--- The fields of a line, and what each kind of field writes. Texts are bytes.
+-- The fields of a line, and the value that each kind of field denotes. Texts are bytes.
 use Rattle.std.specs.Prelude.{ℕ, Bool, true, false, ◌&&◌, ◌^◌, ◌==◌, nat_lt, if◌then◌else◌, List, [], ◌∷◌, length, codes, bytes_eq, Option, Some, None, option_map, map}
 use Rattle.std.specs.Borrow.{Bor}
 use Rattle.std.specs.List.{slice_split}
@@ -22,11 +22,11 @@ Text = List ℕ
 abbrev pub texts : List (Bor Text) → List Text
 texts borrowed = map (λ text. text.now) borrowed
 
--- what is between the spaces, 32
+-- the parts between spaces, 32
 unfoldable pub fields_of : Text → List Text
 fields_of line = slice_split (λ byte. byte == 32) line
 
--- what is between the commas, 44
+-- the parts between commas, 44
 unfoldable pub parts_of : Text → List Text
 parts_of field = slice_split (λ byte. byte == 44) field
 
@@ -39,7 +39,7 @@ unfoldable pub parse_number : Text → Option ℕ
 parse_number text = if is_decimal text && nat_lt (digits_value 10 text) (2 ^ 64)
     then Some (digits_value 10 text) else None
 
--- the QoS of a number; there are three
+-- the QoS of a number, 0 to 2
 abbrev pub qos_of_number : Option ℕ → Option QoS
 qos_of_number None = None
 qos_of_number (Some number) =
@@ -61,13 +61,13 @@ bit_of (Some number) =
 unfoldable pub parse_retain : Text → Option Bool
 parse_retain text = bit_of (parse_number text)
 
--- `all`, or a number
+-- an amount: `all`, or a number
 unfoldable pub parse_amount : Text → Option Amount
 parse_amount text =
     if bytes_eq text (codes "all") then Some amounts.All else
     option_map amounts.Bytes (parse_number text)
 
--- `-` for no byte, or two hexadecimal digits for each
+-- a payload: `-` if it is empty, or two hexadecimal digits for each byte
 unfoldable pub parse_payload : Text → Option Text
 parse_payload text =
     if bytes_eq text (codes "-") then Some [] else
@@ -90,13 +90,13 @@ parse_topic text = unless (topic_fault text) text
 unfoldable pub parse_filter : Text → Option Text
 parse_filter text = unless (filter_fault text) text
 
--- the first value and the others, if there are both
+-- the first value followed by the others, if there are both
 abbrev pub with_first_value : {X : Type 0} → Option X → Option (List X) → Option (List X)
 with_first_value (Some first) (Some others) = Some (first ∷ others)
 with_first_value (Some first) None = None
 with_first_value None others = None
 
--- what all of the texts write, if each writes something
+-- the values of all texts, if each has one
 abbrev pub all_of : {X : Type 0} → (Text → Option X) → List Text → Option (List X)
 all_of reads [] = Some []
 all_of reads (text ∷ texts) = with_first_value (reads text) (all_of reads texts)

@@ -1,4 +1,4 @@
--- The form of each line after the first: its fields, and what they say.
+-- The form of each line after the first: its fields, and their meaning.
 use Rattle.std.specs.Prelude.{◌≡◌, ℕ, Bool, List, [], ◌∷◌, codes, Some}
 use Rattle.packet_base.specs.declared.qos.QoS.{QoS}
 use Rattle.script.specs.Fields.{Text, parse_amount, parse_client, parse_filter, parse_number, parse_numbers, parse_payload, parse_qos, parse_retain, parse_topic}
@@ -6,7 +6,7 @@ use Rattle.script.specs.declared.script_line.Amount.{Amount}
 use Rattle.script.specs.declared.script_line.ScriptLine.{ScriptLine}
 use Rattle.script.specs.declared.script_line.ScriptLine.TheVariants as lines
 
--- the line of these fields says this
+-- the line of these fields means this
 pub data IsLine : List Text → ScriptLine → Type 0 where
   -- `assign 2,3 2`
   assign : {members_field primary_field : Text} {members : List ℕ} {primary : ℕ}

@@ -1,4 +1,4 @@
--- The form of a whole script: its lines, the first of them, and the first line without its form.
+-- The form of a whole script: its lines, the first of them, and the first malformed line.
 use Rattle.std.specs.Prelude.{◌≡◌, ◌==◌, ◌&&◌, ◌-◌, ◌+◌, ℕ, suc, zero, Bool, true, not, nat_le, if◌then◌else◌, List, [], ◌∷◌, length, slice_index, take, codes, bytes_eq, Some, ◌⊎◌}
 use Rattle.std.specs.List.{list_all, list_any, slice_split}
 use Rattle.std.specs.Str.{IsUtf8}
@@ -11,12 +11,12 @@ use Rattle.script.specs.declared.opening.Opening.{Opening}
 use Rattle.script.specs.declared.script_line.ScriptLine.{ScriptLine}
 use Rattle.script.specs.declared.script_reader.Script.{Script}
 
--- a line feed, 10, after the last line may be missing
+-- the text without a line feed, 10, at its end
 abbrev pub without_last_feed : Text → Text
 without_last_feed text =
     if slice_index text (length text - 1) == 10 then take (length text - 1) text else text
 
--- what is between the line feeds
+-- the parts between line feeds
 unfoldable pub lines_of : Text → List Text
 lines_of text = slice_split (λ byte. byte == 10) (without_last_feed text)
 
@@ -59,7 +59,7 @@ IsOpeningLine line opening = IsUtf8 line × IsOpening (fields_of line) opening
 abbrev pub IsOtherLine : Text → ScriptLine → Type 0
 IsOtherLine line script_line = IsUtf8 line × IsLine (fields_of line) script_line
 
--- the lines say these, one after another
+-- the meanings of these lines, one after another
 abbrev pub AreLines : List Text → List ScriptLine → Type 0
 AreLines [] [] = Unit {0}
 AreLines [] (script_line ∷ script_lines) = ⊥
@@ -81,13 +81,13 @@ HasSomeForm line = (script_line : ScriptLine) × IsOtherLine line script_line
 abbrev pub HasOpening : Text → Type 0
 HasOpening line = (opening : Opening) × IsOpeningLine line opening
 
--- the line of this index is the first without its form
+-- the line of this index is the first malformed one
 abbrev pub IsFirstBad : List Text → ℕ → Type 0
 IsFirstBad [] index = ⊥
 IsFirstBad (line ∷ lines) zero = ¬ (HasSomeForm line)
 IsFirstBad (line ∷ lines) (suc index) = HasSomeForm line × IsFirstBad lines index
 
--- lines are refused by the number of the first without its form, or because memory ran out
+-- lines are refused by the number of the first malformed one, or because memory ran out
 abbrev pub Refuses : List Text → ScriptFault → Type 0
 Refuses lines errors.Memory = Unit {0}
 Refuses [] (errors.Line number) = number ≡ 1

@@ -1,4 +1,4 @@
--- The laws that `src/laws.rt` proves.
+-- What `src/theorems.rt` proves.
 use Rattle.std.specs.Prelude.{◌≡◌, ℕ, List}
 use Rattle.script.specs.Fields.{Text}
 use Rattle.script.specs.Lines.{IsLine}
@@ -7,12 +7,12 @@ use Rattle.script.specs.declared.error.ScriptFault.TheVariants as errors
 use Rattle.script.specs.declared.script_line.ScriptLine.{ScriptLine}
 use Rattle.script.specs.declared.script_reader.Script.{Script}
 
--- the form of a line leaves no choice
+-- a line has one meaning at most
 abbrev pub OneMeaningALine : Type 0
 OneMeaningALine = (fields : List Text) (line other : ScriptLine) → IsLine fields line
     → IsLine fields other → line ≡ other
 
--- a script has no line without its form
+-- no line of a script is malformed
 abbrev pub NoScriptIsRefused : Type 0
 NoScriptIsRefused = (lines : List Text) (script : Script) (number : ℕ) → IsScript lines script
     → Refuses lines (errors.Line number) → ⊥

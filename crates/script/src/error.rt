@@ -8,7 +8,7 @@ use topics::MalformedKind;
 /// Why a text was not read as a script.
 #[derive(Clone, Copy, Debug, PartialEq, Eq)]
 pub enum ScriptFault {
-    /// The first line that does not have its form, counted from 1.
+    /// The first malformed line, counted from 1.
     Line(u64),
     /// Memory ran out.
     Memory,
@@ -50,7 +50,7 @@ impl<T: Drop> From<AllocFailed<T>> for ScriptFault {
 /// Why a line or one of its fields was not read.
 #[derive(Clone, Copy, Debug, PartialEq, Eq)]
 pub(crate) enum FieldFault {
-    /// It does not have its form.
+    /// It is malformed.
     Form,
     /// Memory ran out.
     Memory,

@@ -12,7 +12,7 @@ use packet_base::ClientId;
 use session_base::Publication;
 use std::alloc::Global;
 
-// Returns the number of a line that has one more field.
+// Returns the number of a line with one field after its word.
 fn one_number(fields: &[&str]) -> Result<u64, FieldFault>
     ensures value { IfOk result (λ number. only parse_number (texts fields.now) ≡ Some number) }
     ensures form { IsErrOf result FieldFault.Form → only parse_number (texts fields.now) ≡ None }
@@ -23,7 +23,7 @@ fn one_number(fields: &[&str]) -> Result<u64, FieldFault>
     }
 }
 
-// Returns the client of a line that has one more field.
+// Returns the client of a line with one field after its word.
 fn one_client(alloc: Global, fields: &[&str]) -> Result<ClientId, FieldFault>
     ensures value { IfOk result (λ client. only parse_client (texts fields.now) ≡ Some client) }
     ensures form { IsErrOf result FieldFault.Form → only parse_client (texts fields.now) ≡ None }
@@ -187,7 +187,6 @@ pub(crate) fn publish(alloc: Global, fields: &[&str]) -> Result<ScriptLine, Fiel
     Ok(ScriptLine::Publish(name, sent))
 }
 
-// Returns the publication of the last four fields.
 #[tactic(auto, unfolding(crate::specs::Inside::LineReader::parse_publication))]
 fn publication(
     alloc: Global,

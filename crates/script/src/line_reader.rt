@@ -1,4 +1,4 @@
-// What the lines after the first say.
+// Reading the lines after the first.
 
 ghost use Rattle.std.specs.Prelude.{◌≡◌, Some, None, IfOk, IsErrOf};
 ghost use Rattle.script.specs.Fields.{texts};
@@ -9,7 +9,7 @@ use crate::forms;
 use crate::script_line::ScriptLine;
 use std::alloc::Global;
 
-/// Returns what the fields of a line say.
+/// Returns the meaning of a line. Fails with `Form` if it is malformed.
 pub(crate) fn line_of(alloc: Global, fields: &[&str]) -> Result<ScriptLine, FieldFault>
     ensures value { IfOk result (λ line. line_of (texts fields.now) ≡ Some line) }
     ensures form { IsErrOf result FieldFault.Form → line_of (texts fields.now) ≡ None }
@@ -20,7 +20,7 @@ pub(crate) fn line_of(alloc: Global, fields: &[&str]) -> Result<ScriptLine, Fiel
     }
 }
 
-// Returns what the fields after a word say.
+// Returns the meaning of the fields after this word.
 fn line_by(alloc: Global, word: &str, fields: &[&str]) -> Result<ScriptLine, FieldFault>
     ensures value { IfOk result (λ line. line_by word.now (texts fields.now) ≡ Some line) }
     ensures form { IsErrOf result FieldFault.Form → line_by word.now (texts fields.now) ≡ None }

@@ -6,7 +6,7 @@ ghost use Rattle.script.specs.Scripts.{lines_of, without_last_feed};
 
 use std::alloc::{AllocError, Global};
 
-/// Returns the texts between the line feeds of a text, the last of which may be missing.
+/// Returns the parts between line feeds. The last line feed may be missing.
 pub(crate) fn lines_of<'a>(alloc: Global, text: &'a [u8]) -> Result<Vec<&'a [u8]>, AllocError>
     ensures { IfOk result (λ lines. texts lines.items ≡ lines_of text.now) }
 {

@@ -7,7 +7,7 @@ use std::marker::Model;
 /// Numbers, in the order in which they are written.
 #[derive(Drop)]
 pub struct Numbers {
-    // The numbers themselves. There may be none.
+    // There may be none.
     numbers: Vec<u64>,
 }
 

@@ -12,7 +12,7 @@ use ballot_base::{Config, Members};
 use packet_base::ClientId;
 use std::alloc::Global;
 
-/// The world at the beginning.
+/// The world as a script begins.
 #[derive(Drop)]
 pub struct Opening {
     /// How many nodes there are, at most `MAX_NODE`, numbered from 1.
@@ -26,7 +26,7 @@ pub struct Opening {
 /// The greatest number of a node, as a number of a script.
 const MAX_NODE: u64 = ballot_base::MAX_NODE as u64;
 
-/// Returns the world that the fields of the first line open.
+/// Returns the world that the first line opens.
 pub(crate) fn opening_of(alloc: Global, fields: &[&str]) -> Result<Opening, FieldFault>
     ensures value { IfOk result (λ opening.
         parse_world (texts fields.now) ≡ Some (values_of opening)) }
@@ -53,7 +53,7 @@ pub(crate) fn opening_of(alloc: Global, fields: &[&str]) -> Result<Opening, Fiel
     })
 }
 
-// Returns the configuration of these numbers, if a world of this many nodes may open with it.
+// Returns the configuration, if a world of `count` nodes may open with it.
 fn config(alloc: Global, count: u64, members: &[u64], primary: u64) -> Result<Config, FieldFault>
     ensures members { IfOk result (λ config. config.members ≡ members.now) }
     ensures primary { IfOk result (λ config. config.primary ≡ primary) }
@@ -79,7 +79,7 @@ fn config(alloc: Global, count: u64, members: &[u64], primary: u64) -> Result<Co
     }
 }
 
-// Returns true if each of the numbers is at most this one.
+// Returns true if each member is at most `count`.
 fn are_members(count: u64, members: &[u64]) -> bool
     ensures { result ≡ are_members count members.now }
 {
@@ -101,7 +101,6 @@ fn members_from_numbers(alloc: Global, members: &[u64]) -> Result<Members, Field
         .ok_or(FieldFault::Memory)
 }
 
-// Returns true if no two of the clients are the same.
 fn are_distinct(clients: &[ClientId]) -> bool
     ensures { result ≡ are_distinct clients.now }
 {
@@ -111,7 +110,6 @@ fn are_distinct(clients: &[ClientId]) -> bool
     !has_client(others, client) && are_distinct(others)
 }
 
-// Returns true if one of the clients is this one.
 fn has_client(clients: &[ClientId], client: &ClientId) -> bool
     ensures { result ≡ has_client clients.now client.now }
 {

@@ -1,4 +1,4 @@
-// What a line of a script says.
+// The meaning of a line.
 
 use crate::numbers::Numbers;
 use packet_base::{ClientId, QoS};
@@ -14,8 +14,8 @@ pub enum Amount {
     Bytes(u64),
 }
 
-/// What a line says. Every number is one that a line may write; whether there is such a node,
-/// message or connection is checked only when the line is played.
+/// The meaning of a line. Numbers are as they are written: whether there is such a node, message or
+/// connection is checked only when the line is played.
 #[derive(Drop)]
 pub enum ScriptLine {
     /// A configuration of these members and this primary is assigned.
@@ -24,7 +24,7 @@ pub enum ScriptLine {
     Deliver(u64),
     /// Time passes at this node.
     Tick(u64),
-    /// This node cuts its log.
+    /// A cut of this node's log.
     Cut(u64),
     /// This node proposes that the session of this client ends.
     Expel(ClientId, u64),
@@ -32,9 +32,9 @@ pub enum ScriptLine {
     Crash(u64),
     /// This client opens a connection to this node.
     Open(ClientId, u64),
-    /// Bytes of this connection come up to its node.
+    /// Bytes of this connection reach its node.
     CarryUp(u64, Amount),
-    /// Bytes of this connection come down to its client.
+    /// Bytes of this connection reach its client.
     CarryDown(u64, Amount),
     /// This client loses its connection.
     Abandon(ClientId),

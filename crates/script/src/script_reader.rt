@@ -1,4 +1,10 @@
 // Reading a script.
+//
+// A script is read whole before anything of it is played, so a malformed line has no effect. The
+// relation `IsScript` of specs says which text is which script; no line has two meanings
+// (`OneMeaningALine`). Reading fails exactly for the first malformed line, by its number, or
+// because memory ran out. Whether a node, message or connection exists is no question of form: the
+// player answers it.
 
 ghost use Rattle.std.specs.Prelude.{◌≡◌, ◌+◌, ◌∷◌, ℕ, IfOk, IfErr, IsErrOf};
 ghost use Rattle.script.specs.declared.opening.Opening.{Opening};
@@ -15,17 +21,17 @@ use crate::script_line::ScriptLine;
 use std::alloc::Global;
 use std::str;
 
-/// A script.
+/// A script: a world, and what happens in it.
 #[derive(Drop)]
 pub struct Script {
     /// The world at the beginning.
     pub opening: Opening,
-    /// What happens in it, one after another.
+    /// What happens in it, line by line.
     pub lines: Vec<ScriptLine>,
 }
 
-/// Reads a whole script. Unless memory runs out, it is refused exactly if a line does not have its
-/// form, by the number of the first such line.
+/// Reads a whole script. Fails with `Line` exactly if a line is malformed, for the first such line,
+/// unless memory runs out.
 pub fn read(alloc: Global, text: &[u8]) -> Result<Script, ScriptFault>
     ensures script { IfOk result (IsScript (lines_of text.now)) }
     ensures refused { IfErr result (Refuses (lines_of text.now)) }
@@ -45,7 +51,6 @@ fn script_of(alloc: Global, lines: &[&[u8]]) -> Result<Script, ScriptFault>
     }
 }
 
-// Returns the script of the first line and the others.
 fn script_after(alloc: Global, first: &[u8], others: &[&[u8]]) -> Result<Script, ScriptFault>
     ensures script { IfOk result (IsScript (first.now ∷ texts others.now)) }
     ensures refused { IfErr result (Refuses (first.now ∷ texts others.now)) }
@@ -73,7 +78,7 @@ fn opening_line(alloc: Global, line: &[u8]) -> Result<Opening, FieldFault>
     opening_of(alloc, fields.as_slice())
 }
 
-// Returns what one of the other lines says.
+// Returns the meaning of a line after the first.
 fn other_line(alloc: Global, line: &[u8]) -> Result<ScriptLine, FieldFault>
     ensures value { IfOk result (IsOtherLine line.now) }
     ensures form { IsErrOf result FieldFault.Form → HasSomeForm line.now → ⊥ }
@@ -85,7 +90,8 @@ fn other_line(alloc: Global, line: &[u8]) -> Result<ScriptLine, FieldFault>
     line_of(alloc, fields.as_slice())
 }
 
-// Returns what the lines after the first say. They are counted from the second line of the text.
+// Returns the meanings of the lines after the first. The number of a malformed one is counted from
+// the first line of the text.
 fn other_lines(alloc: Global, lines: &[&[u8]]) -> Result<Vec<ScriptLine>, ScriptFault>
     ensures said { IfOk result (λ said. AreLines (texts lines.now) said.items) }
     ensures refused { (bad : ℕ) → IsErrOf result (ScriptFault.Line bad)

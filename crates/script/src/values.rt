@@ -1,4 +1,4 @@
-// What the fields of a line write.
+// Reading the values of fields.
 
 ghost use Rattle.std.specs.Prelude.{◌≡◌, ◌==◌, Some, None, IfOk, IsErrOf, slice_index};
 ghost use Rattle.script.specs.Fields.{parse_amount, parse_client, parse_clients, parse_filter, parse_number, parse_numbers, parse_payload, parse_qos, parse_retain, parse_topic};
@@ -12,12 +12,12 @@ use packet_base::{ClientId, Payload, QoS};
 use std::alloc::Global;
 use topics::{Filter, TopicName};
 
-/// Reads a decimal number without a sign, below 2^64. `Form` says that the text is none.
+/// Reads a decimal number without a sign, below 2^64. Fails with `Form` for any other text.
 pub(crate) fn number(text: &str) -> Result<u64, FieldFault>
     ensures value { IfOk result (λ number. parse_number text.now ≡ Some number) }
     ensures form { IsErrOf result FieldFault.Form → parse_number text.now ≡ None }
 {
-    // `parse` takes a sign.
+    // `parse` accepts a sign.
     if has_sign(text) {
         return Err(FieldFault::Form);
     }
@@ -27,7 +27,7 @@ pub(crate) fn number(text: &str) -> Result<u64, FieldFault>
     }
 }
 
-// Returns true if a plus is in front.
+// Returns true if the text begins with a plus.
 fn has_sign(text: &str) -> bool
     ensures { result ≡ (slice_index text.now 0 == 43) }
 {
@@ -37,7 +37,7 @@ fn has_sign(text: &str) -> bool
     }
 }
 
-/// Returns the numbers between commas.
+/// Reads numbers between commas.
 pub(crate) fn numbers(alloc: Global, text: &str) -> Result<Numbers, FieldFault>
     ensures value { IfOk result (λ numbers. parse_numbers text.now ≡ Some numbers) }
     ensures form { IsErrOf result FieldFault.Form → parse_numbers text.now ≡ None }
@@ -51,7 +51,7 @@ pub(crate) fn numbers(alloc: Global, text: &str) -> Result<Numbers, FieldFault>
     Ok(Numbers::new(numbers))
 }
 
-/// Returns a QoS, 0 to 2.
+/// Reads a QoS, 0 to 2.
 #[tactic(auto, unfolding(crate::specs::Fields::parse_qos))]
 pub(crate) fn qos(text: &str) -> Result<QoS, FieldFault>
     ensures value { IfOk result (λ qos. parse_qos text.now ≡ Some qos) }
@@ -65,7 +65,7 @@ pub(crate) fn qos(text: &str) -> Result<QoS, FieldFault>
     }
 }
 
-/// Reads a RETAIN flag, `0` or `1`. `Form` says that the text is neither.
+/// Reads a RETAIN flag, `0` or `1`. Fails with `Form` for any other text.
 #[tactic(auto, unfolding(crate::specs::Fields::parse_retain))]
 pub(crate) fn retain(text: &str) -> Result<bool, FieldFault>
     ensures value { IfOk result (λ retain. parse_retain text.now ≡ Some retain) }
@@ -78,7 +78,7 @@ pub(crate) fn retain(text: &str) -> Result<bool, FieldFault>
     }
 }
 
-/// Returns a count of bytes.
+/// Reads an amount of bytes: `all`, or a number.
 #[tactic(auto, unfolding(crate::specs::Fields::parse_amount))]
 pub(crate) fn amount(text: &str) -> Result<Amount, FieldFault>
     ensures value { IfOk result (λ amount. parse_amount text.now ≡ Some amount) }
@@ -90,7 +90,7 @@ pub(crate) fn amount(text: &str) -> Result<Amount, FieldFault>
     Ok(Amount::Bytes(number(text)?))
 }
 
-/// Returns a payload in hexadecimal.
+/// Reads a payload in hexadecimal, `-` if it is empty.
 #[tactic(auto, unfolding(crate::specs::Fields::parse_payload))]
 pub(crate) fn payload(alloc: Global, text: &str) -> Result<Payload, FieldFault>
     ensures value { IfOk result (λ payload. parse_payload text.now ≡ Some payload) }
@@ -109,7 +109,8 @@ pub(crate) fn payload(alloc: Global, text: &str) -> Result<Payload, FieldFault>
     }
 }
 
-/// Reads a Client Identifier. `Form` says that the text is none, `Memory` that memory ran out.
+/// Reads a Client Identifier. Fails with `Form` if the text is none, with `Memory` if memory ran
+/// out.
 pub(crate) fn client(alloc: Global, text: &str) -> Result<ClientId, FieldFault>
     ensures value { IfOk result (λ client. parse_client text.now ≡ Some client) }
     ensures form { IsErrOf result FieldFault.Form → parse_client text.now ≡ None }
@@ -117,7 +118,7 @@ pub(crate) fn client(alloc: Global, text: &str) -> Result<ClientId, FieldFault>
     Ok(ClientId::new(alloc, text)?)
 }
 
-/// Returns the Client Identifiers between commas.
+/// Reads Client Identifiers between commas.
 pub(crate) fn clients(alloc: Global, text: &str) -> Result<Vec<ClientId>, FieldFault>
     ensures value { IfOk result (λ clients. parse_clients text.now ≡ Some clients.items) }
     ensures form { IsErrOf result FieldFault.Form → parse_clients text.now ≡ None }
@@ -131,7 +132,7 @@ pub(crate) fn clients(alloc: Global, text: &str) -> Result<Vec<ClientId>, FieldF
     Ok(clients)
 }
 
-/// Reads a Topic Name. `Form` says that the text is none, `Memory` that memory ran out.
+/// Reads a Topic Name. Fails with `Form` if the text is none, with `Memory` if memory ran out.
 pub(crate) fn topic(alloc: Global, text: &str) -> Result<TopicName, FieldFault>
     ensures value { IfOk result (λ topic. parse_topic text.now ≡ Some topic) }
     ensures form { IsErrOf result FieldFault.Form → parse_topic text.now ≡ None }
@@ -139,7 +140,7 @@ pub(crate) fn topic(alloc: Global, text: &str) -> Result<TopicName, FieldFault>
     Ok(TopicName::new(alloc, text)?)
 }
 
-/// Reads a Topic Filter. `Form` says that the text is none, `Memory` that memory ran out.
+/// Reads a Topic Filter. Fails with `Form` if the text is none, with `Memory` if memory ran out.
 pub(crate) fn filter(alloc: Global, text: &str) -> Result<Filter, FieldFault>
     ensures value { IfOk result (λ filter. parse_filter text.now ≡ Some filter) }
     ensures form { IsErrOf result FieldFault.Form → parse_filter text.now ≡ None }

@@ -1,5 +1,5 @@
-//! The nodes of a program that serve clients over TCP, together with their master: they are opened,
-//! served while a function of the caller runs, and closed.
+//! Serves the clients of a program's nodes over TCP, with their master: opens the nodes, runs their
+//! threads while a function of the caller runs, and closes them.
 #![tactic(auto)]
 
 pub mod node_threads;

@@ -1,4 +1,4 @@
-// Nodes that are about to serve.
+// Opening the nodes of a program.
 
 ghost use Rattle.std.specs.Prelude.{◌≡◌, ◌≤◌, IfOk, length};
 ghost use Rattle.server.specs.node_threads.Named.{AreNamed};
@@ -14,9 +14,9 @@ use world_base::node_core::NodeCore;
 /// One more than the greatest number of a node.
 const NODE_NUMBERS_END: u8 = MAX_NODE + 1;
 
-/// Opens the nodes of all listeners, each as the one of its listener's number, in rising order.
-/// `BadMembers` comes if two listeners have one number, if a number is outside 1 to 15, and if no
-/// ballot may have the configuration. The other error is that memory ran out.
+/// Opens the node of each listener's number, in rising order. Fails with `BadMembers` if two
+/// listeners have one number, if a number is outside 1 to 15, or if no ballot may have the
+/// configuration. The other error is that memory ran out.
 pub(crate) fn open_all(
     alloc: Global,
     contexts: NodeContexts<'_>,
@@ -39,7 +39,6 @@ pub(crate) fn open_all(
     Ok(opened)
 }
 
-// Opens the node of a number.
 fn open(alloc: Global, number: u8, config: &Config) -> Result<OpenedNode, OpeningError>
     requires low { 1 ≤ number }
     requires high { number ≤ MAX_NODE }

@@ -1,4 +1,4 @@
-// What the nodes reported at their ends.
+// How a run of nodes ended.
 
 ghost use Rattle.std.specs.Prelude.{◌≡◌, ◌<◌, ◌≤◌, ◌⊎◌, [], None, Some, IfErr, IfOk, IsPermutation, OnErr, OnOk, vec_capacity, vec_len};
 ghost use Rattle.std.specs.List.Sorted.{IsNonDecreasingBy};
@@ -9,7 +9,7 @@ use crate::serve_error::ServeError;
 use machine::Memory;
 use std::alloc::{AllocError, Global};
 
-/// What the nodes reported at their ends.
+/// The reports of the nodes, or why one was not served.
 #[derive(Drop)]
 pub(crate) struct Outcome {
     // In the order in which they came.
@@ -32,8 +32,8 @@ impl Outcome {
         })
     }
 
-    /// Keeps what a node reports at its end. If it has no report, or memory runs out for that,
-    /// keeps [`ServeError::Memory`] as the cause.
+    /// Keeps a node's report. If there is none, or memory runs out, keeps [`ServeError::Memory`] as
+    /// the cause.
     pub(crate) fn keep(&mut self, closed: Result<NodeReport, Memory>)
         ensures report { IfOk closed (λ report.
             AddsReport report self.old self.new ⊎ Fails ServeError.Memory self.old self.new) }

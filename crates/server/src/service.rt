@@ -1,4 +1,12 @@
 // Serving nodes while a function of the caller runs.
+//
+// All that the threads borrow lives in one call, so no thread outlives it. Configuration, threads,
+// clock and the nodes' memory are tried before a client is served. Each node has a thread that runs
+// its own threads; they return once its listener is closed, and nothing else ends them. The order
+// of the end is fixed: `attend` returns, all listeners are closed, all threads have returned, and
+// only then are the nodes closed and their reports gathered. The step from `serve_all` to
+// `serve_named` chooses what the nodes' numbers name, once all inboxes exist; `serve_states` is the
+// one place where it is proved that threads may share a node's state.
 
 ghost use Rattle.std.specs.Prelude.{◌≡◌, ◌≤◌, [], IfOk, length, map, vec_capacity};
 ghost use Rattle.std.specs.Fn.{FnOnceReturnsAt};
@@ -81,7 +89,7 @@ where
     serve_all(rt, alloc, listeners, config, Some(gate), attend)
 }
 
-// Serves the nodes of these listeners while the closure runs, with a gate or without one.
+// Serves the nodes of these listeners while `attend` runs, with a gate or without one.
 fn serve_all<R, G, T, F>(
     rt: &R,
     alloc: Global,
@@ -131,8 +139,7 @@ fn open_cluster(
     Cluster::new(alloc, numbers.as_slice(), config)
 }
 
-// Serves with nodes that are named by their numbers, with their inboxes, for all threads. Each
-// opened as the one of its number in the configuration.
+// Serves nodes whose numbers name their inboxes and first states, for all threads.
 fn serve_named<J, R, G, T, F>(
     rt: &R,
     alloc: Global,
@@ -172,15 +179,16 @@ where
 // How a run of nodes ended.
 #[derive(Drop)]
 struct Served<T: Drop> {
-    // What the caller's function returned.
+    // What `attend` returned.
     answer: T,
-    // Whether each node's threads could be started.
+    // Whether each node's own thread could be started.
     all_started: bool,
     // The witnesses that the nodes' listeners were closed, in the order of the nodes.
     closings: Vec<Closed>,
 }
 
-// Serves with the type that a node's state has. That threads may share it is proved only here.
+// Calls `serve_by` with the type that a node's lock holds. That threads may share it is proved only
+// here.
 fn serve_states<J, R, G, T, F>(
     rt: &R,
     cluster: &Cluster,
@@ -203,8 +211,8 @@ where
     serve_by::<J, NodeState<J>, R, G, T, F>(rt, cluster, nodes, closings_with_capacity, attend)
 }
 
-// Serves with these nodes while `attend` runs, and then closes their listeners. The list has
-// capacity for the witnesses.
+// Runs the threads of these nodes while `attend` runs, and then closes their listeners. The list
+// has capacity for the witnesses.
 fn serve_by<J, S, R, G, T, F>(
     rt: &R,
     cluster: &Cluster,

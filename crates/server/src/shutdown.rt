@@ -1,4 +1,4 @@
-// The end of nodes that serve: their listeners are closed, and each node reports.
+// Closing nodes: first all listeners, then the nodes, each with a report.
 
 ghost use Rattle.std.specs.Prelude.{◌≡◌, ◌≤◌, [], length, map, vec_capacity};
 
@@ -34,7 +34,7 @@ where
     closings
 }
 
-/// Ends the nodes, whose listeners are closed and whose threads have returned, and keeps what each
+/// Ends the nodes, whose listeners are closed and whose threads have returned, and keeps their
 /// reports.
 pub(crate) fn end_all<J, G, R>(
     rt: &R,

@@ -1,21 +1,21 @@
-// Whether as many threads can be started as nodes need.
+// Whether a program can start as many threads as its nodes need.
 
 use std::sync::{Mutex, Wait};
 use std::thread;
 use std::thread::Threads;
 use std::time::{Clock, Duration};
 
-/// How long a thread sleeps before it looks again whether all were started, in milliseconds.
+/// How long a thread sleeps before it looks again whether all have started, in milliseconds.
 const START_LOOK_MILLIS: u64 = 1;
 
-/// Returns true if this many threads can be started at the same time. They are started, wait for
-/// each other, and end again.
+/// Returns true if `count` threads can run at the same time: starts them, lets them wait for each
+/// other, and ends them.
 pub(crate) fn can_start<R: Threads + Wait + Clock + Sync>(rt: &R, count: usize) -> bool {
     let are_started = Mutex::new(false);
     start_waiting(rt, count, &are_started)
 }
 
-// Starts this many threads, none of which ends before all were started. Returns whether all were.
+// Starts `count` threads, none of which ends before all have started. Returns true if all started.
 fn start_waiting<R: Threads + Wait + Clock + Sync>(
     rt: &R,
     count: usize,
@@ -33,7 +33,7 @@ fn start_waiting<R: Threads + Wait + Clock + Sync>(
     })
 }
 
-// Waits until all threads were started.
+// Waits until all threads have started.
 fn await_all<R: Wait + Clock>(rt: &R, are_started: &Mutex<bool>) {
     for _ in rt.forever() {
         if *are_started.lock(rt) {
@@ -43,7 +43,6 @@ fn await_all<R: Wait + Clock>(rt: &R, are_started: &Mutex<bool>) {
     }
 }
 
-// Lets the threads end.
 fn let_end<R: Wait>(rt: &R, are_started: &Mutex<bool>) {
     *are_started.lock(rt) = true;
 }

@@ -1,4 +1,4 @@
-// What both indexes do, tested by callers that know only the law.
+// What both indexes do, tested by callers that know only the trait's contract.
 
 mod calls;
 pub(crate) mod memory;

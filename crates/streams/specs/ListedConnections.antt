@@ -1,4 +1,4 @@
--- The connections that are listed, in the order in which they are written to.
+-- The connections of a table, in the order in which they are written to.
 use Rattle.std.specs.Prelude.{◌≡◌, ℕ, zero, suc, ◌≤◌, ◌%◌, ◌^◌, ◌==◌, Bool, false, bit_and, nat_le, not}
 use Rattle.std.specs.Prelude.{List, [], ◌∷◌, ◌++◌, length, Option, None, Some, if◌then◌else◌}
 use Rattle.slab.specs.Slab.{Slab, get}
@@ -11,16 +11,15 @@ use Rattle.streams.specs.declared.idle_lanes.IdleLanes.{IdleLanes}
 abbrev pub is_lane_idle : IdleLanes → Port → Bool
 is_lane_idle lanes port = not (bit_and lanes.0 (2 ^ (port.0 % 64)) == 0)
 
--- Connections were added to a list, after what was there: at most as many as `most` says, and none
--- whose lane is idle.
+-- Connections were appended to a list: at most `most` in all, and none whose lane is idle.
 pub record AddsBusy (idle : IdleLanes) (most : ℕ) (before after : List Link) : Type 0 where
   pub added : List Link
   pub is : after ≡ before ++ added
   pub busy : Each (λ link. is_lane_idle idle link.port ≡ false) added
   pub few : length added ≤ most
 
--- the connection that is listed at an index, by what is there: an index may be taken by one that is
--- not yet listed
+-- the connection that is listed at an index; an index may be taken for a connection that is not yet
+-- listed
 abbrev pub connection_listed_at : {A : Type 0} → Option (Option A) → Option A
 connection_listed_at None = None
 connection_listed_at (Some listed) = listed

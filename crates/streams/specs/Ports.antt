@@ -1,9 +1,9 @@
--- The ports of connections, which tell their lanes.
+-- The ports of connections, from which their lanes can be told.
 use Rattle.std.specs.Prelude.{ℕ, ◌+◌, ◌*◌, ◌%◌, ◌==◌, Bool}
 use Rattle.node.specs.declared.Port.{Port}
 use Rattle.streams.specs.declared.ports.TheConstants.{PORTS_APART}
 
--- the port of a lane's connection that comes after this many others
+-- the port of a lane's connection number `count`, from 0
 abbrev pub port_of : ℕ → ℕ → Port
 port_of lane count = record { 0 = PORTS_APART * count + lane }
 

@@ -10,13 +10,13 @@ use Rattle.world_base.specs.node_core.PortOutput.{listed_at}
 use Rattle.node.specs.State.{EachOpensAs, Replays, NodeStateView}
 use Rattle.streams.specs.declared.port_tap.PortTap.{PortTap}
 
--- the nodes began as those of their numbers in some configuration of ballot 1
+-- each number names the node that opens under it in some configuration of ballot 1
 pub record NodesBegan (first_of : ℕ → CountedCore) : Type 0 where
   pub config : Config
   pub is : EachOpensAs config first_of
 
--- These bytes, with this answer, are what a node hands over for a port that is what its first state
--- became by one step for each item that was taken from its inbox.
+-- These bytes, with this answer, are what some node hands over for the port; its state is the fold
+-- of `step` over the items taken from its inbox.
 pub record IsHandedOver
     (first_of : ℕ → CountedCore) (port : Port) (bytes : List ℕ) (answer : Handed)
     : Type 0 where
@@ -29,8 +29,8 @@ pub record IsHandedOver
 abbrev pub HandsNone : PortTap → Type 0
 HandsNone tap = tap.handed ≡ 0
 
--- a node that opened in some configuration hands over these bytes for a tap's port, and the tap
--- counts them, up to 2^64 - 1
+-- a node that opened in some configuration hands over these bytes for the tap's port, and the tap
+-- counts them (saturates at 2^64 - 1)
 pub record HandsOut (before : PortTap) (bytes : List ℕ) (answer : Handed) (after : PortTap)
     : Type 0 where
   pub first_of : ℕ → CountedCore

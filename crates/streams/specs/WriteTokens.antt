@@ -7,7 +7,7 @@ use Rattle.streams.specs.declared.port_tap.PortTap.{PortTap}
 use Rattle.streams.specs.declared.socket.Socket.{Socket}
 
 -- All that a node handed over by the token's tap, from the first byte on, is what was written on
--- the socket, followed by what is left. Of the socket itself no byte is known.
+-- the socket, followed by what is left. Nothing else is known of the socket's bytes.
 abbrev pub HasWholeStream : OutflowView PortTap Socket → Type 0
 HasWholeStream token = IsWhole HandsNone HandsOut token.tap None token.left
 
@@ -15,7 +15,7 @@ HasWholeStream token = IsWhole HandsNone HandsOut token.tap None token.left
 abbrev pub IsTokenOf : Port → OutflowView PortTap Socket → Type 0
 IsTokenOf port token = token.tap.port.0 ≡ port.0
 
--- the token that is kept, if it is a port's
+-- the token that is kept, if it is the port's
 abbrev pub token_of :
     Port → Option (OutflowView PortTap Socket) → Option (OutflowView PortTap Socket)
 token_of port None = None

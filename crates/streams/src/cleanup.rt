@@ -1,4 +1,4 @@
-// What a node holds for connections that it has closed is forgotten.
+// Dropping what a node holds for connections that it has closed.
 
 ghost use Rattle.std.specs.Prelude.{◌≡◌, ◌≢◌, ◌⊎◌};
 ghost use Rattle.world_base.specs.node_core.PortOutput.{hands_over, listed_at};
@@ -8,9 +8,9 @@ use node::{NodeNaming, NodeState};
 use std::alloc::Global;
 use world_base::node_connections::{Port, Standing};
 
-/// Takes what a node still holds for a port whose connection it has closed, so that it holds no
-/// more. The node queues nothing more for that port, so what was written there stays a prefix of
-/// what it queued. If memory runs out, the node keeps it; the clauses let it do so at any time.
+/// Takes what a node still holds for a port whose connection it has closed, and drops it. The node
+/// queues nothing more for that port, so what was written there stays a prefix of what it queued.
+/// If memory runs out, the node keeps it; the clauses let it do so at any time.
 pub fn forget<J: NodeNaming>(alloc: Global, node: &mut NodeState<J>, port: Port)
     ensures open { standing_of (listed_at port node.old.node.core) ≢ Standing.Closed →
         node.new ≡ node.old }

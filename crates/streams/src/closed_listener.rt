@@ -1,14 +1,15 @@
-// Whether a listener is closed, and the witness of that.
+// The witness that a listener is closed, and the threads that wait at it.
 
 ghost use Rattle.std.specs.Prelude.{◌≡◌, ◌+◌, ◌-◌, ◌^◌, false, min, true};
 ghost use Rattle.std.specs.Prelude.{IfErr, IfNone, IfSome, OnErr, OnOk};
 
 use std::marker::Model;
 
-/// The witness that a listener was seen closed. Only a listener's own state makes one.
+/// The witness that a listener was seen closed. Only a listener's own state makes one, so a thread
+/// that returns one did look.
 #[derive(Drop)]
 pub struct Closed {
-    // The listener's number, which is that of its node.
+    // The number of the listener and of its node.
     number: u8,
 }
 
@@ -26,14 +27,14 @@ impl Model for Closed {
 /// The threads that wait at a listener for clients.
 #[derive(Drop)]
 pub(crate) struct Waiting {
-    // Whether no more connections are admitted.
+    // True once no more connections are admitted.
     is_closed: bool,
     // How many threads wait.
     threads: u32,
 }
 
 impl Waiting {
-    /// Returns the state of a listener that is open, at which no thread waits.
+    /// Returns the state of an open listener at which no thread waits.
     pub(crate) fn new() -> Waiting
         ensures { result ≡ record { is_closed = false; threads = 0 } }
     {
@@ -43,7 +44,7 @@ impl Waiting {
         }
     }
 
-    /// Admits no more connections. Returns the witness for the listener of this number.
+    /// Closes the listener of this number. Returns the witness.
     pub(crate) fn close(&mut self, number: u8) -> Closed
         ensures closes { self.new ≡ record self.old { is_closed = true } }
         ensures witness { result ≡ number }
@@ -65,8 +66,8 @@ impl Waiting {
         }
     }
 
-    /// Counts one more thread that waits. The error is the witness that the listener of this number
-    /// is closed.
+    /// Counts one more waiting thread. If the listener is closed, fails with the witness for this
+    /// number.
     pub(crate) fn begin(&mut self, number: u8) -> Result<(), Closed>
         ensures admits { OnOk result (self.old.is_closed ≡ false) }
         ensures counts { OnOk result
@@ -82,8 +83,8 @@ impl Waiting {
         Ok(())
     }
 
-    /// Counts one thread fewer that waits. The error is the witness that the listener of this
-    /// number is closed.
+    /// Counts one waiting thread fewer. If the listener is closed, fails with the witness for this
+    /// number.
     pub(crate) fn end(&mut self, number: u8) -> Result<(), Closed>
         ensures admits { OnOk result (self.old.is_closed ≡ false) }
         ensures counts { self.new ≡ record self.old { threads = self.old.threads - 1 } }

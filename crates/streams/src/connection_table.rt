@@ -1,4 +1,9 @@
-// The threads that wait at a node's listener for clients, and the connections that are served.
+// The connections of a listener, and the threads that wait there for clients.
+//
+// Two locks, never held together and each for one call: `waiting` says whether the listener is
+// closed, and `links` has the connections. `close` sets the first before it ends the connections of
+// the second, and a lane looks whether the listener is closed after it has listed a connection. So
+// a connection that is listed while the listener closes is ended by one of the two.
 
 ghost use Rattle.std.specs.Prelude.{◌≡◌, ◌<◌, ◌≤◌, IfErr, IfSome, map};
 ghost use Rattle.std.specs.Arc.{arc_value};
@@ -12,19 +17,17 @@ use crate::links::{Links, TakenIndex};
 use std::alloc::{AllocError, Global};
 use std::sync::{Arc, Mutex, Wait};
 
-/// The connections that a node serves, each at an index of its own. Besides, how many threads wait
-/// for a client, and whether more connections are admitted.
+/// The connections that a node serves, each at an index of its own; how many threads wait for a
+/// client; and whether the listener is closed.
 #[derive(Drop)]
 pub(crate) struct ConnectionTable {
-    // The threads that wait for a client, and whether the table is closed for good.
+    // The threads that wait for a client, and whether the listener is closed.
     waiting: Mutex<Waiting>,
-    // The connections at their indices, under a lock of their own.
     links: Mutex<Links>,
 }
 
 impl ConnectionTable {
-    /// Returns a table without connections, which admits some. The only error is that memory runs
-    /// out.
+    /// Returns an open table without connections. The only error is that memory ran out.
     pub(crate) fn new(alloc: Global) -> Result<ConnectionTable, AllocError> {
         Ok(ConnectionTable {
             waiting: Mutex::new(Waiting::new()),
@@ -32,8 +35,8 @@ impl ConnectionTable {
         })
     }
 
-    /// Ends all connections, and admits no more. Returns the witness for the listener of this
-    /// number.
+    /// Closes the table: ends all connections, and admits no more. Returns the witness for the
+    /// listener of this number.
     pub(crate) fn close<R: Wait>(&self, rt: &R, number: u8) -> Closed
         ensures { result ≡ number }
     {
@@ -42,23 +45,23 @@ impl ConnectionTable {
         closed
     }
 
-    /// Returns the witness for the listener of this number, if no more connections are admitted.
+    /// Returns the witness for the listener of this number, if the table is closed.
     pub(crate) fn closed<R: Wait>(&self, rt: &R, number: u8) -> Option<Closed>
         ensures { IfSome result (λ closed. closed ≡ number) }
     {
         self.waiting.lock(rt).closed(number)
     }
 
-    /// Counts a thread as waiting for a client. If no more clients are admitted, the error is the
-    /// witness of that, for the listener of this number.
+    /// Counts a thread as waiting for a client. If the table is closed, fails with the witness for
+    /// the listener of this number.
     pub(crate) fn begin_wait<R: Wait>(&self, rt: &R, number: u8) -> Result<(), Closed>
         ensures { IfErr result (λ closed. closed ≡ number) }
     {
         self.waiting.lock(rt).begin(number)
     }
 
-    /// Counts a thread as no longer waiting. If no more clients are admitted, the error is the
-    /// witness of that, for the listener of this number.
+    /// Counts a thread as no longer waiting. If the table is closed, fails with the witness for the
+    /// listener of this number.
     pub(crate) fn end_wait<R: Wait>(&self, rt: &R, number: u8) -> Result<(), Closed>
         ensures { IfErr result (λ closed. closed ≡ number) }
     {
@@ -70,25 +73,25 @@ impl ConnectionTable {
         self.waiting.lock(rt).threads() > 0
     }
 
-    /// Takes an index for a connection. There is none if [`MAX_CONNECTIONS`] are taken.
+    /// Takes an index for a connection. Returns none if [`MAX_CONNECTIONS`] are taken.
     pub(crate) fn take_index<R: Wait>(&self, rt: &R) -> Option<TakenIndex>
         ensures { IfSome result (λ index. index < MAX_CONNECTIONS) }
     {
         self.links.lock(rt).take()
     }
 
-    /// Lists a connection at its index, which was taken for it.
+    /// Lists a connection at the index that was taken for it.
     pub(crate) fn list<R: Wait>(&self, rt: &R, link: Arc<Link, Global>) {
         self.links.lock(rt).list(link);
     }
 
-    /// Frees an index. The connection that was listed there is listed no more.
+    /// Frees an index, and no longer lists the connection there.
     pub(crate) fn free<R: Wait>(&self, rt: &R, index: TakenIndex) {
         self.links.lock(rt).free(index);
     }
 
-    /// Adds the connections that are listed, from this index on and then those before it, except
-    /// those of idle lanes. If memory runs out for one, it is left out.
+    /// Appends the listed connections, from index `first` on and then those before it, except those
+    /// of idle lanes. Leaves out a connection for which memory runs out.
     pub(crate) fn add_busy<R: Wait>(
         &self,
         rt: &R,
@@ -104,7 +107,7 @@ impl ConnectionTable {
     }
 
     /// Returns the first connection that is listed at this index or after it, and the index after
-    /// that. There is none either if `Arc::try_clone` fails for that connection.
+    /// that. Returns none also if `Arc::try_clone` fails for that connection.
     pub(crate) fn link_from<R: Wait>(
         &self,
         rt: &R,

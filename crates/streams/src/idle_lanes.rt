@@ -1,4 +1,4 @@
-// Which lanes have a connection that is open and has nothing to hand over.
+// The lanes whose connections have nothing to hand over.
 
 ghost use Rattle.std.specs.Prelude.{◌≡◌, ◌%◌, ◌^◌, ◌||◌};
 ghost use Rattle.std.specs.List.{list_any};
@@ -6,7 +6,7 @@ ghost use Rattle.node.specs.declared.Port.{Port};
 
 use world_base::node_connections::Port;
 
-/// Lanes whose connections are idle, a bit for each. A lane has one connection at a time, and its
+/// Lanes whose connections are idle, a bit each. A lane has one connection at a time, and its
 /// number is below 64.
 #[derive(Clone, Copy)]
 pub struct IdleLanes(pub u64);
@@ -26,7 +26,6 @@ impl IdleLanes {
         lanes
     }
 
-    // Returns these lanes and that of a port.
     fn add(self, port: Port) -> IdleLanes
         ensures { (other : Port) →
             is_lane_idle result other ≡ (is_lane_idle self other || is_of_lane other port) }
@@ -34,7 +33,7 @@ impl IdleLanes {
         IdleLanes(self.0 | bit(port))
     }
 
-    /// Returns true if the lane of a port is one of these.
+    /// Returns true if the lane of a port is among them.
     pub fn has(self, port: Port) -> bool
         ensures { result ≡ is_lane_idle self port }
     {
@@ -42,7 +41,6 @@ impl IdleLanes {
     }
 }
 
-// Returns the bit of a port's lane.
 fn bit(port: Port) -> u64
     ensures { result ≡ 2 ^ (port.0 % 64) }
 {

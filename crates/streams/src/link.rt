@@ -1,4 +1,12 @@
-// A connection's stream, and the right to write on it.
+// A connection of a node: its stream, and the right to write on it.
+//
+// The lane that accepted the connection reads; whoever holds the write token writes. There is one
+// token a connection, made with it. `take_token` of a second thread fails, and obliges the holder
+// to look again: `put_back` then hands the token to its caller once more. So nobody waits to write,
+// and bytes that were queued while a thread wrote are written by that thread. No lock is held while
+// bytes are written: the token is outside its slot then. A write waits for a full socket for
+// `WRITE_MILLIS` at most; a token whose socket stays full becomes a `BlockedLink`, for the blocked
+// writer.
 
 ghost use Rattle.std.specs.Prelude.{◌≡◌};
 ghost use Rattle.std.specs.Arc.{arc_value};
@@ -15,11 +23,11 @@ use std::sync::{Arc, Mutex, Wait};
 use std::time::Duration;
 use world_base::node_connections::Port;
 
-/// How long a write waits for a full socket at most, in milliseconds.
+/// The deadline of a write on a full socket, in milliseconds.
 const WRITE_MILLIS: u64 = 1;
 
-/// A connection of the node. Its write token is under a lock, so no clause of a call says when
-/// there is one; those of `WriteSlot` do. No clause says what is done to the socket.
+/// A connection of a node. Its write token is under a lock, so no clause of a call says when there
+/// is one; those of `WriteSlot` do. No clause says what is done to the socket.
 #[derive(Drop)]
 pub struct Link {
     /// The port by which the node knows it.
@@ -28,18 +36,17 @@ pub struct Link {
     pub index: usize,
     /// When it was accepted, in the milliseconds of the node's clock.
     pub opened: u64,
-    // Its socket. The socket of the write token is the same.
+    // The socket, which the write token shares.
     stream: Arc<TcpStream, Global>,
     // Keeps the write token while no thread writes.
     slot: Mutex<WriteSlot>,
 }
 
-/// A connection whose socket was full, and its token, kept as its stream.
+/// A connection whose socket was full, and its token, kept as a stream so that it may be dropped.
 #[derive(Drop)]
 pub struct BlockedLink {
-    // The connection.
     link: Arc<Link, Global>,
-    // The stream of its token, which is of the same port.
+    // The stream of the token, of the same port.
     stream: Stream,
     ghost its: { stream.tap.port.0 ≡ (arc_value link).port.0 },
 }
@@ -70,8 +77,8 @@ impl Link {
     ghost use Rattle.std.specs.Prelude.{◌≡◌, IfOk, IfSome};
     ghost use Rattle.streams.specs.WriteTokens.{IsTokenOf};
 
-    /// Returns a connection on whose stream nothing was written. The only error is that memory ran
-    /// out: then the stream is closed, which no clause says.
+    /// Returns a connection on which nothing was written. The only error is that memory ran out:
+    /// then the stream is closed, which no clause says.
     pub fn new(
         alloc: Global,
         port: Port,
@@ -92,8 +99,8 @@ impl Link {
         })
     }
 
-    /// Returns the connection of a stream whose bytes are sent at once, and on which a write waits
-    /// for a millisecond at most. There is none if the stream cannot be set so, or memory ran out.
+    /// Returns the connection of a stream. Sets the stream to send bytes at once, and a write to
+    /// wait for [`WRITE_MILLIS`] at most. Returns none if it cannot be set so, or memory ran out.
     pub fn of_stream(
         alloc: Global,
         port: Port,
@@ -111,43 +118,43 @@ impl Link {
         Arc::new(alloc, link).ok()
     }
 
-    /// Returns its stream, to be read.
+    /// Returns a reader of the stream.
     pub fn source(&self) -> PatientReader<'_>
         ensures { result.stream.now ≡ arc_value self.now.stream }
     {
         PatientReader::new(&self.stream)
     }
 
-    /// Takes the token, with which the caller writes. There is none if another thread has it, which
-    /// then looks again, or if the stream has ended.
+    /// Takes the write token. Returns none if another thread has it, which then looks again, or if
+    /// the stream has ended.
     pub fn take_token<R: Wait>(&self, rt: &R) -> Option<WriteToken>
         ensures { IfSome result (λ token. IsTokenOf self.now.port token) }
     {
-        // It is this connection's, but no clause is about what is under a lock.
+        // It is this connection's, but no clause speaks of what is under a lock.
         self.slot.lock(rt).take(self.port)
     }
 
-    /// Puts the token back. If more may have been queued meanwhile the caller keeps it, and looks
-    /// again.
+    /// Puts the token back. Returns it to the caller, who looks again, if another thread asked for
+    /// it meanwhile.
     pub fn put_back<R: Wait>(&self, rt: &R, token: WriteToken) -> Option<WriteToken>
         ensures { IfSome result (λ kept. kept ≡ token) }
     {
         self.slot.lock(rt).put_back(token)
     }
 
-    /// Sets whether a write waits while the socket is full, for as long as the stream's write
-    /// timeout says. Only the thread that has the token does so. Returns whether it could be set.
+    /// Sets whether a write waits for a full socket, as long as the stream's write timeout says.
+    /// Only the holder of the token calls this. Returns false if it could not be set.
     pub fn set_waiting(&self, waits: bool) -> bool {
         self.stream.set_nonblocking(!waits).is_ok()
     }
 
-    /// Ends the stream, and its token with it.
+    /// Ends the stream and its token.
     pub fn end(&self, token: WriteToken) {
         let _stream = token.into_stream();
         self.shut();
     }
 
-    /// Ends the stream, which wakes the thread that reads it. Nothing more is written on it.
+    /// Ends the stream, and so wakes the thread that reads it. Nothing more is written on it.
     pub fn shut(&self) {
         // It is fine if the stream is no longer connected.
         let _ = self.stream.shutdown(Shutdown::Both);

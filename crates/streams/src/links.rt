@@ -1,4 +1,4 @@
-// The connections that a node serves, each at an index of its own.
+// The table of connections that a node serves.
 
 ghost use Rattle.std.specs.Prelude.{◌≡◌, ℕ, ◌<◌, ◌≤◌, ◌-◌, ◌++◌, None, Some, false, map, option_copied, true};
 ghost use Rattle.std.specs.Prelude.{IfNone, IfOk, IfSome};
@@ -14,12 +14,12 @@ use std::alloc::{AllocError, Global};
 use std::marker::Model;
 use std::sync::Arc;
 
-/// The connections that a node serves, at most [`MAX_CONNECTIONS`], each at an index of its own. An
-/// index is taken before its connection is reported to the node; the connection is listed there
-/// after that.
+/// The connections that a node serves, at most [`MAX_CONNECTIONS`], each at an index. An index is
+/// taken before the connection is reported to the node, and the connection is listed after that.
 #[derive(Drop)]
 pub(crate) struct Links {
-    // Has capacity for all from the beginning. None where the connection is not listed yet.
+    // Has capacity for all from the beginning. An entry is none while its connection is not yet
+    // listed.
     slots: Slab<Option<Arc<Link, Global>>>,
     ghost few: { slab_len slots ≤ MAX_CONNECTIONS },
     ghost room: { slots.capacity ≡ MAX_CONNECTIONS },
@@ -28,7 +28,6 @@ pub(crate) struct Links {
 /// The right to an index of the table, for one connection. It cannot be dropped: it ends when the
 /// index is freed.
 pub struct TakenIndex {
-    // The index itself. Nobody else has it until it is freed.
     number: usize,
 }
 
@@ -52,7 +51,7 @@ impl TakenIndex {
 impl Links {
     ghost use Rattle.streams.specs.ListedConnections.{AddsBusy, busy_at, busy_between, connection_listed_at};
 
-    /// Returns a table without connections, with memory for all. The only error is that memory runs
+    /// Returns a table without connections, with memory for all. The only error is that memory ran
     /// out.
     pub(crate) fn new(alloc: Global) -> Result<Links, AllocError>
         ensures { IfOk result (λ links. slab_len links.slots ≡ 0) }
@@ -64,7 +63,7 @@ impl Links {
         Ok(Links { slots })
     }
 
-    /// Takes an index. There is none if [`MAX_CONNECTIONS`] are taken.
+    /// Takes an index. Returns none if [`MAX_CONNECTIONS`] are taken.
     pub(crate) fn take(&mut self) -> Option<TakenIndex>
         ensures below { IfSome result (λ index. index < MAX_CONNECTIONS) }
         ensures free { IfSome result (λ index. get self.old.slots index ≡ None) }
@@ -81,7 +80,7 @@ impl Links {
         })
     }
 
-    /// Lists a connection at its index, if that is taken. Otherwise nothing changes.
+    /// Lists a connection at its index, if that is taken; otherwise nothing changes.
     pub(crate) fn list(&mut self, link: Arc<Link, Global>)
         ensures taken { ContainsKey self.old.slots (arc_value link).index →
             Updates self.old.slots self.new.slots (arc_value link).index (Some (Some link)) }
@@ -103,7 +102,7 @@ impl Links {
         let _ = self.slots.try_remove(number);
     }
 
-    /// Ends all connections that are listed. They stay listed.
+    /// Ends all listed connections. They stay listed.
     pub(crate) fn shut_all(&self) {
         for (_, link) in self.slots.iter() {
             if let Some(link) = link {
@@ -131,7 +130,6 @@ impl Links {
         None
     }
 
-    // Returns the connection that is listed at an index.
     fn at(&self, index: usize) -> Option<&Arc<Link, Global>>
         ensures { option_copied result ≡ connection_listed_at (get self.now.slots index) }
     {
@@ -141,9 +139,8 @@ impl Links {
         }
     }
 
-    /// Adds the connections that are listed, from this index on and then those before it, except
-    /// those of idle lanes. Returns whether all were added: if memory runs out for one, it is left
-    /// out.
+    /// Appends the listed connections, from index `first` on and then those before it, except those
+    /// of idle lanes. Returns false if memory ran out for one, which is left out.
     pub(crate) fn add_busy(
         &self,
         idle: IdleLanes,
@@ -156,7 +153,7 @@ impl Links {
             ++ busy_between arc_value idle self.now.slots first MAX_CONNECTIONS
             ++ busy_between arc_value idle self.now.slots 0 first }
 
-        // What was added is listed and busy, also if some are left out.
+        // Only listed connections of busy lanes were appended, even if some are left out.
         ensures adds { AddsBusy idle MAX_CONNECTIONS
             (map arc_value busy.old.items) (map arc_value busy.new.items) }
     {
@@ -165,8 +162,8 @@ impl Links {
         after && before
     }
 
-    // Adds the connections that are listed from one index up to another, except those of idle
-    // lanes. Returns whether all were added.
+    // Appends the connections listed from one index up to another, except those of idle lanes.
+    // Returns false if one was left out.
     fn add_between(
         &self,
         idle: IdleLanes,
@@ -188,8 +185,8 @@ impl Links {
         all
     }
 
-    // Adds the connection that is listed at an index, unless its lane is idle. Returns whether it
-    // was added, or did not have to be. If not, nothing changes.
+    // Appends the connection listed at an index, if there is one and its lane is busy. Returns
+    // false if memory ran out: then nothing changes.
     fn add_at(&self, idle: IdleLanes, index: usize, busy: &mut Vec<Arc<Link, Global>>) -> bool
         ensures added { result ≡ true →
             map arc_value busy.new.items ≡ map arc_value busy.old.items

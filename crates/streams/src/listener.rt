@@ -1,4 +1,9 @@
 // Where a node accepts its clients, and the table of its connections.
+//
+// Nothing wakes a thread that waits in `accept`, so `close` connects to its own address as long as
+// one waits there, up to `WAKES` times. The table is closed first: each thread that wakes, and each
+// that comes later, gets the witness from `begin_wait` or `end_wait` in place of a stream. Ending a
+// connection also wakes the thread that reads it. Threads sleep and accept without a lock.
 
 ghost use Rattle.std.specs.Prelude.{◌≡◌, ◌<◌, ◌≤◌, IfErr, IfOk, IfSome, map};
 ghost use Rattle.std.specs.Arc.{arc_value};
@@ -21,25 +26,22 @@ use std::{io, thread};
 /// milliseconds.
 const PAUSE_MILLIS: u64 = 1;
 
-/// How many times, at most, the threads that wait for clients are woken when a listener is closed.
+/// How many times waiting threads are woken when a listener is closed, at most.
 const WAKES: u32 = 10_000;
 
-/// Where a node accepts its clients: its TCP listener and the table of its connections. The table
-/// is under locks, so no clause of a call says what is listed, taken or freed there (those of
-/// `Links` do), or that a connection ends.
+/// The TCP listener of a node, with the table of its connections. The table is under locks, so no
+/// clause of a call says what is listed, taken or freed there (those of `Links` do), or that a
+/// connection ends.
 #[derive(Drop)]
 pub struct Listener {
     /// The node's number.
     pub number: u8,
-    // Accepts their streams.
     listener: TcpListener,
-    // The connections that are served.
     connections: ConnectionTable,
 }
 
 impl Listener {
-    /// Returns the listener of the node of this number, which accepts at this TCP listener. The
-    /// only error is that memory runs out.
+    /// Returns the listener of the node of this number. The only error is that memory ran out.
     pub fn new(alloc: Global, number: u8, listener: TcpListener) -> Result<Listener, Memory>
         ensures { IfOk result (λ made. made.number ≡ number) }
     {
@@ -50,12 +52,13 @@ impl Listener {
         })
     }
 
-    /// Returns the address to which clients connect. The errors are those of the listener.
+    /// Returns the address to which clients connect. The errors are those of the TCP listener.
     pub fn address(&self) -> io::Result<SocketAddr> {
         self.listener.local_addr()
     }
 
-    /// Returns the stream of the next client. The error is the witness that the listener is closed.
+    /// Returns the stream of the next client; waits for it. Fails with the witness once the
+    /// listener is closed.
     pub fn accept<R: Wait + Clock>(&self, rt: &R) -> Result<TcpStream, Closed>
         ensures { IfErr result (λ closed. closed ≡ self.now.number) }
     {
@@ -71,8 +74,8 @@ impl Listener {
         unreachable!()
     }
 
-    /// Ends all connections, and admits no more: the threads that wait for clients continue.
-    /// Returns the witness that the listener is closed.
+    /// Ends all connections, admits no more, and wakes the threads that wait in `accept`. Returns
+    /// the witness that the listener is closed.
     pub fn close<R: Wait + Clock + Net<Stream = TcpStream>>(&self, rt: &R) -> Closed
         ensures { result ≡ self.now.number }
     {
@@ -81,21 +84,21 @@ impl Listener {
         closed
     }
 
-    // Wakes the threads that wait for clients.
+    // Wakes the threads that wait in `accept`.
     fn wake_all<R: Wait + Clock + Net<Stream = TcpStream>>(&self, rt: &R) {
         for _ in 0..WAKES {
             if !self.connections.is_waited_at(rt) {
                 return;
             }
             if let Ok(address) = self.address() {
-                // If the listener cannot be reached, the next client that comes wakes a thread.
+                // If the listener cannot be reached, the next client that connects wakes a thread.
                 let _ = TcpStream::connect(rt, address);
             }
             thread::sleep(rt, Duration::from_millis(PAUSE_MILLIS));
         }
     }
 
-    /// Returns the witness that the listener is closed, if it is: no more connections are admitted.
+    /// Returns the witness that the listener is closed, if it is.
     pub fn closed<R: Wait>(&self, rt: &R) -> Option<Closed>
         ensures { IfSome result (λ closed. closed ≡ self.now.number) }
     {
@@ -107,27 +110,25 @@ impl Listener {
         self.closed(rt).is_some()
     }
 
-    /// Takes an index for a connection. There is none if [`MAX_CONNECTIONS`] are taken.
+    /// Takes an index for a connection. Returns none if [`MAX_CONNECTIONS`] are taken.
     pub fn take_index<R: Wait>(&self, rt: &R) -> Option<TakenIndex>
         ensures { IfSome result (λ index. index < MAX_CONNECTIONS) }
     {
         self.connections.take_index(rt)
     }
 
-    /// Lists a connection at its index, which was taken for it. It ends when the listener is
-    /// closed.
+    /// Lists a connection at the index that was taken for it. It ends when the listener is closed.
     pub fn list<R: Wait>(&self, rt: &R, link: Arc<Link, Global>) {
         self.connections.list(rt, link);
     }
 
-    /// Frees an index. The connection that was listed there is listed no more.
+    /// Frees an index, and no longer lists the connection there.
     pub fn free<R: Wait>(&self, rt: &R, index: TakenIndex) {
         self.connections.free(rt, index);
     }
 
-    /// Adds the connections that are listed, from this index on and then those before it, except
-    /// those of idle lanes. If memory runs out for one, it is left out. No clause says which are
-    /// left out.
+    /// Appends the listed connections, from index `first` on and then those before it, except those
+    /// of idle lanes. Leaves out a connection for which memory runs out; no clause says which ones.
     pub fn add_busy<R: Wait>(
         &self,
         rt: &R,
@@ -142,7 +143,7 @@ impl Listener {
     }
 
     /// Returns the first connection that is listed at this index or after it, and the index after
-    /// that. There is none either if `Arc::try_clone` fails for that connection.
+    /// that. Returns none also if `Arc::try_clone` fails for that connection.
     pub fn link_from<R: Wait>(&self, rt: &R, first: usize) -> Option<(usize, Arc<Link, Global>)>
         ensures from { IfSome result (λ found. first < found.0) }
         ensures within { IfSome result (λ found. found.0 ≤ MAX_CONNECTIONS) }

@@ -1,4 +1,4 @@
-// A stream that is read until something comes.
+// Blocking reads on a stream that a writer may make non-blocking.
 
 ghost use Rattle.std.specs.Prelude.{◌≡◌};
 
@@ -6,11 +6,11 @@ use std::io::{ErrorKind, Read};
 use std::net::TcpStream;
 use std::{hint, io};
 
-/// A stream that is read until something comes. While a thread writes on it that must not wait, a
-/// read does not wait either, and is repeated.
+/// A blocking reader of a stream. While a thread writes that must not wait, the stream is
+/// non-blocking; a read is then repeated until something comes.
 #[derive(Drop)]
 pub struct PatientReader<'a> {
-    // What is read. A thread that writes may set it not to wait.
+    // A thread that writes may make it non-blocking.
     stream: &'a TcpStream,
 }
 

@@ -11,14 +11,13 @@ use node::{NodeNaming, NodeState};
 use node_base::connection::Tap;
 use world_base::node_connections::{Handed, Port};
 
-/// The right to take what a node queued for one port, and for no other. A connection has one, made
-/// with it, and it counts the bytes. No clause says that a port has only one, or that its bytes are
-/// taken by it alone.
+/// The right to take what a node queued for one port. A connection has one, made with it, which
+/// counts the bytes. No clause says that a port has only one, or that its bytes are taken by it
+/// alone.
 #[derive(Drop)]
 pub struct PortTap {
-    // The port whose bytes it takes.
     port: Port,
-    // How many bytes were handed over by it, at most 2^64 - 1.
+    // How many bytes were handed over by it (saturates at 2^64 - 1).
     handed: u64,
 }
 
@@ -31,7 +30,7 @@ impl Tap for PortTap {
 }
 
 impl PortTap {
-    /// Returns one by which nothing was handed over.
+    /// Returns a tap of this port by which nothing was handed over.
     pub(crate) fn new(port: Port) -> PortTap
         ensures { result ≡ record { port = port; handed = 0 } }
     {
@@ -45,8 +44,8 @@ impl PortTap {
         self.port
     }
 
-    /// Appends what a node queued for the port and has not yet handed over, and says whether more
-    /// may come, as [`NodeState::outgoing`] does. The bytes are counted.
+    /// Appends the bytes that a node queued for the port and has not yet handed over, and counts
+    /// them. Returns whether more may come, as [`NodeState::outgoing`].
     pub fn hand_over<J: NodeNaming>(
         &mut self,
         node: &mut NodeState<J>,

@@ -1,4 +1,4 @@
-// The ports of connections, which tell their lanes.
+// The ports of connections, from which their lanes can be told.
 
 ghost use Rattle.std.specs.Prelude.{◌≡◌, ◌<◌, ◌^◌};
 ghost use Rattle.streams.specs.Ports.{port_of};
@@ -12,7 +12,7 @@ use world_base::node_connections::Port;
 /// [`IdleLanes`]: crate::IdleLanes
 const PORTS_APART: u64 = 256;
 
-/// Returns the port of a lane's connection that comes after this many others.
+/// Returns the port of a lane's connection number `count`, from 0.
 pub fn port_of(lane: u8, count: u64) -> Port
     requires { count < 2 ^ 56 }
     ensures { result ≡ port_of lane count }

@@ -1,4 +1,4 @@
-// A connection's socket, to be written to.
+// A connection's socket, for writing.
 
 use std::alloc::Global;
 use std::io;
@@ -6,7 +6,7 @@ use std::io::Write;
 use std::net::TcpStream;
 use std::sync::Arc;
 
-/// A connection's socket, on which only the connection's token writes.
+/// A connection's socket. Only the connection's token writes on it.
 #[derive(Drop)]
 pub struct Socket {
     // Shared with the connection, which reads from it and ends it.
@@ -14,7 +14,6 @@ pub struct Socket {
 }
 
 impl Socket {
-    /// Returns the one that writes on this stream.
     pub(crate) fn new(stream: Arc<TcpStream, Global>) -> Socket {
         Socket { stream }
     }

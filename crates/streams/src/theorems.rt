@@ -1,4 +1,4 @@
-// Laws of the definitions about taps and ports. A call does nothing; its contract is the law.
+// Theorems on taps and ports. The calls do nothing; their contracts are the theorems.
 
 ghost use Rattle.streams.specs.Theorems.{PortsTellLanes, TapsCountAll};
 

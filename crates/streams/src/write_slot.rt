@@ -6,19 +6,19 @@ use crate::write_token::{Stream, WriteToken};
 use std::mem;
 use world_base::node_connections::Port;
 
-/// Where a connection's token is kept while no thread writes: as its stream, which may be dropped.
+/// Keeps a connection's token while no thread writes: as a stream, which may be dropped.
 #[derive(Drop)]
 pub(crate) struct WriteSlot {
     // None while a thread writes, and for good once the stream takes no more.
     token: Option<Stream>,
-    // Whether the thread that writes has to look again, since more may have been queued.
+    // True if the thread that writes has to look again, since more may have been queued.
     has_to_look: bool,
 }
 
 impl WriteSlot {
     ghost use Rattle.streams.specs.WriteTokens.{IsTokenOf, token_of};
 
-    /// Returns the slot that keeps the token of this stream.
+    /// Returns a slot with the token of this stream.
     pub(crate) fn new(token: Stream) -> WriteSlot
         ensures { result ≡ record { token = Some token; has_to_look = false } }
     {
@@ -29,7 +29,8 @@ impl WriteSlot {
     }
 
     /// Takes the token, if it is this port's; one of another port is dropped, and its stream with
-    /// it. If none is kept, another thread writes, and looks again, or the stream has ended.
+    /// it. Returns none if another thread writes, which then looks again, or if the stream has
+    /// ended.
     pub(crate) fn take(&mut self, port: Port) -> Option<WriteToken>
         ensures its { IfSome result (λ token. IsTokenOf port token) }
         ensures takes { result ≡ token_of port self.old.token }
@@ -44,8 +45,8 @@ impl WriteSlot {
         Some(WriteToken::new(token))
     }
 
-    /// Puts the token back. If more may have been queued meanwhile the caller keeps it, and looks
-    /// again.
+    /// Puts the token back. Returns it to the caller, who looks again, if `take` was called
+    /// meanwhile.
     pub(crate) fn put_back(&mut self, token: WriteToken) -> Option<WriteToken>
         ensures same { IfSome result (λ kept. kept ≡ token) }
         ensures puts { self.old.has_to_look ≡ false →

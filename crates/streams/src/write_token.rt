@@ -10,15 +10,14 @@ use node_base::connection::{Flow, Outflow, Outlet};
 use std::marker::Model;
 use std::sync::Wait;
 
-/// The stream of a connection: the tap of the connection's port, its socket, and what a full socket
+/// What a token writes with: the tap of the connection's port, its socket, and what a full socket
 /// has not yet taken.
 pub(crate) type Stream = Outflow<PortTap, Socket>;
 
-/// The right to write on a connection's stream. A connection has one, made with it, so one thread
-/// at a time writes, and its stream is whole wherever the token is kept. It cannot be dropped: the
-/// thread that has it puts it back, makes a `BlockedLink` of it, or ends the stream.
+/// The right to write on a connection's stream. A connection has one, made with it: so one thread
+/// at a time writes, and the stream is whole wherever the token is kept. It cannot be dropped: its
+/// holder puts it back, makes a `BlockedLink` of it, or ends the stream.
 pub struct WriteToken {
-    // The stream that is written on, whole so far.
     stream: Stream,
 }
 
@@ -35,7 +34,6 @@ impl Model for WriteToken {
 impl WriteToken {
     ghost use Rattle.streams.specs.WriteTokens.{HasWholeStream};
 
-    /// Returns the token of a stream.
     pub(crate) fn new(stream: Stream) -> WriteToken
         ensures { result ≡ stream }
     {
@@ -50,8 +48,7 @@ impl WriteToken {
         stream
     }
 
-    /// Writes what was left before, followed by what an outlet hands over now, as
-    /// [`Outflow::write`] does.
+    /// Writes what was left before, then what the outlet hands over now, as [`Outflow::write`].
     pub fn write<R: Wait, O: Outlet<PortTap>>(&mut self, rt: &R, outlet: &mut O) -> Flow
         ensures flows { Flows HandsOut result self.old.tap self.new.tap None None
             self.old.left self.new.left }

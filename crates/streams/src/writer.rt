@@ -1,5 +1,5 @@
-//! Writing to the connections of a node what it queued for them. A thread of the node does so after
-//! its turns. What a full socket does not take is left to the blocked writer, a thread of its own.
+//! Writing to a node's connections what it queued for them. Threads do so after their turns. What a
+//! full socket does not take is left to the blocked writer, a thread of its own.
 
 mod blocked_links;
 mod blocked_writer;

@@ -33,7 +33,7 @@ unkept publication =
       payload = publication.payload;
     }
 
--- A publisher as it is made has its publication and no other: at QoS 1 and 2 its client keeps it.
+-- A new publisher has its publication and no other: at QoS 1 and 2 its client keeps it.
 abbrev pub HasPublication : QoS → List ℕ → Publication → PublisherView → Type 0
 HasPublication qos_levels.AtMostOnce id publication it =
     it ≡ record { caller = new_called id; once = Some (unkept publication) }
@@ -42,8 +42,8 @@ HasPublication qos_levels.AtLeastOnce id publication it =
 HasPublication qos_levels.ExactlyOnce id publication it =
     (it.caller.core.state ≡ client_keeping id publication) × (it.once ≡ None)
 
--- between these two states of a stream it took this PUBLISH at QoS 0 as a whole, after what its
--- client wrote before
+-- between these two states the stream took this PUBLISH at QoS 0 as a whole, after all that the
+-- client had written before
 pub record TakesPublish {D : Type 0} (contents : D → Option (List ℕ)) (publish : Publish)
     (old new : D) : Type 0 where
   pub before : List ℕ
@@ -52,7 +52,7 @@ pub record TakesPublish {D : Type 0} (contents : D → Option (List ℕ)) (publi
       (packets.Publish (record publish { delivery = deliveries.AtMostOnce }))
   pub taken : Appends (contents old) (contents new) bytes
 
--- the last that this stream took is this PUBLISH
+-- this PUBLISH is the last that the stream took
 abbrev pub WasTakenBy : {D : Type 0} → (D → Option (List ℕ)) → D → Publish → Type 0
 WasTakenBy {D} contents stream publish = (old : D) × TakesPublish contents publish old stream
 
@@ -60,18 +60,17 @@ WasTakenBy {D} contents stream publish = (old : D) × TakesPublish contents publ
 abbrev pub WasTaken : {D : Type 0} → (D → Option (List ℕ)) → Publish → Type 0
 WasTaken {D} contents publish = (stream : D) × WasTakenBy contents stream publish
 
--- what is answered is acknowledged as a whole: the client keeps no publication; one at QoS 0 was
--- taken
+-- the publication is acknowledged: the client keeps none, and one at QoS 0 was taken as a whole
 abbrev pub IsAcknowledgedAs : (Publish → Type 0) → Option Publish → CallerView → Type 0
 IsAcknowledgedAs taken None caller = kept_count caller.core.state ≡ 0
 IsAcknowledgedAs taken (Some publish) caller = taken publish
 
--- what a `PublisherView` was to publish is acknowledged
+-- the publication of a `PublisherView` is acknowledged
 abbrev pub IsAcknowledged : {D : Type 0} → (D → Option (List ℕ)) → PublisherView → Type 0
 IsAcknowledged contents publishing =
     IsAcknowledgedAs (WasTaken contents) publishing.once publishing.caller
 
--- the same, where a publication at QoS 0 is the last that this stream took
+-- the same; a publication at QoS 0 is the last that this stream took
 abbrev pub IsAcknowledgedBy : {D : Type 0} → (D → Option (List ℕ)) → D → PublisherView → Type 0
 IsAcknowledgedBy contents stream publishing =
     IsAcknowledgedAs (WasTakenBy contents stream) publishing.once publishing.caller

@@ -25,16 +25,16 @@ abbrev pub error_of_call : ClientError → UserClientError
 error_of_call errors.Memory = clients.Memory
 error_of_call cause = clients.Refused (client_number cause)
 
--- a call is refused for this cause, if there is one, or because memory ran out
+-- a call is refused for this cause, if there is one; otherwise only because memory ran out
 abbrev pub IsRefusedFor : Option ClientError → UserClientError → Type 0
 IsRefusedFor cause it = (option_map error_of_call cause ≡ Some it) ⊎ (it ≡ clients.Memory)
 
--- a text is refused by its first fault; without one, only because memory ran out
+-- a text is refused for its first fault; without one, only because memory ran out
 abbrev pub IsRefusedBy : Option MalformedKind → UserClientError → Type 0
 IsRefusedBy fault it =
     (option_map error_of_text fault ≡ Some it) ⊎ ((fault ≡ None) × (it ≡ clients.Memory))
 
--- a client that prints is refused for its identifier, and only then for its filter
+-- a subscriber is refused for its identifier, and only then for its filter
 abbrev pub RefusesListener : List ℕ → List ℕ → UserClientError → Type 0
 RefusesListener id filter it =
     IsRefusedBy (client_fault id) it
@@ -49,8 +49,8 @@ abbrev pub RefusesPacket : Packet → UserClientError → Type 0
 RefusesPacket packet it =
     ((is_over_limit packet ≡ true) × (it ≡ error_of_call errors.TooLarge)) ⊎ (it ≡ clients.Memory)
 
--- a client that publishes is refused for its identifier, only then for its topic, and only then for
--- the size of its packet
+-- a publisher is refused for its identifier, only then for its topic, and only then for the size of
+-- its packet
 abbrev pub RefusesPublisher : List ℕ → Publication → UserClientError → Type 0
 RefusesPublisher id publication it =
     IsRefusedBy (client_fault id) it

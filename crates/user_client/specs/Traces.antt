@@ -1,5 +1,5 @@
--- What a client does on its connections, step by step: calls of its keeper, and bytes of its
--- servers (MQTT 4.3, 4.4).
+-- A client's life as a trace of steps: calls of its keeper, and bytes of its servers (MQTT 4.3,
+-- 4.4).
 use Rattle.std.specs.Prelude.{◌≡◌, ◌≢◌, ℕ, Bool, false, ◌||◌, List, [], ◌++◌, Result, Ok, Err}
 use Rattle.packet_base.specs.declared.qos.QoS.{QoS}
 use Rattle.session_base.specs.declared.publication.Publication.{Publication}
@@ -20,11 +20,11 @@ pub record CallerView : Type 0 where
 abbrev pub new_called : List ℕ → CallerView
 new_called id = record { core = new_core id 0; was_accepted = false }
 
--- the client does this, and nothing changes except its keeper
+-- the client with this keeper, and nothing else changed
 abbrev pub with_core : Core → CallerView → CallerView
 with_core core called = record called { core = core }
 
--- the server sent bytes: whether it has now accepted a connection
+-- the client after bytes of the server, with whether a connection was accepted so far
 abbrev pub after_bytes : Core → CallerView → CallerView
 after_bytes core called =
     record { core = core; was_accepted = called.was_accepted || is_online core.state.stage }
@@ -33,13 +33,13 @@ after_bytes core called =
 abbrev pub IsFirst : CallerView → Core → Type 0
 IsFirst called core = called.was_accepted ≡ false → core.state.session_present ≡ false
 
--- the client was asked for this publication and took it, and nothing changed except its keeper
+-- the client took this publication, and nothing else changed but its keeper
 abbrev pub IsAsked : Publication → CallerView → CallerView → Type 0
 IsAsked publication old new =
     AnswersCall (keeper_step (Call.Publishes publication) old.core.state) old.core (Ok tt) new.core
     × (new.was_accepted ≡ old.was_accepted)
 
--- One step. There is no step for bytes of a server that lost the session.
+-- One step. None is for bytes of a server that lost the session.
 pub data Step (old : CallerView) : CallerView → Type 0 where
   -- it opens a connection and writes CONNECT
   opens : (core : Core) →
@@ -67,7 +67,7 @@ pub data Step (old : CallerView) : CallerView → Type 0 where
       → LeavesServer (keeper_step Call.Disconnects old.core.state) old.core (Ok tt) core
       → Step old (with_core core old)
 
--- Steps one after another, and what was accepted and taken out in them, in order.
+-- A sequence of steps, and what was accepted and taken out in them, in order.
 pub data Trace (start : CallerView) : List Accepted → CallerView → Type 0 where
   -- no step
   starts : Trace start [] start

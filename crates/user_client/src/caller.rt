@@ -1,4 +1,10 @@
-// A client, and whether a server has accepted one of its connections.
+// A client with the trace of its connections.
+//
+// `Caller` is the only way to the `ClientCore`, and each of its calls is a step of `Trace`. So
+// whatever a publisher or subscriber does over many connections is one trace, of which the clauses
+// speak. Before a connection was accepted for the first time, a server that has a session of the
+// client is refused; after that, one that lost it. Both end the client for good: a session of
+// somebody else, or a lost one, cannot be made good by another connection.
 
 ghost use Rattle.std.specs.Prelude.{◌≡◌, ◌≢◌, ◌++◌, IfErr, IfOk, OnOk, OnErr, Err, []};
 ghost use Rattle.std.specs.Result.{is_ok};
@@ -19,25 +25,25 @@ use std::alloc::Global;
 use std::marker::Model;
 use topics::{Filter, TopicName};
 
-/// The result of bytes that a server sent.
+/// The result of reading bytes from the server.
 #[derive(Clone, Copy, Debug, PartialEq, Eq)]
 pub(crate) enum News {
-    /// The server has not yet accepted the connection.
+    /// No CONNACK yet.
     Waits,
-    /// The server accepted the connection just now.
+    /// The server has just accepted the connection.
     Accepted,
-    /// Packets came, or parts of packets.
+    /// Packets were read, or parts of packets.
     Packets,
     /// The connection is lost.
     Lost,
 }
 
-/// A client, and whether a server has accepted one of its connections.
+/// A client, and whether a connection of it was ever accepted.
 #[derive(Drop)]
 pub(crate) struct Caller {
     /// The client, with keep alive 0.
     pub(crate) core: ClientCore,
-    /// Whether a CONNACK was accepted. Until then a server that has a session of the client is at
+    /// True once a CONNACK was accepted. Before, a server that has a session of the client is at
     /// fault.
     pub(crate) was_accepted: bool,
 }
@@ -51,7 +57,7 @@ impl Model for Caller {
 }
 
 impl Caller {
-    /// Returns a client with this identifier, with keep alive 0, that was never connected.
+    /// Returns a client with this identifier and keep alive 0 that was never connected.
     pub(crate) fn new(alloc: Global, id: ClientId) -> Caller
         ensures { result ≡ new_called id }
     {
@@ -61,8 +67,8 @@ impl Caller {
         }
     }
 
-    /// Writes a CONNECT for a new connection. One that is still open is lost first. The only error
-    /// is that memory ran out.
+    /// Opens a connection: queues its CONNECT. One that is still open counts as lost. The only
+    /// error is that memory ran out.
     pub(crate) fn open(&mut self) -> Result<(), UserClientError>
         ensures trace { OnOk result (Trace self.old [] self.new) }
         ensures err { IfErr result (λ error. error ≡ UserClientError.Memory) }
@@ -70,8 +76,8 @@ impl Caller {
         Ok(self.core.open()?)
     }
 
-    /// Publishes: the client keeps a publication at QoS 1 or 2 until it is acknowledged, and writes
-    /// one at QoS 0 at once. The error says why it does not, and then nothing has changed.
+    /// Publishes: at QoS 1 or 2 the client keeps the publication until it is acknowledged, at QoS 0
+    /// it is only written. If the client refuses it or memory runs out, nothing changes.
     pub(crate) fn publish(
         &mut self,
         topic: TopicName,
@@ -83,7 +89,7 @@ impl Caller {
         ensures asked { OnOk result
             (IsAsked (publication_with retain qos topic payload) self.old self.new) }
 
-        // The client refused the publication for this cause, or memory ran out.
+        // The client refused it for this cause, or memory ran out.
         ensures refused { let call = Call.Publishes (publication_with retain qos topic payload) in
             IfErr result (IsRefusedFor (keeper_step call self.old.core.state).refusal) }
         ensures same { OnErr result (self.new ≡ self.old) }
@@ -91,8 +97,7 @@ impl Caller {
         Ok(self.core.publish(topic, qos, retain, payload)?)
     }
 
-    /// Asks the server for a filter's publications, at this QoS at most. The error says why it does
-    /// not.
+    /// Subscribes to a filter, at this QoS at most.
     pub(crate) fn subscribe(&mut self, filter: &Filter, qos: QoS) -> Result<(), UserClientError>
         ensures trace { OnOk result (Trace self.old [] self.new) }
         ensures lost { IfErr result (λ error. error ≢ UserClientError.Lost) }
@@ -100,14 +105,14 @@ impl Caller {
         Ok(self.core.subscribe(filter.clone()?, qos)?)
     }
 
-    /// Takes out what was accepted, in order.
+    /// Returns the publications accepted since the last call, in order.
     pub(crate) fn take_accepted(&mut self) -> Vec<Accepted>
         ensures trace { Trace self.old result.items self.new }
     {
         self.core.take_accepted()
     }
 
-    /// Hands over what the client wrote and has not yet handed over.
+    /// Appends the bytes that the client has for the server.
     pub(crate) fn outgoing(&mut self, out: &mut Vec<u8>) -> Result<(), UserClientError>
         ensures trace { Trace self.old [] self.new }
         ensures kept { self.new.core.state ≡ self.old.core.state }
@@ -117,7 +122,7 @@ impl Caller {
         Ok(self.core.outgoing(out)?)
     }
 
-    /// Ends the connection, with a DISCONNECT if there is memory for it.
+    /// Disconnects, with a DISCONNECT if there is memory for it.
     pub(crate) fn disconnect(&mut self)
         ensures trace { Trace self.old [] self.new }
         ensures kept { kept_count self.new.core.state ≡ kept_count self.old.core.state }
@@ -125,8 +130,8 @@ impl Caller {
         let _ = self.core.disconnect();
     }
 
-    /// Receives what the server sent. It is an error if a server had a session before the first
-    /// accepted connection, or lost it later.
+    /// Reads bytes of the server. Fails if the server had a session before a connection was first
+    /// accepted, or lost it later.
     pub(crate) fn receive(&mut self, piece: &[u8]) -> Result<News, UserClientError>
         ensures trace { OnOk result (Trace self.old [] self.new) }
         ensures news { IfOk result (IsNews self.old self.new) }
@@ -140,7 +145,7 @@ impl Caller {
         Ok(news_of(is_open, was_connected, is_connected))
     }
 
-    // Checks that before the first accepted connection the server has no session of the client.
+    // Fails if the server had a session before a connection was first accepted.
     fn check_first_session(&self) -> Result<(), UserClientError>
         ensures ok { OnOk result (IsFirst self.now self.now.core) }
         ensures err { IfErr result (λ error. error ≡ UserClientError.SessionPresent) }
@@ -152,8 +157,7 @@ impl Caller {
     }
 }
 
-// Returns true if the connection stays open after this answer to a piece. A lost session is an
-// error, and it is an error too if memory ran out.
+// Returns true if the connection stays open. Fails if the session was lost or memory ran out.
 fn stays_open(heard: Result<(), ClientError>) -> Result<bool, UserClientError>
     ensures ok { OnOk result (heard ≢ Err errors.SessionLost) }
     ensures open { IfOk result (λ is_open. is_open ≡ is_ok heard) }
@@ -168,8 +172,8 @@ fn stays_open(heard: Result<(), ClientError>) -> Result<bool, UserClientError>
     }
 }
 
-// Returns what came, by whether the server had accepted the connection before, and whether it has
-// now.
+// Returns the result of a read, by whether the connection is open, and whether it was accepted
+// before, and is now.
 fn news_of(is_open: bool, was_connected: bool, is_connected: bool) -> News
     ensures { result ≡ news_of is_open was_connected is_connected }
 {

@@ -1,4 +1,4 @@
-// The texts that a client is made of, checked before the first connection.
+// Checks of a client's texts, before the first connection.
 
 ghost use Rattle.std.specs.Prelude.{◌≡◌, None, IfErr, IfOk, OnOk};
 ghost use Rattle.packet_base.specs.ClientId.{client_fault};
@@ -10,7 +10,7 @@ use packet_base::ClientId;
 use std::alloc::Global;
 use topics::{Filter, TopicName};
 
-/// Returns the Client Identifier of a text, or how the text is refused.
+/// Returns the text as a Client Identifier. Fails with its first fault, or if memory ran out.
 pub(crate) fn checked_id(alloc: Global, text: &str) -> Result<ClientId, UserClientError>
     ensures value { IfOk result (λ id. id ≡ text.now) }
     ensures ok { OnOk result (client_fault text.now ≡ None) }
@@ -22,7 +22,7 @@ pub(crate) fn checked_id(alloc: Global, text: &str) -> Result<ClientId, UserClie
     }
 }
 
-/// Returns the Topic Name of a text, or how the text is refused.
+/// Returns the text as a Topic Name. Fails with its first fault, or if memory ran out.
 pub(crate) fn checked_topic(alloc: Global, text: &str) -> Result<TopicName, UserClientError>
     ensures value { IfOk result (λ topic. topic ≡ text.now) }
     ensures ok { OnOk result (topic_fault text.now ≡ None) }
@@ -34,7 +34,7 @@ pub(crate) fn checked_topic(alloc: Global, text: &str) -> Result<TopicName, User
     }
 }
 
-/// Returns the Topic Filter of a text, or how the text is refused.
+/// Returns the text as a Topic Filter. Fails with its first fault, or if memory ran out.
 pub(crate) fn checked_filter(alloc: Global, text: &str) -> Result<Filter, UserClientError>
     ensures value { IfOk result (λ filter. filter ≡ text.now) }
     ensures ok { OnOk result (filter_fault text.now ≡ None) }

@@ -1,5 +1,5 @@
 //! Two small clients of an MQTT 3.1.1 server, for a person at a terminal: one publishes once, one
-//! prints what is published. They run over any streams, and open a new one when one is lost.
+//! prints publications. They run over any streams, and reconnect when one is lost.
 #![tactic(auto)]
 
 mod caller;

@@ -29,12 +29,11 @@ use topics::TopicName;
 /// A client that publishes once.
 #[derive(Drop)]
 pub struct Publisher {
-    // The allocator of buffers.
     alloc: Global,
-    // The client. At QoS 1 and 2 it keeps the publication (see `once`).
+    // At QoS 1 and 2 it keeps the publication (see `once`).
     caller: Caller,
-    // A publication at QoS 0, which is sent on each connection until one has taken it. At QoS 1 and
-    // 2 the client keeps it until its handshake has ended.
+    // The publication at QoS 0: it is sent on each connection until one has taken it. None at QoS 1
+    // and 2, where the client keeps it until its handshake has ended.
     once: Option<Publish>,
 }
 
@@ -46,22 +45,22 @@ impl Model for Publisher {
     ghost view = { λ publisher. record { caller = publisher.caller; once = publisher.once } };
 }
 
-// The progress of a publisher on one connection.
+// How far a publisher is on one connection.
 #[derive(Clone, Copy, Debug, PartialEq, Eq)]
 enum Progress {
     // It waits for the server.
     Waits,
-    // The publication is acknowledged, or written if no answer is needed.
+    // The publication is acknowledged; at QoS 0, written.
     Done,
     // The connection is lost.
     Lost,
 }
 
 impl Publisher {
-    /// Returns a client with this identifier and its publication. At QoS 1 and 2 the client keeps
-    /// it, and no other, until its handshake has ended. `Refused` has the number of the first fault
-    /// of identifier, topic, and a packet that would be too large, in this order. The only other
-    /// error is `Memory`, without a fault before it.
+    /// Returns a client with this identifier and publication. At QoS 1 and 2 the client keeps the
+    /// publication, and no other, until its handshake has ended. Fails with `Refused` for the first
+    /// fault of identifier, topic and the size of the packet, in this order; without one, only with
+    /// `Memory`.
     pub fn new(
         alloc: Global,
         id: &str,
@@ -84,16 +83,15 @@ impl Publisher {
         Ok(publisher)
     }
 
-    /// Publishes over the connections of these servers, at most `tries` of them. It tries at QoS 1
-    /// and 2 until the handshake has ended, at QoS 0 until a connection has taken the bytes. No
-    /// clause says which one took them. The fate of the DISCONNECT does not matter. No clause
-    /// counts the connections of a run that succeeds.
+    /// Publishes over at most `tries` connections: at QoS 1 and 2 until the handshake has ended, at
+    /// QoS 0 until a connection has taken the bytes. No clause says which one took them, or counts
+    /// the connections of a run that succeeds. Whether the DISCONNECT arrives does not matter.
     pub fn run<S: Servers>(&mut self, servers: &mut S, tries: u32) -> Result<(), UserClientError>
         ensures acknowledged { OnOk result (IsAcknowledged S.Stream.contents self.new) }
         ensures trace { OnOk result (Trace self.old.caller [] self.new.caller) }
         ensures same { self.new.once ≡ self.old.once }
 
-        // `Lost` comes once all `tries` connections were asked for, or the session was lost.
+        // `Lost` comes once all `tries` connections were requested, or the session was lost.
         ensures lost { IfErr result (IsGivenUp S.opens S.pauses tries
             servers.old servers.new self.old.caller self.new.caller) }
     {
@@ -108,7 +106,8 @@ impl Publisher {
         Err(UserClientError::Lost)
     }
 
-    // Publishes over one connection. Returns whether the publication was acknowledged, or written.
+    // Publishes over one connection. Returns true once the publication is acknowledged, or written
+    // at QoS 0.
     fn publish_over<D: Read + Write + Drop>(&mut self, stream: D) -> Result<bool, UserClientError>
         ensures acknowledged { IfOk result (λ done.
             done ≡ true → IsAcknowledged D.contents self.new) }
@@ -132,7 +131,7 @@ impl Publisher {
         Ok(false)
     }
 
-    // Writes, reads once, and continues by what came.
+    // Does one round of a connection: writes, reads once, and acts on what was read.
     fn continue_once<D: Read + Write>(
         &mut self,
         stream: &mut Counted<D>,
@@ -149,7 +148,7 @@ impl Publisher {
         self.continue_by_news(news, stream)
     }
 
-    // Continues by what came on a connection.
+    // Acts on the result of a read.
     fn continue_by_news<D: Read + Write>(
         &mut self,
         news: News,
@@ -172,7 +171,6 @@ impl Publisher {
     }
 }
 
-// Returns a publisher of this client and publication.
 fn publisher_of(
     alloc: Global,
     id: ClientId,
@@ -196,7 +194,7 @@ fn publisher_of(
     }
 }
 
-// Returns a publisher at QoS 0: it has its publication itself.
+// Returns a publisher at QoS 0, which has its publication itself.
 fn unanswered_publisher(
     alloc: Global,
     id: ClientId,
@@ -222,7 +220,7 @@ fn unanswered_publisher(
     })
 }
 
-// Returns a publisher at QoS 1 or 2: its client keeps its publication.
+// Returns a publisher at QoS 1 or 2, whose client keeps its publication.
 fn answered_publisher(
     alloc: Global,
     id: ClientId,
@@ -248,7 +246,6 @@ fn answered_publisher(
     })
 }
 
-// Returns the progress of a publication that the client keeps.
 fn progress_of_kept(news: News, caller: &Caller) -> Progress
     ensures { result ≡ Progress.Done → kept_count caller.now.core.state ≡ 0 }
 {
@@ -259,7 +256,7 @@ fn progress_of_kept(news: News, caller: &Caller) -> Progress
     }
 }
 
-// Sends a publication at QoS 0 on a connection that the server has just accepted.
+// Sends a publication at QoS 0 on a connection that was just accepted.
 fn send_once<D: Read + Write>(
     alloc: Global,
     publish: &Publish,
@@ -279,7 +276,6 @@ fn send_once<D: Read + Write>(
     Ok(progress_of_written(is_whole))
 }
 
-// Returns the progress of a publication at QoS 0 after it was written, or not.
 fn progress_of_written(is_whole: bool) -> Progress
     ensures { result ≡ Progress.Done → is_whole ≡ true }
 {
@@ -290,7 +286,6 @@ fn progress_of_written(is_whole: bool) -> Progress
     }
 }
 
-// Returns the progress of a publisher whose publication is not done.
 fn unfinished_progress(news: News) -> Progress
     ensures { result ≢ Progress.Done }
 {
@@ -301,7 +296,7 @@ fn unfinished_progress(news: News) -> Progress
     }
 }
 
-// Returns a publication at QoS 0. It is refused if its packet would be too large.
+// Returns a publication at QoS 0. Fails if its packet would be too large.
 fn unanswered_publish(
     topic: TopicName,
     retain: bool,

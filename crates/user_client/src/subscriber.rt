@@ -1,4 +1,4 @@
-// Printing what is published.
+// Printing publications.
 
 ghost use Rattle.std.specs.Prelude.{◌≡◌, ◌≢◌, None, true, [], ◌∷◌, OnOk, IfErr, IfOk};
 ghost use Rattle.std.specs.Io.KnownBytes.{Appends};
@@ -23,21 +23,17 @@ use std::io::{Read, Write};
 use std::marker::Model;
 use topics::Filter;
 
-/// A client that prints what is published.
+/// A client that prints publications.
 #[derive(Drop)]
 pub struct Subscriber {
-    // The allocator of buffers and lines.
     alloc: Global,
-    // The client. On each connection it subscribes, until something was printed.
+    // The client. It subscribes on each connection until something was printed.
     caller: Caller,
-    // What it subscribes to.
     filter: Filter,
-    // At which QoS it subscribes.
     qos: QoS,
     // How many publications it prints in all.
     count: u32,
-    // How many publications are still to be printed. Once one is printed, the server has the
-    // subscription.
+    // How many are left to print. Once one is printed, the server has the subscription.
     left: u32,
 }
 
@@ -52,8 +48,8 @@ impl Model for Subscriber {
 
 impl Subscriber {
     /// Returns a client with this identifier that subscribes to a filter, and stops after `count`
-    /// publications. The identifier is checked first, then the filter: `Refused` has the number of
-    /// the first fault, and `Memory` comes only without one before it.
+    /// publications. Fails with `Refused` for the first fault of identifier and filter, in this
+    /// order; without one, only with `Memory`.
     pub fn new(
         alloc: Global,
         id: &str,
@@ -78,10 +74,10 @@ impl Subscriber {
         })
     }
 
-    /// Prints over the connections of these servers, at most `tries` of them, a line for each
-    /// publication, which is flushed before the publication is answered. The fate of the last
-    /// answers and of the DISCONNECT does not matter. No clause says when a line is flushed, or
-    /// counts the connections of a run that succeeds.
+    /// Prints publications over at most `tries` connections, a line each, which is flushed before
+    /// the publication is answered. No clause says when a line is flushed, or counts the
+    /// connections of a run that succeeds. Whether the last answers and the DISCONNECT arrive does
+    /// not matter.
     pub fn run<S: Servers, W: Write + Drop>(
         &mut self,
         servers: &mut S,
@@ -93,7 +89,7 @@ impl Subscriber {
             (W.contents output.new)) }
         ensures all { OnOk result (self.new.left ≡ 0) }
 
-        // `Lost` comes once all `tries` connections were asked for, or the session was lost.
+        // `Lost` comes once all `tries` connections were requested, or the session was lost.
         ensures lost { IfErr result (IsGivenUp S.opens S.pauses tries
             servers.old servers.new self.old.caller self.new.caller) }
     {
@@ -109,7 +105,7 @@ impl Subscriber {
         Err(UserClientError::Lost)
     }
 
-    // Prints over one connection. Returns whether everything was printed.
+    // Prints over one connection. Returns true once all is printed.
     fn print_over<D: Read + Write + Drop, W: Write>(
         &mut self,
         stream: D,
@@ -136,7 +132,8 @@ impl Subscriber {
         Ok(false)
     }
 
-    // Writes, reads once, and continues by what came. Returns whether the connection is lost.
+    // Does one round of a connection: writes, reads once, and acts on what was read. Returns true
+    // if the connection is lost.
     fn continue_once<D: Read + Write, W: Write>(
         &mut self,
         stream: &mut Counted<D>,
@@ -152,7 +149,7 @@ impl Subscriber {
         Ok(news == News::Lost)
     }
 
-    // Subscribes to the filter on a new connection, and prints what was accepted.
+    // Subscribes if the connection is new, and prints what was accepted.
     fn subscribe_and_print<W: Write>(
         &mut self,
         news: News,
@@ -166,8 +163,8 @@ impl Subscriber {
         self.print_accepted(output)
     }
 
-    // Subscribes to the filter if a connection was accepted and nothing is printed yet. Until then
-    // an earlier subscription may have been lost with its connection.
+    // Subscribes if the connection was just accepted and nothing is printed yet: an earlier
+    // SUBSCRIBE may have been lost with its connection.
     fn subscribe_if_accepted(&mut self, news: News) -> Result<(), UserClientError>
         ensures asked { OnOk result (PrintsNothing self.old self.new) }
         ensures lost { IfErr result (λ error. error ≢ UserClientError.Lost) }
@@ -178,7 +175,7 @@ impl Subscriber {
         self.caller.subscribe(&self.filter, self.qos)
     }
 
-    // Prints what was accepted, as much as is to be printed.
+    // Prints what was accepted, as far as it is left to print.
     fn print_accepted<W: Write>(&mut self, output: &mut W) -> Result<(), UserClientError>
         ensures printed { OnOk result
             (PrintsAccepted self.old (W.contents output.old) self.new (W.contents output.new)) }
@@ -190,12 +187,11 @@ impl Subscriber {
     }
 }
 
-// Returns true if the client is to subscribe again.
 fn is_to_subscribe(news: News, left: u32, count: u32) -> bool {
     news == News::Accepted && left == count
 }
 
-// Prints these, as many as are still to be printed. Returns how many are still to be printed then.
+// Prints these, as many as are left to print. Returns how many are left then.
 fn print_all<W: Write>(
     alloc: Global,
     accepted: &[Accepted],
@@ -213,7 +209,7 @@ fn print_all<W: Write>(
     Ok(rest)
 }
 
-// Prints one more, if one is still to be printed.
+// Prints one more, if one is left to print.
 fn print_next<W: Write>(
     alloc: Global,
     accepted: &Accepted,

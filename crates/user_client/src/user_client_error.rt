@@ -1,4 +1,4 @@
-// Why a client did not do what it was asked for.
+// Why a client failed.
 
 ghost use Rattle.std.specs.Prelude.{◌≡◌};
 
@@ -6,19 +6,19 @@ use client_base::ClientError;
 use std::alloc::{AllocError, AllocFailed};
 use topics::MalformedKind;
 
-/// Why a client did not do what it was asked for.
+/// Why a client failed.
 #[derive(Clone, Copy, Debug, PartialEq, Eq)]
 pub enum UserClientError {
-    /// The identifier, the topic, the filter or the message was refused, by this number. No
+    /// The identifier, the topic, the filter or the message is refused, with this number. No
     /// connection was opened.
     Refused(u8),
-    /// The server had a session of this identifier before.
+    /// The server already had a session of this identifier.
     SessionPresent,
     /// All connections were lost, or the server lost the session.
     Lost,
     /// Memory ran out.
     Memory,
-    /// What was received could not be written out.
+    /// A line could not be written.
     Output,
 }
 

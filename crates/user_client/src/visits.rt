@@ -13,7 +13,8 @@ use node_base::devices::{Counted, OneRead, WholeWrite};
 use std::alloc::Global;
 use std::io::{Read, Write};
 
-/// Opens the next connection, after a while if one was opened before.
+/// Opens the next connection, after a pause if `opened` is not 0. Returns none if it cannot be
+/// opened.
 pub(crate) fn next_stream<S: Servers>(servers: &mut S, opened: u32) -> Option<S::Stream>
     ensures { AsksNext S.opens S.pauses opened servers.old servers.new }
 {
@@ -23,7 +24,7 @@ pub(crate) fn next_stream<S: Servers>(servers: &mut S, opened: u32) -> Option<S:
     servers.open()
 }
 
-/// Writes what the client has for the server, reads once, and takes what came.
+/// Writes what the client has for the server, reads once, and passes the bytes to the client.
 pub(crate) fn exchange<D: Read + Write>(
     alloc: Global,
     stream: &mut Counted<D>,
@@ -42,8 +43,7 @@ pub(crate) fn exchange<D: Read + Write>(
     }
 }
 
-// Returns the next piece that the server sent, at the front of the buffer; None if the connection
-// is lost.
+// Reads one piece into the buffer. Returns none if the connection is lost.
 fn next_piece<'r, D: Read>(stream: &mut Counted<D>, buffer: &'r mut [u8]) -> Option<&'r [u8]> {
     if buffer.is_empty() {
         return None;
@@ -54,8 +54,7 @@ fn next_piece<'r, D: Read>(stream: &mut Counted<D>, buffer: &'r mut [u8]) -> Opt
     }
 }
 
-/// Disconnects from the server. The client has done what it was asked for, so it does not matter
-/// whether the DISCONNECT reaches the server.
+/// Disconnects. The client is done, so it does not matter whether the DISCONNECT arrives.
 pub(crate) fn disconnect<D: Read + Write>(
     alloc: Global,
     stream: &mut Counted<D>,
@@ -68,7 +67,7 @@ pub(crate) fn disconnect<D: Read + Write>(
     let _ = send(alloc, stream, caller);
 }
 
-/// Writes what the client has for the server. Returns whether all of it was taken.
+/// Writes what the client has for the server. Returns true if the stream took all of it.
 pub(crate) fn send<D: Read + Write>(
     alloc: Global,
     stream: &mut Counted<D>,

@@ -1,5 +1,5 @@
-//! The broker as a program. It serves MQTT clients over TCP, publishes or prints as a client
-//! itself, and plays scripts of nodes and clients in memory.
+//! The broker as a program: serves MQTT clients over TCP, publishes or prints as a client itself,
+//! and plays scripts of nodes and clients in memory.
 #![tactic(auto)]
 
 mod standard_error;
@@ -23,8 +23,7 @@ fn main(rt: HostRuntime) -> ExitCode {
     ExitCode::from(run(&rt))
 }
 
-// Does what the words of the command line say, over the standard streams, and returns the exit
-// status.
+// Runs the job of the command line over the standard streams, and returns the exit status.
 fn run<R>(rt: &R) -> u8
 where
     R: Env + Files + Input + Print + Eprint + Threads + Wait + Clock + Sync + AllocGlobal,

@@ -1,4 +1,4 @@
-// Standard error, as a device that texts are written to.
+// Standard error, as a device for texts.
 
 use std::io::{ErrorKind, Write};
 use std::{io, str};

@@ -52,7 +52,7 @@ fn simulate(rt: &HostRuntime, options: &Options) -> Result<()> {
     Ok(())
 }
 
-// Draws the run of a seed, and lends it, so that no way out of what follows has to drop it.
+// Draws the run of a seed, and lends it, so that no exit from what follows has to drop it.
 fn simulate_one(rt: &HostRuntime, options: &Options, seed: u64) -> Result<()> {
     match drawn(rt.alloc(), options, seed) {
         Some(run) => {

@@ -66,7 +66,7 @@ impl Opening {
     }
 }
 
-// Adds this many clients. The list is lent, so that no way out of the loop has to drop it.
+// Adds this many clients. The list is lent, so that no exit from the loop has to drop it.
 fn put_all(alloc: Global, count: u8, clients: &mut Vec<ClientId>) -> Option<()> {
     for name in NAMES.iter().take(count as usize) {
         clients.push(ClientId::new(alloc, name).ok()?).ok()?;

@@ -72,8 +72,8 @@ pub fn drawn(alloc: Global, options: &Options, seed: u64) -> Option<Run> {
 }
 
 // Draws events and lets them happen. Returns what does not hold in the end, and how far it came. A
-// value with a long drop is lent to functions with several ways out, and dropped here
-// (`docs/GATE.md`, *Owners*).
+// value with a long drop is lent to functions with several exits, and dropped here (`docs/GATE.md`,
+// *Owners*).
 fn play(
     alloc: Global,
     options: &Options,
@@ -138,7 +138,7 @@ fn play_all(
     Some(look_again(watch, world)?.err())
 }
 
-// Lets an event happen, if it can, and returns what does not hold then.
+// Does an event, if it can happen, and returns which property fails then.
 fn let_happen(
     event: &Event,
     clients: &[ClientId],

@@ -90,8 +90,8 @@ const OF_SIXTEEN: &[Row<'static>] = &[
     ),
 ];
 
-// Has `a` publish `x` at QoS 1 with this identifier; `b` is sent it, or not yet. Returns what came,
-// if it is something else.
+// Publishes `x` from `a` at QoS 1 with this identifier. Returns the outputs, unless `b` is sent it
+// exactly if `sent` is true.
 fn came_for(alloc: Global, broker: &mut BrokerMachine, id: u8, sent: bool) -> Option<Came> {
     let packet = [0x32, 8, 0, 3, 0x74, 0x2F, 0x31, 0, id, 0x78];
     let puback = [0x40, 2, 0, id];
@@ -103,8 +103,8 @@ fn came_for(alloc: Global, broker: &mut BrokerMachine, id: u8, sent: bool) -> Op
     }
 }
 
-// Has `a` publish seventeen times: the first `sent` are sent at once, and no others. Returns the
-// first publication that fails.
+// Publishes seventeen times from `a`. Returns the first publication that fails: the first `sent`
+// are to be sent at once, and no others.
 fn first_fault_of_seventeen(
     alloc: Global,
     broker: &mut BrokerMachine,
@@ -127,8 +127,8 @@ fn fault_before(alloc: Global, broker: &mut BrokerMachine) -> Option<Fault<'stat
     }
 }
 
-/// Has a broker send this many of seventeen publications at once, and then answer these rows, which
-/// are part 1. Part 0 are the rows before. Returns the first row that differs.
+/// Checks that a broker sends this many of seventeen publications at once, and then answers these
+/// rows, which are part 1; part 0 are the rows before. Returns the first row that differs.
 pub(crate) fn first_fault_of_sending<'a>(
     alloc: Global,
     broker: &mut BrokerMachine,

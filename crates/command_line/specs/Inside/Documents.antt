@@ -10,7 +10,7 @@ use Rattle.command_line.specs.declared.node_table.NodeTable.{NodeTable}
 abbrev pub is_at_most_max_node : ℕ → Bool
 is_at_most_max_node number = nat_le number max_node
 
--- whether a node's number is such a number
+-- whether a node's number is at most the greatest of a node
 abbrev pub has_id_at_most_max_node : ListeningNode → Bool
 has_id_at_most_max_node node = is_at_most_max_node node.id
 

@@ -42,8 +42,8 @@ pub fn deliver_from_master(pair: &mut Pair, body: Body<TallyCommand>) -> bool {
     deliver(&mut pair.two, 0, body, &mut pair.out)
 }
 
-/// Gives node 2 ballot 2 with both nodes for its members, after these members of ballot 1, and
-/// returns whether it continues.
+/// Delivers the master's NewBallot to node 2: ballot 2 of both nodes, after these members of ballot
+/// 1. Returns true if node 2 continues.
 pub fn give_ballot_two(pair: &mut Pair, alloc: Global, previous: &[u8]) -> bool {
     match ballot_two(alloc, previous) {
         Ok(body) => deliver_from_master(pair, body),

@@ -20,7 +20,7 @@ pub fn group(alloc: Global, nodes: u8, members: &[u8]) -> Result<Group<Tally>, O
     Group::opening(alloc, nodes, config)
 }
 
-/// Lets an event happen, and returns whether it is not idle.
+/// Does an event. Returns false if it is idle.
 pub fn let_happen(group: &mut Group<Tally>, event: &Event<TallyCommand>) -> bool {
     group.step(event).is_ok()
 }
@@ -30,17 +30,17 @@ pub fn propose(group: &mut Group<Tally>, node: u8, number: u64) -> bool {
     let_happen(group, &Event::Propose(node, TallyCommand::Add(number)))
 }
 
-/// Lets the message of a number come, and returns whether it does.
+/// Delivers the message of this number. Returns false if that is idle.
 pub fn let_come(group: &mut Group<Tally>, number: u64) -> bool {
     let_happen(group, &Event::Deliver(number))
 }
 
-/// Has the master give a ballot to a configuration, and returns whether it does.
+/// Assigns the next ballot to a configuration. Returns false if it is refused.
 pub fn assign(group: &mut Group<Tally>, config: Config) -> bool {
     let_happen(group, &Event::Assign(config))
 }
 
-/// Has the master give a ballot to these members and this primary, and returns whether it does.
+/// Assigns the next ballot to these members and this primary. Returns false if it is refused.
 pub fn assign_to(group: &mut Group<Tally>, alloc: Global, members: &[u8], primary: u8) -> bool {
     match config(alloc, members, primary) {
         Ok(config) => assign(group, config),
@@ -79,7 +79,7 @@ pub struct Arrives(pub u64);
 /// A message that comes, and what is counted after it.
 pub type Row = (Arrives, Sent, Left, Agreed);
 
-/// Lets messages come one after another, and returns whether these counts follow each.
+/// Delivers messages one after another. Returns true if these counts follow each.
 pub fn let_all_come(group: &mut Group<Tally>, rows: &[Row]) -> bool {
     for (message, sent, left, agreed) in rows {
         if !let_come(group, message.0) || counts(group) != (*sent, *left, *agreed) {
@@ -89,13 +89,13 @@ pub fn let_all_come(group: &mut Group<Tally>, rows: &[Row]) -> bool {
     true
 }
 
-/// Lets the messages come in the order of sending, also those that came before. Those to a node
-/// that has stopped are idle.
+/// Delivers all messages in the order of sending, also those that were delivered before. Those to a
+/// node that has stopped are idle.
 pub fn settle(group: &mut Group<Tally>) {
     go_on(group, 0);
 }
 
-/// Lets the messages from a number on come, and those that these bring about, up to forty.
+/// Delivers the messages from this number on, and those that follow from these, up to forty.
 pub fn go_on(group: &mut Group<Tally>, first: usize) {
     let until = first.saturating_add(40);
     for number in first..until {

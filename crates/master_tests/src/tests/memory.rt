@@ -35,7 +35,7 @@ fn two_that_run(group: &mut Group<Tally>) -> [u8; 2] {
     }
 }
 
-// Gives two nodes that run the next ballot, and has them answer a command. Returns true if its
+// Assigns the next ballot to two running nodes, and answers a command there. Returns true if its
 // output left.
 fn let_two_take_over(group: &mut Group<Tally>, alloc: Global) -> bool {
     let [primary, backup] = two_that_run(group);
@@ -107,7 +107,7 @@ fn are_answers(group: &Group<Tally>) -> bool {
     })
 }
 
-// Has node 1 add a command, and then cut its log; a second time if memory ran out for that.
+// Proposes a command at node 1, and cuts its log; a second time if memory ran out for that.
 fn propose_and_cut(group: &mut Group<Tally>) {
     answer(group, 1, 2);
     for _ in 0..2 {
@@ -115,8 +115,8 @@ fn propose_and_cut(group: &mut Group<Tally>) {
     }
 }
 
-// Has node 2 become the primary of both nodes. What found no memory is said again when time passes.
-// False if there was none for the configuration.
+// Makes node 2 the primary of both nodes. Ticks repeat what found no memory. Returns false if there
+// was none for the configuration.
 fn take_over(group: &mut Group<Tally>, alloc: Global) -> bool {
     let Ok(change) = config(alloc, &[1, 2], 2) else {
         return false;

@@ -16,7 +16,7 @@ struct Course {
     only_grows: bool,
 }
 
-// Lets an event happen or be idle, and asks what is agreed after it.
+// Does an event, which may be idle, and compares what is agreed after it.
 fn step_and_compare(group: &mut Group<Tally>, course: &mut Course, event: &Event<TallyCommand>) {
     let _ = let_happen(group, event);
     let agreed = group.agreed_len();
@@ -45,7 +45,7 @@ fn stop_and_assign(
     }
 }
 
-// Lets ten messages come in turn, as far as they were sent.
+// Delivers the next ten messages, as far as they were sent.
 fn come_on(group: &mut Group<Tally>, course: &mut Course) {
     let until = course.next.saturating_add(10);
     for number in course.next..until {
@@ -54,8 +54,8 @@ fn come_on(group: &mut Group<Tally>, course: &mut Course) {
     course.next = until.min(group.sent().len());
 }
 
-// Has a primary and the one before it take a command each, lets a message come again, and lets time
-// pass now and then.
+// Proposes a command at a primary and at the one before it, delivers a message again, and ticks now
+// and then.
 fn take_some(group: &mut Group<Tally>, course: &mut Course, leader: u8, stale: u8, number: u64) {
     step_and_compare(
         group,
@@ -71,7 +71,7 @@ fn take_some(group: &mut Group<Tally>, course: &mut Course, leader: u8, stale: u
     step_and_compare(group, course, &event);
 }
 
-// Lets 1,677 events happen under one primary.
+// Does 1,677 events under one primary.
 fn serve(group: &mut Group<Tally>, course: &mut Course, leader: u8, stale: u8) {
     for number in 0..129 {
         take_some(group, course, leader, stale, number);
@@ -79,7 +79,7 @@ fn serve(group: &mut Group<Tally>, course: &mut Course, leader: u8, stale: u8) {
     }
 }
 
-// Has another configuration take over and agree on commands with its members. Each second time its
+// Lets another configuration take over and agree on commands with its members. Each second time its
 // former primary has stopped. Returns the first step that fails.
 fn serve_next(
     group: &mut Group<Tally>,
@@ -106,8 +106,8 @@ fn serve_next(
     }
 }
 
-/// Has twelve primaries, 2 to 13, serve one after another. Each is given the ballot of its own
-/// number. Returns the first step that fails.
+/// Lets twelve primaries, 2 to 13, serve one after another, each in the ballot of its own number.
+/// Returns the first step that fails.
 pub fn serve_in_turn(group: &mut Group<Tally>, alloc: Global) -> Option<&'static str> {
     let mut course = Course {
         next: 0,
@@ -142,7 +142,7 @@ fn left_at(group: &Group<Tally>, at: usize) -> Option<u64> {
     }
 }
 
-// Lets messages come, and counts those that were sent.
+// Delivers these messages. Returns false if one is idle.
 fn all_come(group: &mut Group<Tally>, numbers: &[u64]) -> bool {
     for number in numbers {
         if !let_come(group, *number) {

@@ -1,4 +1,4 @@
--- What the parts of reporting do.
+-- What the parts of `report_connection` report.
 use Rattle.std.specs.Prelude.{◌≡◌, ℕ, ◌≤◌, List, [], ◌∷◌, ◌++◌, Option, Result, Ok, Err}
 use Rattle.std.specs.Io.KnownBytes.{Consumes}
 use Rattle.world_base.specs.declared.node_core.Port.{Port}
@@ -6,7 +6,7 @@ use Rattle.world_base.specs.declared.node_core.item.Item.{Item}
 use Rattle.node_base.specs.declared.connection.ending.Ending.{Ending}
 use Rattle.node_base.specs.connection.Reports.{Came, EndsSo, Rises, faults_after, all_bytes, pieces_reported}
 
--- these pieces were reported, and what was read is these and what was lost
+-- these pieces were reported; what was read is these pieces followed by what was lost
 pub record HearsPieces
     (port : Port) (old new : List Item) (pieces : List Came) (lost : List ℕ)
     (before after : Option (List ℕ))
@@ -14,7 +14,7 @@ pub record HearsPieces
   pub reported : new ≡ old ++ pieces_reported port pieces
   pub gave : Consumes before after (all_bytes pieces ++ lost)
 
--- pieces were reported, for a connection opened at a time, and then it ended so
+-- pieces were reported for a connection that was opened at this time, and then it ended so
 pub record HearsOn
     (port : Port) (opened : ℕ) (old new : List Item) (ending : Ending)
     (before after : Option (List ℕ))
@@ -34,7 +34,7 @@ pub record HearsSome
   pub hears : HearsPieces port old new pieces [] before after
   pub times : Rises opened pieces last
 
--- one piece was reported, with a time that is not before the last one, or none and it ended
+-- one piece was reported, no earlier than the last one; or none, and the connection ended
 abbrev pub HearsPiece :
     Port → ℕ → List Item → List Item → Result ℕ Ending
     → Option (List ℕ) → Option (List ℕ) → Type 0

@@ -1,12 +1,12 @@
--- The writing of a connection over its whole life: one call after another, each of which begins
--- with what the one before left.
+-- The writing of a connection over its whole life: a chain of calls, each from the state that the
+-- one before left.
 use Rattle.std.specs.Prelude.{ℕ, List, [], ◌++◌, Option}
 use Rattle.world_base.specs.declared.node_core.Handed.{Handed}
 use Rattle.node_base.specs.declared.connection.flow.Flow.{Flow}
 use Rattle.node_base.specs.connection.Written.{Flows}
 
--- What a tap and a device lead to: the tap now, all that was handed over by it, the device's bytes
--- now, and what is left.
+-- Where a chain of calls leads a tap and a device: the tap now, all bytes that were handed over by
+-- it, the device's bytes now, and what is left.
 pub data Lives {T : Type 0}
     (hands : T → List ℕ → Handed → T → Type 0) (first : T) (start : Option (List ℕ))
     : T → List ℕ → Option (List ℕ) → List ℕ → Type 0 where

@@ -1,5 +1,5 @@
--- What is reported of a connection: that it was opened, each piece that came on it, and that it
--- ended.
+-- What is reported of a connection: that it was opened, each piece that was read from it, and that
+-- it ended.
 use Rattle.std.specs.Prelude.{◌≡◌, ℕ, ◌≤◌, Bool, true, false, List, [], ◌∷◌, ◌++◌, length, map, Option}
 use Rattle.std.specs.List.{flat_map}
 use Rattle.std.specs.Io.KnownBytes.{Consumes, IsAtEnd}
@@ -11,12 +11,12 @@ use Rattle.world_base.specs.declared.node_core.item.Item.TheVariants.{Opened, By
 use Rattle.node_base.specs.declared.connection.ending.Ending.{Ending}
 use Rattle.node_base.specs.declared.connection.ending.Ending.TheVariants as endings
 
--- a piece that came, and the time with which it was reported
+-- a piece that was read, and the time with which it was reported
 pub record Came : Type 0 where
   pub bytes : List ℕ
   pub now : ℕ
 
--- the times of these pieces do not fall, from the opening of the connection on; the last of them
+-- the times of these pieces do not decrease, from the opening of the connection to the last of them
 pub data Rises (opened : ℕ) : List Came → ℕ → Type 0 where
   -- no piece yet
   opens : Rises opened [] opened
@@ -28,7 +28,8 @@ pub data Rises (opened : ℕ) : List Came → ℕ → Type 0 where
 abbrev pub pieces_reported : Port → List Came → List Item
 pieces_reported port pieces = map (λ (piece : Came). Bytes port piece.bytes piece.now) pieces
 
--- the whole report of a connection that was opened at a time, and on which these pieces came
+-- the whole report of a connection that was opened at this time, and from which these pieces were
+-- read
 abbrev pub report_of : Port → ℕ → List Came → List Item
 report_of port opened pieces = Opened port opened ∷ (pieces_reported port pieces ++ Ended port ∷ [])
 
@@ -36,8 +37,8 @@ report_of port opened pieces = Opened port opened ∷ (pieces_reported port piec
 abbrev pub all_bytes : List Came → List ℕ
 all_bytes pieces = flat_map (λ (piece : Came). piece.bytes) pieces
 
--- How it ended, with the pieces that came, what was read and not reported, and what the device has
--- left: a byte is lost only if memory ran out.
+-- How the connection ended: the pieces reported, the bytes read and not reported, and what the
+-- device has left. A byte is lost only if memory ran out.
 abbrev pub EndsSo : Ending → List Came → List ℕ → Option (List ℕ) → Type 0
 EndsSo endings.Refused pieces lost after = (pieces ≡ []) × (lost ≡ [])
 EndsSo endings.End pieces lost after = (lost ≡ []) × IsAtEnd after
@@ -49,7 +50,7 @@ abbrev pub was_let_in : Ending → Bool
 was_let_in endings.Refused = false
 was_let_in _ = true
 
--- the hearer was asked whether the connection may be read, and returned this answer
+-- the sink was asked whether the connection may be read, and returned this answer
 pub record WasLet {H : Type 0} (lets : H → Bool → Type 0) (answer : Bool) : Type 0 where
   pub sink : H
   pub answered : lets sink answer
@@ -59,8 +60,8 @@ abbrev pub faults_after : Ending → ℕ → ℕ
 faults_after endings.Fault faults = counted_once faults
 faults_after _ faults = faults
 
--- What was reported after the earlier reports is a whole connection, its pieces are what the device
--- returned, and their times do not fall.
+-- What was added to the earlier reports is the report of one whole connection. Its pieces are what
+-- the device returned, and their times do not decrease.
 pub record Hears
     (port : Port) (old new : List Item) (ending : Ending) (before after : Option (List ℕ))
     : Type 0 where

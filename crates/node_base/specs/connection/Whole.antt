@@ -5,15 +5,16 @@ use Rattle.node_base.specs.devices.Counted.{CountedView}
 use Rattle.world_base.specs.declared.node_core.Handed.{Handed}
 use Rattle.node_base.specs.connection.Life.{Lives}
 
--- a tap, what was handed over by it and is not yet written, and the device that is written to
+-- a tap, the bytes that were handed over by it and are not yet written, and the device that is
+-- written to
 pub record OutflowView (T W : Type 0) : Type 0 where
   pub tap : T
   pub left : List ℕ
   pub device : CountedView W
 
--- From its first byte on a stream is whole. Its tap was opened, its device held no byte, as far as
--- that is known, and then came one write after another. All that was handed over by the tap is what
--- was written, followed by what is left (`NothingIsLeftOut` of `Laws`).
+-- A stream is whole from its first byte on: its tap was opened, its device held no byte as far as
+-- that is known, and then came one write after another. So all that was handed over by the tap is
+-- what was written, followed by what is left (`NothingIsLeftOut` of `Theorems`).
 pub record IsWhole {T : Type 0} (opens : T → Type 0) (hands : T → List ℕ → Handed → T → Type 0)
     (tap : T) (contents : Option (List ℕ)) (left : List ℕ)
     : Type 0 where

@@ -1,4 +1,4 @@
--- What is written of queued bytes, in order, and what is left.
+-- How much of the queued bytes is written, in order, and what is left.
 use Rattle.std.specs.Prelude.{◌≡◌, ℕ, ◌<◌, ◌⊎◌, List, [], ◌++◌, length, Option}
 use Rattle.std.specs.Io.KnownBytes.{Appends}
 use Rattle.node_base.specs.devices.Counted.{counted_once}
@@ -9,7 +9,7 @@ use Rattle.node_base.specs.declared.connection.left_write.LeftWrite.TheVariants 
 use Rattle.node_base.specs.declared.connection.flow.Flow.{Flow}
 use Rattle.node_base.specs.declared.connection.flow.Flow.TheVariants as flows
 
--- a prefix of the bytes was appended to the device's, and what is left is the rest
+-- a prefix of the bytes was appended to the device's, and the rest is left
 pub record Writes (old new : Option (List ℕ)) (bytes left : List ℕ) : Type 0 where
   pub taken : List ℕ
   pub is : bytes ≡ taken ++ left
@@ -23,7 +23,7 @@ LeavesSo left_writes.Stopped left = 0 < length left
 LeavesSo left_writes.Fault left = 0 < length left
 
 module _ {T : Type 0} where
-  -- these bytes are what is handed over with this answer, and they were appended to the list
+  -- these bytes are handed over with this answer, and were appended to the list
   pub record HandsOver
       (hands : T → List ℕ → Handed → T → Type 0) (before : T) (answer : Handed) (after : T)
       (old new : List ℕ)
@@ -32,7 +32,7 @@ module _ {T : Type 0} where
     pub handed : hands before bytes answer after
     pub is : new ≡ old ++ bytes
 
-  -- these bytes are handed over, or none, because the device did not take what was left, or memory
+  -- these bytes are handed over; or none, because the device did not take what was left, or memory
   -- ran out
   abbrev pub HandsAny : (T → List ℕ → Handed → T → Type 0) → T → List ℕ → T → Type 0
   HandsAny hands before bytes after =
@@ -46,7 +46,7 @@ module _ {T : Type 0} where
   HandsSo hands flows.Stopped before bytes after = HandsAny hands before bytes after
   HandsSo hands flows.Fault before bytes after = HandsAny hands before bytes after
 
--- what is left, by how the writing ended; if it stopped, that may be nothing, since memory may have
+-- what is left, by how the writing ended; after `Stopped` it may be nothing, since memory may have
 -- run out
 abbrev pub RestsSo : Flow → List ℕ → Type 0
 RestsSo flows.Open rest = rest ≡ []
@@ -60,7 +60,7 @@ abbrev pub faults_written : LeftWrite → ℕ → ℕ
 faults_written left_writes.Fault faults = counted_once faults
 faults_written _ faults = faults
 
--- the count of faults after all writes of queued bytes
+-- the count of the device's failed calls after all writes of `write_out`
 abbrev pub faults_flowed : Flow → ℕ → ℕ
 faults_flowed flows.Fault faults = counted_once faults
 faults_flowed _ faults = faults

@@ -3,7 +3,8 @@ use Rattle.std.specs.Prelude.{◌≡◌, ℕ, ◌≤◌, Option, List, length, t
 use Rattle.std.specs.Io.KnownBytes.{Appends, Keeps}
 use Rattle.node_base.specs.devices.Counted.{CountedView, counted_once}
 
--- this many bytes were added to the device's, or the call failed, was counted, and changed nothing
+-- this many bytes were appended to the device's; or the call failed, was counted, and changed
+-- nothing
 abbrev pub WritesOnce :
     {D : Type 0} → (D → Option (List ℕ)) → CountedView D → CountedView D → Option ℕ → List ℕ →
     Type 0

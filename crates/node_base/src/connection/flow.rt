@@ -1,4 +1,7 @@
 // Writing what is queued for a connection.
+//
+// Bytes are taken from the outlet only once all that was taken before is written. So a slow device
+// holds back at most one batch, and the rest waits at the node, where its size is bounded.
 
 ghost use Rattle.std.specs.Prelude.{◌≡◌};
 ghost use Rattle.node_base.specs.connection.Written.{Flows, faults_flowed};
@@ -15,21 +18,21 @@ use world_base::node_connections::Handed;
 /// How [`write_out`] ended.
 #[derive(Clone, Copy, Debug, PartialEq, Eq)]
 pub enum Flow {
-    /// All was written, and more may come.
+    /// All was written; more may be queued later.
     Open,
-    /// All was written, and nothing more comes.
+    /// All was written, and nothing more will be queued.
     Closed,
-    /// The device was full, and something is left.
+    /// The device was full, and bytes are left.
     Blocked,
-    /// The device takes nothing more, and no call failed; or memory ran out.
+    /// The device takes no more although no call failed; or memory ran out.
     Stopped,
     /// A call of the device failed.
     Fault,
 }
 
-/// Writes what was left before, followed by what is handed over now by a tap. As long as something
-/// is left, no more is taken from the outlet, so that the rest waits there, where its size is
-/// bounded. What is not written is left, in order.
+/// Writes what was left before, then what the outlet hands over for the tap, as far as the device
+/// takes it. Nothing is taken from the outlet while bytes are left. Bytes that are not written are
+/// kept, in order.
 pub fn write_out<R: Wait, T: Tap, O: Outlet<T>, W: Write>(
     rt: &R,
     left: &mut Unwritten,
@@ -40,7 +43,7 @@ pub fn write_out<R: Wait, T: Tap, O: Outlet<T>, W: Write>(
     ensures flows { Flows T.hands result tap.old tap.new
         (W.contents device.old.device) (W.contents device.new.device) left.old left.new }
 
-    // A fault is reported exactly if one more call of the device failed.
+    // Ends as `Fault` exactly if one more call of the device failed.
     ensures faults { device.new.faults ≡ faults_flowed result device.old.faults }
 {
     match left.write(device) {

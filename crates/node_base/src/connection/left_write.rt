@@ -1,6 +1,6 @@
-// How far a write of what was left came.
+// How a write of unwritten bytes ended.
 
-/// How far [`Unwritten::write`](crate::connection::Unwritten::write) came.
+/// How [`Unwritten::write`](crate::connection::Unwritten::write) ended.
 #[derive(Clone, Copy, Debug, PartialEq, Eq)]
 pub enum LeftWrite {
     /// All was written.

@@ -1,4 +1,8 @@
-// What is written on a connection, from its first byte on.
+// The bytes written on a connection, from the first on.
+//
+// Tap, unwritten bytes and device are one value and nothing else holds any of them. So its
+// invariant covers the whole stream: all that was handed over by the tap is what was written,
+// followed by what is left. The value may be kept anywhere between two writes, also under a lock.
 
 ghost use Rattle.std.specs.Prelude.{◌≡◌, []};
 ghost use Rattle.std.specs.Io.KnownBytes.{IsAtEnd};
@@ -15,16 +19,14 @@ use std::io::Write;
 use std::marker::Model;
 use std::sync::Wait;
 
-/// A connection's tap, the device to which its bytes are written, and what the device has not yet
-/// taken. Nothing else holds any of them. So wherever it is kept between two writes, its stream is
-/// whole.
+/// The writing side of a connection: its tap, the device, and the bytes that the device has not yet
+/// taken.
 #[derive(Drop)]
 pub struct Outflow<T: Tap, W: Write> {
-    // Fetches the bytes of the connection's port.
     tap: T,
-    // What was handed over by the tap and is not yet written.
+    // Bytes that were handed over by the tap and are not yet written.
     left: Unwritten,
-    // What is written to, with the number of its faults.
+    // The device, with the count of its failed calls.
     device: Counted<W>,
 }
 
@@ -40,7 +42,7 @@ impl<T: Tap, W: Write> Model for Outflow<T, W> {
 }
 
 impl<T: Tap, W: Write> Outflow<T, W> {
-    /// Begins a stream, with a tap by which nothing was handed over.
+    /// Returns a stream on which nothing was written, with a tap by which nothing was handed over.
     pub fn new(alloc: Global, tap: T, device: W) -> Outflow<T, W>
         requires opens { T.opens tap }
         requires empty { IsAtEnd (W.contents device) }
@@ -55,15 +57,14 @@ impl<T: Tap, W: Write> Outflow<T, W> {
         Outflow { tap, left, device }
     }
 
-    /// Returns its tap.
+    /// Returns the tap.
     pub fn tap(&self) -> &T
         ensures { result.now ≡ self.now.tap }
     {
         &self.tap
     }
 
-    /// Writes what was left before, followed by what an outlet hands over now, as [`write_out`]
-    /// does.
+    /// Writes what was left before, then what the outlet hands over now, as [`write_out`].
     pub fn write<R: Wait, O: Outlet<T>>(&mut self, rt: &R, outlet: &mut O) -> Flow
         ensures flows { Flows T.hands result self.old.tap self.new.tap
             (W.contents self.old.device.device) (W.contents self.new.device.device)
@@ -74,7 +75,7 @@ impl<T: Tap, W: Write> Outflow<T, W> {
         ensures whole { IsWhole T.opens T.hands
             self.new.tap (W.contents self.new.device.device) self.new.left }
 
-        // A fault is reported exactly if one more call of the device failed.
+        // Ends as `Fault` exactly if one more call of the device failed.
         ensures faults { self.new.device.faults ≡ faults_flowed result self.old.device.faults }
     {
         write_out(rt, &mut self.left, &mut self.tap, outlet, &mut self.device)

@@ -1,4 +1,4 @@
-// The source of the bytes for connections.
+// Where the bytes for connections come from.
 
 ghost use Rattle.std.specs.Prelude.{◌≡◌, IfOk, OnErr};
 ghost use Rattle.node_base.specs.connection.Written.{HandsOver};
@@ -8,10 +8,10 @@ use machine::Memory;
 use std::sync::Wait;
 use world_base::node_connections::Handed;
 
-/// The source of the bytes that are queued for connections, each taken by its tap: a node, also one
-/// under a lock.
+/// A source of queued bytes, each batch taken with a connection's tap: a node, also one under a
+/// lock.
 pub trait Outlet<T: Tap> {
-    /// Appends what was queued for the tap's connection and not yet handed over, and says whether
+    /// Appends what was queued for the tap's connection and not yet handed over. Returns whether
     /// more may come. The only error is that memory ran out, and then nothing is handed over.
     fn hand_over<R: Wait>(
         &mut self,

@@ -1,4 +1,4 @@
-// Reporting what comes on a connection.
+// Reporting what is read from a connection.
 
 ghost use Rattle.std.specs.Prelude.{◌≡◌, true, length, IfErr};
 ghost use Rattle.node_base.specs.connection.Reports.{Hears, WasLet, faults_after, was_let_in};
@@ -14,8 +14,8 @@ use std::time::Clock;
 use world_base::node_connections::{Piece, Port};
 use world_base::node_core::Item;
 
-/// Reports a connection: that it was opened, then each piece that the device returns, then that
-/// it ended, however it did.
+/// Reports a connection to the sink: that it was opened, then each piece that the device returns,
+/// then that it ended. Returns how it ended.
 pub fn report_connection<R: Wait + Clock, H: ReportSink, D: Read>(
     rt: &R,
     alloc: Global,
@@ -26,11 +26,11 @@ pub fn report_connection<R: Wait + Clock, H: ReportSink, D: Read>(
     ensures hears { Hears port (H.heard sink.old) (H.heard sink.new)
         result (D.remaining device.old.device) (D.remaining device.new.device) }
 
-    // The hearer was asked whether the connection may be read. It was not read exactly if the
-    // answer was no.
+    // The sink was asked whether the connection may be read, and it was read exactly if the answer
+    // was yes.
     ensures let_in { WasLet H.lets (was_let_in result) }
 
-    // A fault is reported exactly if one more call of the device failed.
+    // Ends as `Fault` exactly if one more call of the device failed.
     ensures faults { device.new.faults ≡ faults_after result device.old.faults }
 {
     let opened = sink.now(rt);
@@ -40,8 +40,7 @@ pub fn report_connection<R: Wait + Clock, H: ReportSink, D: Read>(
     ending
 }
 
-// Reports each piece that the device returns, until the device ends, if the hearer lets the
-// connection be read. The connection was reported as opened at the time `opened`.
+// Reports each piece until the device ends, if the sink lets the connection be read.
 fn report_pieces<R: Wait + Clock, H: ReportSink, D: Read>(
     rt: &R,
     alloc: Global,
@@ -72,8 +71,8 @@ fn report_pieces<R: Wait + Clock, H: ReportSink, D: Read>(
     unreachable!()
 }
 
-// Reads a piece by one call of the device and reports it, with a time that is not before the last
-// one. Returns that time, or how the connection ended.
+// Reads one piece and reports it, with a time that is not before `last`. Returns that time, or how
+// the connection ended.
 fn report_piece<R: Wait + Clock, H: ReportSink, D: Read>(
     rt: &R,
     alloc: Global,

@@ -1,4 +1,4 @@
-// What is queued and not yet written.
+// Bytes that are queued and not yet written.
 
 ghost use Rattle.std.specs.Prelude.{◌≡◌, ◌==◌, ◌≤◌, [], drop, length, IfOk, OnErr};
 ghost use Rattle.node_base.specs.connection.Written.{HandsOver, LeavesSo, Writes, faults_written};
@@ -14,18 +14,16 @@ use std::marker::Model;
 use std::sync::Wait;
 use world_base::node_connections::Handed;
 
-/// How much capacity an empty one keeps for what comes next.
+/// How much capacity an empty list keeps, in bytes.
 const CAPACITY_KEPT: usize = 65_536;
 
-/// Bytes that are queued and not yet written, in order. What was written is not moved: its bytes
-/// are counted.
+/// Bytes that are queued and not yet written, in order. Written bytes are counted, not moved out.
 #[derive(Drop)]
 pub struct Unwritten {
-    // The allocator of an empty list, which an outlet gets.
     alloc: Global,
-    // All bytes that were queued last, written or not.
+    // The bytes that were queued last, written or not.
     bytes: Vec<u8>,
-    // How many of these bytes were written.
+    // How many of them were written.
     done: usize,
 }
 
@@ -40,7 +38,7 @@ impl Model for Unwritten {
 }
 
 impl Unwritten {
-    /// Returns an empty one.
+    /// Returns an empty list.
     pub fn new(alloc: Global) -> Unwritten
         ensures { result ≡ [] }
     {
@@ -51,7 +49,7 @@ impl Unwritten {
         }
     }
 
-    /// Copies these bytes. The only error is that memory runs out.
+    /// Returns a copy of these bytes. The only error is that memory ran out.
     pub fn from_slice(alloc: Global, bytes: &[u8]) -> Result<Unwritten, AllocError>
         ensures { IfOk result (λ left. left ≡ bytes.now) }
     {
@@ -63,21 +61,21 @@ impl Unwritten {
         })
     }
 
-    /// Returns true if there is no byte.
+    /// Returns true if nothing is left to write.
     pub fn is_empty(&self) -> bool
         ensures { result ≡ (length self.now == 0) }
     {
         self.done == self.bytes.len()
     }
 
-    /// Writes as much as the device takes. A call that was interrupted is repeated. A call that
-    /// would have to wait, or did so for too long, means that the device is full.
+    /// Writes as much as the device takes. Repeats a call that was interrupted. A call that would
+    /// block or timed out means that the device is full.
     pub fn write<W: Write>(&mut self, device: &mut Counted<W>) -> LeftWrite
         ensures writes { Writes
             (W.contents device.old.device) (W.contents device.new.device) self.old self.new }
         ensures leaves { LeavesSo result self.new }
 
-        // A fault is reported exactly if one more call of the device failed.
+        // Ends as `Fault` exactly if one more call of the device failed.
         ensures faults { device.new.faults ≡ faults_written result device.old.faults }
     {
         for _ in 0..u64::MAX {
@@ -98,8 +96,8 @@ impl Unwritten {
         }
     }
 
-    /// Takes all that an outlet has for a tap now, if nothing is left. If the outlet swaps its list
-    /// with an empty one, as a node does, no byte is copied.
+    /// Takes all that the outlet has for the tap, if nothing is left. No byte is copied if the
+    /// outlet swaps its list with the empty one, as a node does.
     pub(crate) fn take_from<R: Wait, T: Tap, O: Outlet<T>>(
         &mut self,
         rt: &R,
@@ -116,14 +114,13 @@ impl Unwritten {
         outlet.hand_over(rt, tap, &mut self.bytes)
     }
 
-    // Returns the bytes that are left.
     fn as_slice(&self) -> &[u8]
         ensures { result.now ≡ self.now }
     {
         &self.bytes[self.done..]
     }
 
-    // Counts the first bytes as written.
+    // Counts `count` more bytes as written.
     fn skip(&mut self, count: usize)
         requires { count ≤ length self.old }
         ensures { self.new ≡ drop count self.old }
@@ -132,7 +129,7 @@ impl Unwritten {
     }
 }
 
-// Drops all bytes, and capacity that is too large to keep.
+// Empties the list, and frees its memory if that is more than `CAPACITY_KEPT`.
 fn empty(alloc: Global, bytes: &mut Vec<u8>)
     ensures { bytes.new.items ≡ [] }
 {

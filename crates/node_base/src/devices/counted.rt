@@ -1,4 +1,4 @@
-// A device and the count of its failed calls.
+// A device with the count of its failed calls.
 
 ghost use Rattle.std.specs.Prelude.{◌≡◌, ◌≢◌, ◌<◌, length, if◌then◌else◌};
 ghost use Rattle.std.specs.Io.KnownBytes.{Appends, Keeps};
@@ -15,10 +15,9 @@ use std::marker::Model;
 /// A good size of the buffer for [`Counted::read_piece`], in bytes.
 pub const PIECE_BYTES: usize = 65_536;
 
-/// A device together with the number of its calls that failed. The count stays at 2^64 - 1.
+/// A device with the count of its failed calls (saturates at 2^64 - 1).
 #[derive(Drop)]
 pub struct Counted<D> {
-    // Does the calls.
     device: D,
     // How many of its calls failed, at most 2^64 - 1.
     faults: u64,
@@ -33,21 +32,21 @@ impl<D> Model for Counted<D> {
 }
 
 impl<D> Counted<D> {
-    /// Returns a device; no call of it has failed yet.
+    /// Returns the device, with a count of 0.
     pub fn new(device: D) -> Self
         ensures { result ≡ record { device = device; faults = 0 } }
     {
         Counted { device, faults: 0 }
     }
 
-    /// Returns how many calls of the device have failed, at most 2^64 - 1.
+    /// Returns how many calls of the device have failed (saturates at 2^64 - 1).
     pub fn faults(&self) -> u64
         ensures { result ≡ self.now.faults }
     {
         self.faults
     }
 
-    /// Returns the device itself. Its count is forgotten.
+    /// Returns the device, and forgets the count.
     pub fn into_device(self) -> D
         ensures { result ≡ self.device }
     {
@@ -56,7 +55,7 @@ impl<D> Counted<D> {
 }
 
 impl<W: Write> Counted<W> {
-    /// Writes all bytes and flushes the device, in as many calls as needed. What is written is
+    /// Writes all bytes and flushes the device, in as many calls as needed. What was written is
     /// always a prefix of `bytes`.
     pub fn write_whole(&mut self, bytes: &[u8]) -> WholeWrite
         ensures prefix { WritesPrefix
@@ -66,7 +65,7 @@ impl<W: Write> Counted<W> {
         ensures stopped { result ≡ WholeWrite.Stopped → WritesShort
             (W.contents self.old.device) (W.contents self.new.device) bytes.now }
 
-        // A fault is reported exactly if one more call of the device failed.
+        // `Fault` comes exactly if one more call of the device failed.
         ensures fault { result ≡ WholeWrite.Fault →
             self.new.faults ≡ counted_once self.old.faults }
         ensures no_fault { result ≢ WholeWrite.Fault → self.new.faults ≡ self.old.faults }
@@ -86,14 +85,14 @@ impl<W: Write> Counted<W> {
         }
     }
 
-    /// Writes a piece, by one call of the device, which may take a prefix of it. A call that was
-    /// interrupted took nothing. If the call would have to wait, or waited for too long, the device
-    /// is full. Neither is a fault.
+    /// Writes by one call of the device, which may take any prefix of `bytes`. An interrupted call
+    /// took nothing; a call that would block or timed out means that the device is full. Neither is
+    /// a fault.
     pub fn write_piece(&mut self, bytes: &[u8]) -> OneWrite
         ensures piece { WritesPiece
             result (W.contents self.old.device) (W.contents self.new.device) bytes.now }
 
-        // A fault is reported exactly if one more call of the device failed.
+        // `Fault` comes exactly if one more call of the device failed.
         ensures faults { self.new.faults ≡ counted_write result self.old.faults }
     {
         let error = match self.device.write(bytes) {
@@ -111,7 +110,7 @@ impl<W: Write> Counted<W> {
         }
     }
 
-    // Makes one call of the device. Returns how many bytes it took, or none if it failed.
+    // Makes one write call. Returns how many bytes it took, or none if it failed.
     fn write_once(&mut self, bytes: &[u8]) -> Option<usize>
         ensures { WritesOnce W.contents self.old self.new result bytes.now }
     {
@@ -124,7 +123,7 @@ impl<W: Write> Counted<W> {
         }
     }
 
-    // Flushes the device. Returns true if that did not fail.
+    // Flushes the device. Returns false if that failed.
     fn flush(&mut self) -> bool
         ensures kept { Keeps (W.contents self.old.device) (W.contents self.new.device) }
         ensures fault { self.new.faults
@@ -139,13 +138,13 @@ impl<W: Write> Counted<W> {
 }
 
 impl<R: Read> Counted<R> {
-    /// Reads one piece, by one call of the device, into the front of `buffer`.
+    /// Reads by one call of the device into the front of `buffer`.
     pub fn read_piece(&mut self, buffer: &mut [u8]) -> OneRead
         requires { 0 < length buffer.old }
         ensures piece { ReadsPiece
             result (R.remaining self.old.device) (R.remaining self.new.device) buffer.new }
 
-        // A fault is reported exactly if one more call of the device failed.
+        // `Fault` comes exactly if one more call of the device failed.
         ensures faults { self.new.faults ≡ counted_read result self.old.faults }
     {
         match self.device.read(buffer) {

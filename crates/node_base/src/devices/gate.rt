@@ -2,30 +2,29 @@
 
 use std::sync::Wait;
 
-/// What is asked before a node takes an item. A test that holds nodes at it sees which of them
-/// continue without the others. Several nodes may ask it at once, and the lock of a node's state is
-/// not held meanwhile, which no clause says.
+/// Asked before each taking of a node. A test holds nodes at a gate to see which of them go on
+/// without the others. Several nodes may ask one gate at once; the lock of a node's state is not
+/// held meanwhile, which no clause says.
 pub trait Gate {
     ghost use Rattle.std.specs.Prelude.{ℕ, Bool};
 
-    // It was asked whether the node of this number may do its taking of this number, and answered
-    // this.
+    // It was asked whether this node may do its taking of this number, and answered this.
     ghost answers: { Self → ℕ → ℕ → Bool → Type 0 };
 
-    // It was informed that the node of this number has done its taking of this number.
+    // It was told that this node has done its taking of this number.
     ghost hears: { Self → ℕ → ℕ → Type 0 };
 
-    /// Returns true if the node of this number may do its taking of this number, from 1. If not, it
-    /// is asked again a while later.
+    /// Returns true if node `node` may do its taking `taking`, counted from 1. If false, it is
+    /// asked again later.
     fn open<R: Wait>(&self, rt: &R, node: u8, taking: u64) -> bool
         ensures { answers self.now node taking result };
 
-    /// Hears that the node has done its taking of this number, whether an item waited or not.
+    /// Notes that node `node` has done its taking `taking`, whether an item waited or not.
     fn answered<R: Wait>(&self, rt: &R, node: u8, taking: u64)
         ensures { hears self.now node taking };
 }
 
-/// The type to use if there is no gate. As a gate it is always open.
+/// Stands for no gate: always open.
 #[derive(Clone, Copy, Debug, PartialEq, Eq)]
 pub struct NoGate;
 

@@ -137,7 +137,7 @@ pub(super) fn sent(is_sent: bool) -> Came {
     if is_sent { Came::Sent } else { Came::Nothing }
 }
 
-// Has a node hand over what it queued for the connection, which takes it away.
+// Takes the bytes that a node queued for the connection.
 fn hand_over<J: NodeNaming>(alloc: Global, state: &mut NodeState<J>) -> Came {
     let mut out = Vec::new(alloc);
     let handed = state.outgoing(PORT, &mut out).ok();

@@ -46,7 +46,7 @@ impl<J: NodeNaming> Two<J> {
         }
     }
 
-    // Has the node at this index take an item.
+    // Takes an item at the node of this index.
     fn take<R: Wait>(&self, rt: &R, alloc: Global, at: usize) -> Came {
         match self.nodes.get(at) {
             Some(node) => take_one(rt, alloc, &mut node.lock(rt)),
@@ -64,7 +64,7 @@ impl<J: NodeNaming> Two<J> {
         }
     }
 
-    // Makes a call, and returns what came of it.
+    // Makes a call, and returns its result.
     fn call<R: Wait>(&self, rt: &R, alloc: Global, call: Call) -> Came {
         match call {
             Call::Send(at, now) => sent(self.send(rt, at, now)),

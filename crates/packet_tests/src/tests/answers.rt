@@ -17,7 +17,7 @@ pub enum Answer {
     Refused(RefusalCode),
 }
 
-/// Tells what bytes are.
+/// Returns what these bytes are decoded as.
 pub fn answer_to(alloc: Global, bytes: &[u8]) -> Answer {
     match &decode(alloc, bytes) {
         Ok(Step::Whole(_, len)) => Answer::Whole(*len),

@@ -50,7 +50,7 @@ fn publish_of(alloc: Global, delivery: Delivery, retain: bool, payload: Payload)
     }
 }
 
-/// Makes a PUBLISH on topic `t`, if there is memory.
+/// Returns a PUBLISH on topic `t`, if there is memory.
 pub fn publish(alloc: Global, delivery: Delivery, retain: bool, payload: &[u8]) -> Option<Packet> {
     match Payload::new(alloc, payload) {
         Ok(payload) => publish_of(alloc, delivery, retain, payload),
@@ -155,7 +155,7 @@ fn suback(alloc: Global, codes: &[SubackCode]) -> Option<Packet> {
     }
 }
 
-// Makes a packet, if there is memory.
+// Returns a packet, if there is memory.
 fn packet_of(alloc: Global, packet: Made<'_>) -> Option<Packet> {
     match packet {
         Made::Connect(client, keep_alive) => connect(alloc, client, keep_alive),
@@ -171,7 +171,7 @@ fn packet_of(alloc: Global, packet: Made<'_>) -> Option<Packet> {
     }
 }
 
-/// Tells whether these bytes are read as the packet, all of them.
+/// Returns true if these bytes are decoded as the packet, all of them.
 pub fn is_read(alloc: Global, packet: &Packet, bytes: &[u8]) -> bool {
     match &decode(alloc, bytes) {
         Ok(Step::Whole(read, len)) => *read == *packet && *len == bytes.len(),
@@ -222,8 +222,8 @@ fn first_fault_of_bytes(written: &[u8], bytes: &[u8]) -> Option<Came> {
     }
 }
 
-// Returns what came, if not these bytes are written for the packet, after a byte that the vector is
-// given.
+// Returns what is written for the packet after a byte that is there before, if it is not these
+// bytes.
 fn first_fault_of_written(packet: &Packet, out: &mut Vec<u8>, bytes: &[u8]) -> Option<Came> {
     if out.push(9).is_err() {
         return Some(Came::NoMemory);

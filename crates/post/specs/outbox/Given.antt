@@ -1,4 +1,4 @@
--- What a step of a node gave for others.
+-- Messages that were produced by a node's steps.
 use Rattle.std.specs.Prelude.{◌≡◌, ℕ, List}
 use Rattle.ballot_base.specs.StepOutcome.{master}
 use Rattle.broker_spec.specs.declared.command.Command.{Command}
@@ -13,12 +13,12 @@ use Rattle.world_base.specs.node_core.Losses.{ItemStepOrLost}
 use Rattle.lists.specs.Lists.{In}
 use Rattle.node.specs.State.{Replays}
 
--- a message, and the number of the node or the master that it is for
+-- a message, and the number of its receiver: a node, or the master
 pub record Addressed : Type 0 where
   pub receiver : ℕ
   pub message : Message Command
 
--- the receiver of this number is the master, whose number is 0
+-- this number is the master's, 0
 abbrev pub IsMasterNumber : ℕ → Type 0
 IsMasterNumber receiver = receiver ≡ master
 
@@ -28,12 +28,12 @@ pub record IsNewNode (core : CountedCore) : Type 0 where
   pub config : Config
   pub is : core ≡ record { core = opening_core number config; losses = 0 }
 
--- whatever its inbox's number, a node began as one that opens
+-- each number names a node that has just opened
 abbrev pub EachOpens : (ℕ → CountedCore) → Type 0
 EachOpens first_of = (inbox : ℕ) → ∥ IsNewNode (first_of inbox) ∥₁
 
--- A step of a node gave this. Before that step the node was what it became, from its opening on, by
--- one step for each item that it took.
+-- The effect was produced by a step of some node, whose state before that step was the fold of
+-- `step` over the items that it had taken.
 pub record WasGiven (effect : Effect Command Output) : Type 0 where
   pub first : CountedCore
   pub opens : ∥ IsNewNode first ∥₁
@@ -47,6 +47,6 @@ pub record WasGiven (effect : Effect Command Output) : Type 0 where
   pub step : ItemStepOrLost core item next before after
   pub gives : In effect step.given
 
--- a step of a node gave this message for the master
+-- this message for the master was produced by a node's step
 abbrev pub WasGivenToMaster : Message Command → Type 0
 WasGivenToMaster message = WasGiven (To master message)

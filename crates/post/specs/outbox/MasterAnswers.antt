@@ -12,7 +12,7 @@ use Rattle.node.specs.declared.Body.TheVariants.{Activate}
 use Rattle.node.specs.declared.Config.{Config}
 use Rattle.post.specs.outbox.Given.{Addressed, WasGivenToMaster}
 
--- what the master answers to a message of a node: only an Activate gets an answer
+-- the master's answer to a message of a node: only an Activate gets one
 abbrev pub answer_to : MasterState → ℕ → Body Command → Option (MasterOutcome Command)
 answer_to master from (Activate ballot) = Some (activated Command master ballot from master.waiting)
 answer_to master from _ = None
@@ -34,18 +34,18 @@ abbrev pub message_if : Option (MasterOutcome Command) → Option Addressed
 message_if (Some outcome) = Some (message_of outcome)
 message_if None = None
 
--- what the master answers, and why: an order that it does not refuse, or an Activate that a step of
--- a node gave for it
+-- an answer of the master and its cause: an order that it does not refuse, or an Activate that was
+-- produced by a node's step
 pub data Answers (master : MasterState) : MasterOutcome Command → Type 0 where
   -- it does not refuse the order
   to_order : (config : Config)
       → refusal master config ≡ None → Answers master (assigned Command master config)
-  -- a step of a node gave the Activate
+  -- an Activate that was produced by a node's step
   to_node : (asked : Message Command) (ballot : ℕ)
       → WasGivenToMaster asked → asked.body ≡ Activate ballot
       → Answers master (activated Command master ballot asked.from master.waiting)
 
--- the states that it reaches, from its opening on, by one answer after another
+-- the states of the master: its opening, and what one answer after another leads to
 pub data IsReachable : MasterState → Type 0 where
   -- its opening
   opens : (config : Config) → IsReachable (opening_master config)
@@ -62,8 +62,8 @@ pub record WasAnswered (receiver : ℕ) (message : Message Command) : Type 0 whe
   pub answers : Answers master outcome
   pub is : record { receiver = receiver; message = message } ≡ message_of outcome
 
--- A configuration may get this ballot by an order: a ballot may have its members and its primary,
--- and the number comes after that of the first ballot, up to the last.
+-- An order may give this ballot to the configuration: a ballot may have its members and its
+-- primary, and the number comes after that of the first ballot, up to the last.
 pub record MayGet (config : Config) (ballot : ℕ) : Type 0 where
   pub lawful : is_lawful config.members config.primary ≡ true
   pub after_first : 1 < ballot

@@ -1,5 +1,5 @@
--- What may be queued for a node: a message that a step of another node gave, an answer of the
--- master, the order to crash, or the order to end the session of a client.
+-- What may be queued for a node: a message that was produced by another node's step, an answer of
+-- the master, the order to crash, or the order to end a client's session.
 use Rattle.std.specs.Prelude.{ℕ, List}
 use Rattle.broker_spec.specs.declared.command.Command.{Command}
 use Rattle.ballot_base.specs.declared.message.Effect.TheVariants.{To}
@@ -11,7 +11,7 @@ pub use Rattle.post.specs.outbox.MasterAnswers.{WasAnswered}
 
 -- what any sender except the master may queue for a node of this number
 pub data IsPosted (receiver : ℕ) : Item → Type 0 where
-  -- a message that a step of a node gave for it
+  -- a message for it, produced by a node's step
   of_node : (message : Message Command)
       → WasGiven (To receiver message) → IsPosted receiver (Peer message)
   -- an order to crash
@@ -27,7 +27,7 @@ pub data MayQueue (receiver : ℕ) : Item → Type 0 where
   of_master : (message : Message Command)
       → WasAnswered receiver message → MayQueue receiver (Peer message)
 
--- an item may be queued for a node: nothing more is known about a queued item, whichever thread
--- queued it
+-- the item may be queued for this node; that is all that is known of a queued item, whichever
+-- thread queued it
 abbrev pub IsQueued : ℕ → Item → Type 0
 IsQueued receiver item = ∥ MayQueue receiver item ∥₁

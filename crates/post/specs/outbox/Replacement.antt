@@ -1,4 +1,4 @@
--- Which message that waits for a node says nothing more, once another comes after it.
+-- Which waiting message is replaced by a newer one.
 use Rattle.std.specs.Prelude.{ℕ, Bool, false, ◌==◌, ◌&&◌, ◌-◌, nat_le, if◌then◌else◌, List, length, Option, Some, None, take, slice_get}
 use Rattle.broker_spec.specs.declared.command.Command.{Command}
 use Rattle.node.specs.declared.Body.{Body}
@@ -6,23 +6,24 @@ use Rattle.node.specs.declared.Body.TheVariants.{Held, Commit}
 use Rattle.node.specs.declared.Item.{Item}
 use Rattle.node.specs.declared.Item.TheVariants.{Peer}
 
--- whether a message says that a member holds no more than this many places, in this ballot
+-- a Held of this ballot for at most this many places
 abbrev pub is_held_within : ℕ → ℕ → Body Command → Bool
 is_held_within ballot held (Held earlier fewer) = earlier == ballot && nat_le fewer held
 is_held_within ballot held _ = false
 
--- whether a message says that all members hold no more than this many places, in this ballot
+-- a Commit of this ballot for at most this many places
 abbrev pub is_commit_within : ℕ → ℕ → Body Command → Bool
 is_commit_within ballot held (Commit earlier fewer) = earlier == ballot && nat_le fewer held
 is_commit_within ballot held _ = false
 
--- A larger count of places says all that a smaller one of its ballot said.
+-- true if the newer message says all that the older one said: a Held or Commit of the same ballot
+-- with no smaller count
 abbrev pub covers : Body Command → Body Command → Bool
 covers (Held ballot held) older = is_held_within ballot held older
 covers (Commit ballot held) older = is_commit_within ballot held older
 covers _ older = false
 
--- whether an item says all that one before it said, which came from the same node
+-- true if an item replaces an older one of the same node
 abbrev pub replaces : Item → Item → Bool
 replaces (Peer newer) (Peer older) = newer.from == older.from && covers newer.body older.body
 replaces _ _ = false
@@ -31,12 +32,12 @@ replaces _ _ = false
 abbrev pub newest_item : List Item → Option Item
 newest_item items = slice_get items (length items - 1)
 
--- whether an item replaces this one, if there is one
+-- true if an item replaces this one, if there is one
 abbrev pub replaces_one : Item → Option Item → Bool
 replaces_one item (Some older) = replaces item older
 replaces_one item None = false
 
--- what still waits when an item is queued: everything, except the newest if the item replaces it
+-- what still waits when an item is queued: all but the newest, if the item replaces that
 abbrev pub still_waiting : Item → List Item → List Item
 still_waiting item items =
     if replaces_one item (newest_item items) then take (length items - 1) items else items

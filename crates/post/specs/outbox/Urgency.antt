@@ -7,20 +7,21 @@ use Rattle.node.specs.declared.Item.{Item}
 use Rattle.node.specs.declared.Item.TheVariants.{Peer}
 use Rattle.post.specs.declared.outbox.outbox.TheConstants.{MAX_HELPED}
 
--- whether a message tells a backup how many places are committed
+-- true for a Commit
 abbrev pub is_commit : Body Command → Bool
 is_commit (Commit ballot held) = true
 is_commit _ = false
 
--- all items except a Commit: on it a backup applies places, and sends nothing
+-- true for all items but a Commit, on which a backup applies places and sends nothing
 abbrev pub wakes : Item → Bool
 wakes (Peer message) = not (is_commit message.body)
 wakes _ = true
 
--- how many items a thread that queued one of them takes, in place of the node's own thread
+-- up to this many items are taken by the thread that queued one of them; more by the node's own
+-- thread
 abbrev pub max_helped : ℕ
 max_helped = MAX_HELPED
 
--- more items than a thread that queued one of them takes in place of the node's own thread
+-- there are more items than that
 abbrev pub is_long : List Item → Bool
 is_long items = nat_lt max_helped (length items)

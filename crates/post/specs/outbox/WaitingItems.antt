@@ -12,12 +12,12 @@ pub record OutboxView : Type 0 where
   pub number : ℕ
   pub items : List Item
 
--- an order was not done: what waits for the node and the state of the master are as before
+-- an order was refused: the outbox and the master are as before
 pub record AreUnchanged (old new : OutboxView) (before after : MasterState) : Type 0 where
   pub outbox : new ≡ old
   pub master : after ≡ before
 
--- whether an item is a message of another node; the master's number is 0
+-- true for a message of another node; the master's number is 0
 abbrev pub is_of_node : Item → Bool
 is_of_node (Peer message) = nat_lt 0 message.from
 is_of_node _ = false
@@ -27,17 +27,17 @@ abbrev pub of_nodes : List Item → ℕ
 of_nodes [] = 0
 of_nodes (item ∷ items) = (if is_of_node item then 1 else 0) + of_nodes items
 
--- how many items may wait, so that one more of another node is queued
+-- a message of another node is queued only while fewer items than this wait
 abbrev pub max_waiting : ℕ
 max_waiting = MAX_WAITING
 
--- Whether an item may be queued after these: a message of another node while fewer than
--- `max_waiting` items wait, and a message of the master or an order whatever waits.
+-- True if an item may be queued after these: a message of another node while fewer than
+-- `max_waiting` items wait, and a message of the master or an order always.
 abbrev pub may_be_queued : Item → List Item → Bool
 may_be_queued item items = not (is_of_node item) || nat_lt (length items) max_waiting
 
--- What may wait for the node of a number: what was queued for it, and at most `max_waiting`
--- messages of other nodes.
+-- What may wait for a node: items that may be queued for it, at most `max_waiting` of them messages
+-- of other nodes.
 pub record Waits (number : ℕ) (items : List Item) : Type 0 where
   pub queued : Each (IsQueued number) items
   pub bounded : of_nodes items ≤ max_waiting

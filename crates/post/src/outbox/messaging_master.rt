@@ -16,13 +16,10 @@ use master::{AssignError, Master, activation_answer};
 use std::alloc::Global;
 use std::marker::Model;
 
-/// A message of the master with the number of its receiver. Only a [`MessagingMaster`] makes one.
-/// It cannot be dropped: it ends in an outbox of its receiver, or is lost if no node has that
-/// number.
+/// A message of the master with its receiver's number. Only a [`MessagingMaster`] makes one. It
+/// cannot be dropped: it ends in its receiver's outbox, or is lost if no node has the number.
 pub struct Answer {
-    // The number of the node that it is for.
     receiver: u8,
-    // What the master gave for that node.
     message: Message<Command>,
 }
 
@@ -38,14 +35,14 @@ impl Model for Answer {
 }
 
 impl Answer {
-    /// Returns the number of the node that gets it.
+    /// Returns the number of its receiver.
     pub fn receiver(&self) -> u8
         ensures { result ≡ self.now.receiver }
     {
         self.receiver
     }
 
-    /// Returns the message, for an outbox, or to lose it where no node has the receiver's number.
+    /// Returns the message: for an outbox, or to drop it if no node has the receiver's number.
     pub fn into_message(self) -> Message<Command>
         ensures is { result ≡ self.message }
         ensures answered { WasAnswered self.receiver result }
@@ -62,7 +59,6 @@ impl Answer {
 /// answers lead to.
 #[derive(Drop)]
 pub struct MessagingMaster {
-    // The state to which its own answers led.
     master: Master,
 }
 
@@ -92,7 +88,7 @@ impl MessagingMaster {
         }
     }
 
-    /// Gives the next ballot to a configuration. Returns the ballot, and the message to its
+    /// Assigns the next ballot to a configuration. Returns the ballot, and the message to its
     /// primary.
     pub fn assign(&mut self, alloc: Global, config: Config) -> Result<(u64, Answer), OrderError>
         ensures ballot { IfOk result (λ given. given.0 ≡ self.old.given + 1) }
@@ -127,7 +123,8 @@ impl MessagingMaster {
         ))
     }
 
-    /// Answers a message of a node, if it asks for a ballot to become the active one.
+    /// Returns the answer to a node's message, if it asks for the activation of a ballot and gets
+    /// one.
     pub fn answer(&mut self, asked: Message<Command>) -> Option<Answer>
         requires { WasGivenToMaster asked }
         ensures answer { result ≡ message_if (answer_to self.old asked.from asked.body) }

@@ -1,4 +1,14 @@
-// What waits for a node.
+// What waits for one node.
+//
+// An outbox stands under a lock, and what is under a lock is known by its type alone. So the type
+// says what no clause of a call could: the outbox's number, that each item may wait there (produced
+// by a node's step, an answer of the master, or an order), and that at most `MAX_WAITING` are
+// messages of other nodes. Whoever locks one compares its number.
+//
+// Messages of nodes are lost if there is no room or memory; the protocol repeats them. An order
+// that was answered is never lost: its memory is reserved first. A Held or Commit replaces the
+// newest item if it says all that one said, so a row of them takes one slot. Only the newest is
+// looked at, so the order of what waits never changes.
 
 ghost use Rattle.std.specs.Prelude.{◌≡◌, ◌↔◌, ◌+◌, ◌++◌, ◌∷◌, [], Some, true, false, IfOk, IsErrOf, OnErr, OnOk};
 ghost use Rattle.std.specs.List.{list_any};
@@ -28,19 +38,16 @@ use world_base::node_core::Item;
 /// A message of another node is queued only while fewer items than this wait.
 const MAX_WAITING: usize = 524_288;
 
-/// A thread that queued something urgent takes what waits itself only if at most this many items
-/// wait; if more do, it wakes the node's own thread.
+/// Up to this many items are taken by the thread that queued one of them; more by the node's own
+/// thread, which is woken.
 const MAX_HELPED: usize = 16;
 
-/// What the other nodes and the master have for a node, in the order in which it was queued. It is
-/// under a lock, and what is under a lock is known by its type alone: no clause of a call that
-/// locks it says whose it is. So its type says where each item comes from, and how many messages of
-/// other nodes wait at most, and whoever locks it asks it for its number.
+/// The items that other nodes and the master have for a node, in the order in which they were
+/// queued.
 #[derive(Drop)]
 pub struct Outbox {
-    // The number of the node.
     number: u8,
-    // The oldest first; at most `MAX_WAITING` of them are messages of other nodes.
+    // Oldest first; at most `MAX_WAITING` of them are messages of other nodes.
     items: Vec<Item>,
 }
 
@@ -65,7 +72,7 @@ impl Outbox {
         }
     }
 
-    /// Returns the number of the node that it is for.
+    /// Returns the number of the node.
     pub fn number(&self) -> u8
         ensures { result ≡ self.now.number }
     {
@@ -79,16 +86,16 @@ impl Outbox {
         self.items.is_empty()
     }
 
-    /// Returns true if an item waits that wakes the node. Few of the other items come in a row,
-    /// since each replaces the one before it.
+    /// Returns true if an item waits for which the node is to be woken. Few other items are passed
+    /// over, since each replaces the one before it.
     pub fn is_urgent(&self) -> bool
         ensures { result ≡ list_any wakes self.now.items }
     {
         is_any_urgent(self.items.as_slice())
     }
 
-    /// Returns true if so much waits that the node's own thread should take it, in parallel to the
-    /// giver.
+    /// Returns true if so many items wait that the node's own thread should take them, in parallel
+    /// to the giver.
     pub fn is_long(&self) -> bool
         ensures { result ≡ is_long self.now.items }
     {
@@ -96,7 +103,7 @@ impl Outbox {
     }
 
     /// Queues an item after all that waits, or in place of the newest if it replaces that one.
-    /// Returns whether there was room and memory for it. If not, it is lost, and so is the one that
+    /// Returns false if there was no room or memory: then the item is lost, and so is the one that
     /// it replaces.
     pub fn queue(&mut self, item: Item) -> bool
         requires { IsPosted self.old.number item }
@@ -110,8 +117,8 @@ impl Outbox {
         self.push(item)
     }
 
-    /// Queues an answer of the master after all that waits, as [`Outbox::queue`] does. Returns
-    /// whether there was memory for it; if not, it is lost.
+    /// Queues an answer of the master, as [`Outbox::queue`]. Returns false if there was no memory:
+    /// then it is lost.
     pub fn queue_answer(&mut self, answer: Answer) -> bool
         requires { answer.receiver ≡ self.old.number }
         ensures queued { result ≡ true →
@@ -127,9 +134,9 @@ impl Outbox {
         self.push(Item::Peer(answer.into_message()))
     }
 
-    /// Lets the master give the next ballot to a configuration whose primary is this node, and
-    /// queues its message for the node. Memory for the message is allocated first, so an order that
-    /// is answered is not dropped. Returns the ballot.
+    /// Assigns the master's next ballot to a configuration whose primary is this node, and queues
+    /// the master's message. Memory for the message is reserved first, so an order that is answered
+    /// is not lost. Returns the ballot.
     pub fn assign(
         &mut self,
         alloc: Global,
@@ -163,8 +170,8 @@ impl Outbox {
     }
 
     // Queues an item after all that waits, or in place of the newest if it replaces that one.
-    // Returns whether there was room and memory for it. The one that it replaces is dropped
-    // before that is known.
+    // Returns false if there was no room or memory. What it replaces is dropped before that is
+    // known.
     fn push(&mut self, item: Item) -> bool
         requires { IsQueued self.old.number item }
         ensures queued { result ≡ true →
@@ -181,14 +188,14 @@ impl Outbox {
         self.items.push(item).is_ok()
     }
 
-    // Returns true if an item may be queued after those that wait.
+    // Returns true if there is room for an item.
     fn may_be_queued(&self, item: &Item) -> bool
         ensures { result ≡ may_be_queued item.now self.now.items }
     {
         !is_of_node(item) || self.items.len() < MAX_WAITING
     }
 
-    // Drops the newest of the items that wait, if this one replaces it.
+    // Drops the newest item, if this one replaces it.
     fn drop_replaced(&mut self, item: &Item)
         ensures { self.new ≡ record self.old { items = still_waiting item.now self.old.items } }
     {
@@ -198,7 +205,6 @@ impl Outbox {
         }
     }
 
-    // Returns true if this item replaces the newest that waits.
     fn is_newest_replaced(&self, item: &Item) -> bool
         ensures { result ≡ replaces_one item.now (newest_item self.now.items) }
     {
@@ -219,7 +225,7 @@ impl Outbox {
 }
 
 impl Answer {
-    /// Loses the answer: `outbox` is not of its receiver.
+    /// Drops the answer: `outbox` is not its receiver's.
     pub fn lose_at(self, outbox: &Outbox)
         requires { outbox.now.number ≡ self.receiver → ⊥ }
     {
@@ -228,7 +234,6 @@ impl Answer {
     }
 }
 
-// Returns true if an item is a message of another node.
 fn is_of_node(item: &Item) -> bool
     ensures { result ≡ is_of_node item.now }
 {

@@ -1,4 +1,4 @@
-// Which message that waits for a node says nothing more, once another comes after it.
+// Which waiting message is replaced by a newer one.
 
 ghost use Rattle.std.specs.Prelude.{◌≡◌};
 ghost use Rattle.post.specs.outbox.Replacement.{covers, is_commit_within, is_held_within, replaces};
@@ -7,8 +7,8 @@ use ballot_base::Body;
 use broker_spec::Command;
 use world_base::node_core::Item;
 
-/// Returns true if an item says all that an older one said. Then each is from the same node, and
-/// counts the places that it, or every member, holds in the same ballot.
+/// Returns true if an item replaces an older one: both are from the same node, and both are Held or
+/// both Commit of the same ballot, the newer one for no fewer places.
 pub(crate) fn replaces(item: &Item, older: &Item) -> bool
     ensures { result ≡ replaces item.now older.now }
 {
@@ -20,7 +20,7 @@ pub(crate) fn replaces(item: &Item, older: &Item) -> bool
     }
 }
 
-// Returns true if a message of a node makes an earlier one of it needless.
+// Returns true if the newer message says all that the older one said.
 fn covers(newer: &Body<Command>, older: &Body<Command>) -> bool
     ensures { result ≡ covers newer.now older.now }
 {
@@ -31,7 +31,7 @@ fn covers(newer: &Body<Command>, older: &Body<Command>) -> bool
     }
 }
 
-// Returns true if a body is a Held of the same ballot for no more places.
+// Returns true for a Held of the ballot for at most `held` places.
 fn is_held_within(ballot: u64, held: u64, body: &Body<Command>) -> bool
     ensures { result ≡ is_held_within ballot held body.now }
 {
@@ -41,7 +41,7 @@ fn is_held_within(ballot: u64, held: u64, body: &Body<Command>) -> bool
     }
 }
 
-// Returns true if a body is a Commit of the same ballot for no more places.
+// Returns true for a Commit of the ballot for at most `held` places.
 fn is_commit_within(ballot: u64, held: u64, body: &Body<Command>) -> bool
     ensures { result ≡ is_commit_within ballot held body.now }
 {

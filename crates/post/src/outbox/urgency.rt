@@ -9,7 +9,7 @@ use ballot_base::{Body, Message};
 use broker_spec::Command;
 use world_base::node_core::Item;
 
-/// Returns true if an item wakes the node for which it is queued.
+/// Returns true if the node is to be woken for an item that is queued for it.
 pub fn is_urgent(item: &Item) -> bool
     ensures { result ≡ wakes item.now }
 {
@@ -19,15 +19,14 @@ pub fn is_urgent(item: &Item) -> bool
     }
 }
 
-/// Returns true if one of these items wakes the node for which they are queued.
+/// Returns true if the node is to be woken for one of these items.
 pub(crate) fn is_any_urgent(items: &[Item]) -> bool
     ensures { result ≡ list_any wakes items.now }
 {
     items.iter().any(|item| is_urgent(item))
 }
 
-// Returns true if a message wakes the node for which it is queued. A message that more places are
-// committed can wait: a backup then applies them, and sends nothing.
+// Returns true for every message but a Commit, on which a backup applies places and sends nothing.
 fn is_urgent_message(message: &Message<Command>) -> bool
     ensures { result ≡ wakes (Peer message.now) }
 {

@@ -1,16 +1,16 @@
-// Lets a thread sleep until there is something for it to do.
+// The sleep of a node's own thread.
 
 use std::sync::{Mutex, Wait};
 use std::thread::Parker;
 use std::time::Duration;
 
-/// Wakes a thread, at the cost of a wake-up only if it sleeps. Whether it sleeps is under a lock:
-/// no call has a clause.
+/// Lets one thread sleep, and wakes it, which costs a wake-up only if it sleeps. No wake-up is
+/// lost: the thread calls `doze`, looks for work once more, and then sleeps; a giver queues first
+/// and wakes then. Whether the thread sleeps is under a lock, so no call has a clause.
 #[derive(Drop)]
 pub struct Waker {
-    // Whether the thread sleeps or is about to.
+    // True while the thread sleeps or is about to.
     asleep: Mutex<bool>,
-    // What the thread sleeps on.
     parker: Parker,
 }
 
@@ -32,18 +32,17 @@ impl Waker {
         }
     }
 
-    /// Returns true if the thread sleeps, or said that it is about to: it may have found work
-    /// instead.
+    /// Returns true if the thread sleeps or is about to; it may have found work instead.
     pub fn is_asleep<R: Wait>(&self, rt: &R) -> bool {
         *self.asleep.lock(rt)
     }
 
-    /// Notes that the thread is about to sleep: it looks for work once more after this call.
+    /// Notes that the thread is about to sleep. It has to look for work once more after this call.
     pub fn doze<R: Wait>(&self, rt: &R) {
         *self.asleep.lock(rt) = true;
     }
 
-    /// Sleeps until the thread is woken, at most this long.
+    /// Sleeps until the thread is woken, or until `time` has passed.
     pub fn sleep<R: Wait>(&self, rt: &R, time: Duration) {
         self.parker.park_timeout(rt, time);
         *self.asleep.lock(rt) = false;

@@ -1,4 +1,4 @@
--- What the fields of a line say, by the first of them.
+-- The meaning of a line, by its first field.
 use Rattle.std.specs.Prelude.{Bool, if◌then◌else◌, List, [], ◌∷◌, codes, bytes_eq, Option, Some, None}
 use Rattle.packet_base.specs.declared.qos.QoS.{QoS}
 use Rattle.session_base.specs.declared.publication.Publication.{Publication}
@@ -18,11 +18,11 @@ only reads [] = None
 only reads (field ∷ []) = reads field
 only reads (field ∷ other ∷ more) = None
 
--- what a line of one field says, if there is just one and it can be read
+-- the meaning of one field, if there is just one and it has a value
 abbrev pub one : {X : Type 0} → (X → ScriptLine) → (Text → Option X) → List Text → Option ScriptLine
 one make reads fields = with (Some make) (only reads fields)
 
--- what a line of two fields says, if there are just two and both can be read
+-- the meaning of two fields, if there are just two and both have values
 abbrev pub two : {X Y : Type 0} → (X → Y → ScriptLine) → (Text → Option X) → (Text → Option Y)
     → List Text → Option ScriptLine
 two make reads next [] = None
@@ -71,7 +71,7 @@ parse_publish (client ∷ topic ∷ qos ∷ retain ∷ payload ∷ []) =
     (parse_publication topic qos retain payload)
 parse_publish (client ∷ topic ∷ qos ∷ retain ∷ payload ∷ other ∷ more) = None
 
--- what the fields after this word say
+-- the meaning of the fields after this word
 unfoldable pub line_by : Text → List Text → Option ScriptLine
 line_by word fields =
     if bytes_eq word (codes "assign") then two lines.Assign parse_numbers parse_number fields else
@@ -92,7 +92,7 @@ line_by word fields =
     if bytes_eq word (codes "expel") then two lines.Expel parse_client parse_number fields else
     None
 
--- what the fields of a line say
+-- the meaning of the fields of a line
 abbrev pub line_of : List Text → Option ScriptLine
 line_of [] = None
 line_of (word ∷ fields) = line_by word fields

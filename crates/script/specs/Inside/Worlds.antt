@@ -1,4 +1,4 @@
--- The world that the fields of the first line open.
+-- The world that the first line opens.
 use Rattle.std.specs.Prelude.{ℕ, Bool, ◌&&◌, nat_le, if◌then◌else◌, List, [], ◌∷◌, codes, bytes_eq, Option, Some, None}
 use Rattle.ballot_base.specs.LawfulConfig.{max_node}
 use Rattle.script.specs.Fields.{Text, parse_clients, parse_number, parse_numbers}
@@ -27,7 +27,7 @@ values_of opening = values opening.nodes opening.config.members opening.config.p
 abbrev pub is_at_most_max_node : ℕ → Bool
 is_at_most_max_node number = nat_le number max_node
 
--- values with which a world may open
+-- the values, if a world may open with them
 abbrev pub checked : Option Values → Option Values
 checked None = None
 checked (Some opening) =

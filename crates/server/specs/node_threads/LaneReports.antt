@@ -11,7 +11,7 @@ use Rattle.post.specs.outbox.Queued.{IsQueued}
 use Rattle.server.specs.declared.node_threads.lane_threads.TheConstants.{MAX_CONNECTIONS_OF_LANE}
 
 -- A lane that had sent these items sent the whole report of one connection, and nothing else. Of a
--- socket no bytes are known except those that came.
+-- socket, no bytes are known but those that came.
 pub record SendsWhole (port : Port) (before after : List Item) : Type 0 where
   pub ending : Ending
   pub hears : Hears port before after ending None None
@@ -24,8 +24,8 @@ pub data ReportsOne (port : Port) (before : List Item) : List Item → Type 0 wh
   -- it was served
   served : {after : List Item} → SendsWhole port before after → ReportsOne port before after
 
--- A lane that had sent these items sent for this many connections, one after another, the report of
--- each, and nothing else.
+-- A lane that had sent these items sent the reports of this many connections, one after another,
+-- and nothing else.
 pub data ReportsEach (lane : ℕ) (before : List Item) : ℕ → List Item → Type 0 where
   -- no connection yet
   begins : ReportsEach lane before 0 before
@@ -39,29 +39,29 @@ abbrev pub client_bytes : Item → ℕ
 client_bytes (Bytes port piece now) = length piece
 client_bytes _ = 0
 
--- a lane sent what any number of its connections bring
+-- a lane sent the reports of any number of its connections
 pub record SendsRow (lane : ℕ) (before after : List Item) : Type 0 where
   pub count : ℕ
   pub reports : ReportsEach lane before count after
 
--- Why a lane of a node's connections serves no more: the witness is of this node's listener, or
--- there is none, and the lane served one connection at each of its ports.
+-- Why a lane serves no more: its thread has the witness of this node's listener; or it has none,
+-- and the lane served one connection at each of its ports.
 abbrev pub EndsBy : (node lane : ℕ) → Option ℕ → (before after : List Item) → Type 0
 EndsBy node lane (Some closed) before after = closed ≡ node
 EndsBy node lane None before after = ReportsEach lane before MAX_CONNECTIONS_OF_LANE after
 
--- a node's own lane, by which everything is sent to it that does not come from its clients, and the
+-- the lane by which everything is sent to a node that does not come from its clients, and the
 -- node's number
 pub record OwnLaneView : Type 0 where
   pub number : ℕ
   pub lane : LaneView Item
 
--- The own lane of a node of this number, which had sent these items, sent the time, cuts of the
--- log, and what was queued for the node.
+-- The own lane of a node sent ticks, cuts of the log, and what was queued for the node, after what
+-- it had sent before.
 pub data SendsOwn (node : ℕ) (before : List Item) : List Item → Type 0 where
   -- it sent nothing more
   starts : SendsOwn node before before
-  -- a time
+  -- a tick with the time
   ticks : {sent : List Item} (now : ℕ)
       → SendsOwn node before sent → SendsOwn node before (sent ++ Tick now ∷ [])
   -- a cut of the log

@@ -4,15 +4,14 @@ use Rattle.node.specs.declared.Item.{Item}
 use Rattle.mailbox.specs.Ends.{LaneView}
 use Rattle.server.specs.node_threads.LaneReports.{EndsBy, SendsRow}
 
--- the slot of a thread: its lane, if it serves connections, and once it has returned the witness
--- that the node's listener was seen closed, by the number of that listener
+-- the slot of a thread: its lane, if it serves connections; and, once it has returned, the number
+-- of the listener that it saw closed
 pub record LaneSlotView : Type 0 where
   pub lane : Option (LaneView Item)
   pub closed : Option ℕ
 
--- A lane was given to its thread, which served connections by it until the listener of this node
--- was seen closed or all ports were used, and came back. A thread that has no lane returned with
--- the witness.
+-- A thread that got a lane served connections by it until it saw this node's listener closed or all
+-- ports were used, and put the lane back. A thread without a lane returned with the witness.
 abbrev pub ComesBack : (node : ℕ) → (before after : Option (LaneView Item)) → Option ℕ → Type 0
 ComesBack node None back closed = (back ≡ None) × (closed ≡ Some node)
 ComesBack node (Some lane) None closed = ⊥

@@ -5,7 +5,7 @@ use Rattle.broker_spec.specs.declared.command.Output.{Output}
 use Rattle.ballot_base.specs.declared.message.Effect.{Effect}
 use Rattle.node.specs.State.{NodeStateView, TakesOne, next_taking}
 
--- From a state of a node on, one item after another was taken, and these are all effects of the
+-- One item after another was taken, from this state of a node on, and these are all effects of the
 -- steps, in order; or no item waited.
 pub data Turns (old : NodeStateView) : NodeStateView → List (Effect Command Output) → Type 0 where
   -- no item was taken yet

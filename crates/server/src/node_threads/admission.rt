@@ -1,4 +1,4 @@
-// Bytes of clients, which wait until the node takes more of them.
+// Waiting for a node's intake budget.
 
 ghost use Rattle.std.specs.Prelude.{◌≡◌, ◌≤◌, IfSome, None, length};
 
@@ -11,13 +11,13 @@ use std::thread;
 use std::time::{Clock, Duration};
 use world_base::node_connections::{Port, Standing};
 
-/// How long a thread sleeps before it asks again whether the node takes more, in milliseconds.
+/// How long a thread sleeps before it asks again for budget, in milliseconds.
 const ADMIT_LOOK_MILLIS: u64 = 1;
 
 impl<'a, J: NodeNaming, S: HasState<J>, G: Gate> Shared<'a, J, S, G> {
-    /// Waits until the node takes this many more bytes from its clients, and counts them as in
-    /// transit. None count if there is only one node, the node has closed the connection, or the
-    /// listener is closed.
+    /// Waits until the node's intake budget has room, and reserves `bytes` of it. Reserves nothing
+    /// if there is only one node, if the node has closed the connection, or if the listener is
+    /// closed.
     pub(crate) fn admit<R: Wait + Clock>(
         &self,
         rt: &R,

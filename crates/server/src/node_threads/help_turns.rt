@@ -1,4 +1,4 @@
-// Turns of nodes that a thread of another node does, since it queued something for them.
+// Turns of other nodes, done by a thread that queued something for them.
 
 use crate::node_threads::served_node::ServedNode;
 use node::{HasState, NodeNaming};
@@ -7,16 +7,16 @@ use std::sync::Wait;
 use std::time::Clock;
 use streams::writer::FIRST_INDEX;
 
-/// How many rounds over all nodes a thread makes at most, before it leaves what still comes to the
-/// nodes' own threads. An Append, its Held and the Commit after it take three, and a fourth finds
-/// what came meanwhile.
+/// How many rounds over all nodes a thread makes at most; what still comes is left to the nodes'
+/// own threads. An Append, its Held and the Commit after it take three, and a fourth finds what
+/// came meanwhile.
 const ROUNDS: u32 = 4;
 
 impl<'a, J: NodeNaming, S: HasState<J>, G: Gate> ServedNode<'a, J, S, G> {
     /// Does the turns of all nodes for which something waits and whose own threads sleep, including
-    /// this one, unless another thread does them. Threads call this after their own turns, and hold
-    /// no lock. The caller writes what this node queued. If there is a gate, each node's own thread
-    /// does its turns, so that no client waits at the gate of another node.
+    /// this one, unless another thread does them. Call it after a turn, and without a lock. Writes
+    /// what other nodes queued; what this node queued is left to the caller. If there is a gate,
+    /// each node's own thread does its turns, so that no client waits at the gate of another node.
     pub(crate) fn help<R: Wait + Clock>(&self, rt: &R, all: &[ServedNode<'a, J, S, G>]) {
         // No message waits unnoticed: its giver queued it before it looks here. If the node's own
         // thread is awake then, or woken, it looks again before it sleeps. Otherwise the thread
@@ -32,7 +32,7 @@ impl<'a, J: NodeNaming, S: HasState<J>, G: Gate> ServedNode<'a, J, S, G> {
         self.shared.context.cluster.wake_urgent(rt);
     }
 
-    // Makes one round. Returns whether it held the lane of a node, and so must look again.
+    // Makes one round. Returns true if it held the lane of a node, and so has to look again.
     fn help_each<R: Wait + Clock>(&self, rt: &R, all: &[ServedNode<'a, J, S, G>]) -> bool {
         let mut had_one = false;
         for node in all {
@@ -44,7 +44,7 @@ impl<'a, J: NodeNaming, S: HasState<J>, G: Gate> ServedNode<'a, J, S, G> {
         had_one
     }
 
-    // Does the node's turn by its own lane, unless another thread holds that. Returns whether this
+    // Does the node's turn by its own lane, unless another thread holds that. Returns true if this
     // one held it.
     fn try_turn<R: Wait + Clock>(&self, rt: &R) -> bool {
         let Some(mut own) = self.own.try_lock() else {

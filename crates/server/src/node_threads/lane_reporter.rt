@@ -1,4 +1,10 @@
-// A connection's lane, by which the connection is reported to the node.
+// The sink of a connection's reports: a lane to the node's inbox.
+//
+// A report does everything before it returns: it waits for the intake budget, sends the item, takes
+// what waits in the inbox (this item, too), does turns of nodes for which something was queued, and
+// writes, to its own connection first. So a piece is answered by the thread that read it, and a
+// client that sends faster than its node takes is not read meanwhile. No lock is held from one of
+// these steps to the next.
 
 ghost use Rattle.std.specs.Prelude.{◌≡◌, ◌≤◌, min};
 ghost use Rattle.server.specs.node_threads.LaneReports.{client_bytes};
@@ -15,23 +21,21 @@ use streams::Link;
 use world_base::node_connections::Standing;
 use world_base::node_core::Item;
 
-/// A connection's lane. What is reported to it is what the lane sent.
+/// A connection's lane, as the sink of its reports: what is reported is what the lane sent.
 #[derive(Drop)]
 pub(crate) struct LaneReporter<'e, 'a, J: NodeNaming, S: HasState<J>, G: Gate> {
-    /// The node to which the connection is reported.
     pub(crate) served: &'e ServedNode<'a, J, S, G>,
-    /// All nodes of the program. Those for which something was queued have their turns.
+    /// All nodes of the program, whose turns it may do.
     pub(crate) all: &'e [ServedNode<'a, J, S, G>],
-    /// The connection.
     pub(crate) link: &'e Arc<Link, Global>,
-    /// The lane. While the connection lasts, all that it sends is about that.
+    /// The lane. While the connection lasts, it sends nothing else.
     pub(crate) lane: Lane<Item, J>,
 }
 
 impl<'e, 'a, J: NodeNaming, S: HasState<J>, G: Gate> ReportSink for LaneReporter<'e, 'a, J, S, G> {
     ghost heard = { λ reporter. reporter.lane.sent };
 
-    // What decides is under a lock, of which no clause says anything.
+    // What decides is under a lock, of which no clause speaks.
     ghost lets = { λ _ _. Unit {0} };
 
     fn now<R: Clock>(&self, rt: &R) -> u64 {
@@ -39,9 +43,9 @@ impl<'e, 'a, J: NodeNaming, S: HasState<J>, G: Gate> ReportSink for LaneReporter
         served.shared.context.now(rt)
     }
 
-    // Sends the item by the lane. Bytes are sent once the node takes more of them, and count as in
-    // transit until it has taken them. Then nodes for which something was queued have their turns.
-    // After that, what this node queued is written, to this connection first.
+    // Reserves budget for the item's bytes, sends the item, and takes what waits. Then does turns
+    // of nodes for which something was queued, and writes what this node queued, to this connection
+    // first.
     fn report<R: Wait + Clock>(&mut self, rt: &R, item: Item) {
         let served = self.served;
         let all = self.all;
@@ -54,9 +58,9 @@ impl<'e, 'a, J: NodeNaming, S: HasState<J>, G: Gate> ReportSink for LaneReporter
         shared.writer().write_busy(rt, index, true);
     }
 
-    // Lists the connection for writing, and says whether it may be read. A port that is not yet
-    // reported to the node counts as one that the node closed, so a link is listed after that. A
-    // connection that the node did not take, because it is no primary, is not read.
+    // Lists the connection for writing. Returns false if the node did not take it, since it is no
+    // primary, or if the listener is closed. It is listed only now, since a port that the node has
+    // not heard of counts as closed.
     fn let_in<R: Wait>(&self, rt: &R) -> bool {
         let Ok(link) = Arc::try_clone(self.link) else {
             return false;

@@ -19,13 +19,12 @@ use world_base::node_core::Item;
 /// close a surplus client.
 pub(crate) const LANES: u8 = MAX_CONNECTIONS + 2;
 
-/// How many threads a node has: one for each lane, and one that continues with full sockets.
+/// How many threads a node has: one for each lane, and the blocked writer.
 pub const THREADS: usize = LANES as usize + 1;
 
-/// The slot of a thread: its lane, while the thread does not use that, and the witness with which
-/// the thread returned. The first slot is that of the node's own thread, and the last that of the
-/// thread that continues with full sockets. These two have no lane in their slots: that of the own
-/// thread is under a lock.
+/// The slot of a thread: its lane, while the thread does not use it, and the witness with which the
+/// thread returned. The first slot is that of the node's own thread, the last that of the blocked
+/// writer. These two have no lane in their slots: the own thread's is under a lock.
 #[derive(Drop)]
 pub(crate) struct LaneSlot<J: NodeNaming> {
     /// None while its thread uses it, and in slots without a lane.
@@ -51,7 +50,7 @@ impl<J: NodeNaming> LaneSlot<J> {
     }
 }
 
-/// The slots of a node's threads, with capacity in which all its lanes are gathered at the end.
+/// The slots of a node's threads, and a list with capacity for all lanes, for the node's end.
 #[derive(Drop)]
 pub(crate) struct LaneSlots<J: NodeNaming> {
     /// One for each thread, [`THREADS`] of them.
@@ -61,7 +60,7 @@ pub(crate) struct LaneSlots<J: NodeNaming> {
 }
 
 impl<J: NodeNaming> LaneSlots<J> {
-    /// Returns the lanes that came back to their slots, after the node's own.
+    /// Returns the node's own lane, followed by those that are back in their slots.
     pub(crate) fn into_lanes(self, own: Lane<Item, J>) -> Vec<Lane<Item, J>> {
         let LaneSlots { slots, mut back } = self;
         // There is room for all.
@@ -75,8 +74,8 @@ impl<J: NodeNaming> LaneSlots<J> {
     }
 }
 
-/// Works with each slot by a thread of its own, until the listener is closed. If threads are
-/// missing, lanes wait until others come back; the node's own thread comes before all the others.
+/// Runs a thread for each slot, until the listener is closed. If threads are missing, lanes wait
+/// until others come back; the node's own thread is started before all others.
 pub(crate) fn run<'a, J, S, G, R>(
     rt: &R,
     all: &[ServedNode<'a, J, S, G>],
@@ -100,7 +99,7 @@ where
 }
 
 impl<'a, J: NodeNaming, S: HasState<J>, G: Gate> ServedNode<'a, J, S, G> {
-    // Works with a slot. If it has a lane, its thread serves connections by that, and puts it back.
+    // Runs the thread of a slot. One with a lane serves connections by it, and puts it back.
     fn run_slot<R: Wait + Clock>(
         &self,
         rt: &R,
@@ -120,8 +119,8 @@ impl<'a, J: NodeNaming, S: HasState<J>, G: Gate> ServedNode<'a, J, S, G> {
         }
     }
 
-    // Works at a slot that has no lane: the first is that of the node's own thread, the others
-    // continue with full sockets. Returns the witness that the listener was seen closed.
+    // Runs the thread of a slot without a lane: the first is the node's own thread, any other the
+    // blocked writer. Returns the witness that the listener was seen closed.
     fn work_without<R: Wait + Clock>(&self, rt: &R, index: usize) -> Closed
         ensures { result ≡ self.now.number }
     {

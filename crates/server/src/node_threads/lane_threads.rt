@@ -19,13 +19,13 @@ use streams::{Closed, Link, forget, port_of};
 use world_base::node_connections::Port;
 use world_base::node_core::Item;
 
-/// How many connections a lane serves, each at a port of its own.
+/// How many connections a lane serves in its life, each at a port of its own.
 const MAX_CONNECTIONS_OF_LANE: u64 = 1 << 56;
 
 impl<'a, J: NodeNaming, S: HasState<J>, G: Gate> ServedNode<'a, J, S, G> {
-    /// Serves one client after another by a lane until it sees the listener closed. Returns the
-    /// lane and the witness, or no witness if all ports are used. For each connection, one after
-    /// another, the lane sent the whole report, at a port that no other has, and nothing else.
+    /// Serves one client after another until it sees the listener closed. Returns the lane and the
+    /// witness, or no witness if all ports are used. For each connection the lane sent the whole
+    /// report, at a port that no other has, and nothing else.
     pub(crate) fn serve_lane<R: Wait + Clock>(
         &self,
         rt: &R,
@@ -47,8 +47,8 @@ impl<'a, J: NodeNaming, S: HasState<J>, G: Gate> ServedNode<'a, J, S, G> {
         (lane, None)
     }
 
-    // Serves a stream until its client or the node ends it. If as many are served as may be, or
-    // memory runs out, it is closed at once.
+    // Serves a stream until its client or the node ends it. Closes it at once if the table is full
+    // or memory runs out.
     fn serve_stream<R: Wait + Clock>(
         &self,
         rt: &R,
@@ -71,8 +71,8 @@ impl<'a, J: NodeNaming, S: HasState<J>, G: Gate> ServedNode<'a, J, S, G> {
         lane
     }
 
-    // Reports a connection to the node by a lane, until it ends. Returns the lane, which sent that
-    // the connection was opened, each piece that came, and that it ended.
+    // Reports a connection until it ends, then ends its stream and drops what the node holds for
+    // it. Returns the lane, which sent the whole report.
     fn serve_link<R: Wait + Clock>(
         &self,
         rt: &R,
@@ -89,7 +89,7 @@ impl<'a, J: NodeNaming, S: HasState<J>, G: Gate> ServedNode<'a, J, S, G> {
         lane
     }
 
-    // Reports a connection to the node by a lane, until it ends.
+    // Reports a connection to the node until it ends. Returns the lane.
     fn report_link<R: Wait + Clock>(
         &self,
         rt: &R,
@@ -113,7 +113,7 @@ impl<'a, J: NodeNaming, S: HasState<J>, G: Gate> ServedNode<'a, J, S, G> {
 }
 
 impl<'a, J: NodeNaming, S: HasState<J>, G: Gate> Shared<'a, J, S, G> {
-    // Returns the connection of a stream, which is accepted now.
+    // Returns the connection of a stream that was just accepted.
     fn link<R: Clock>(
         &self,
         rt: &R,
@@ -127,7 +127,7 @@ impl<'a, J: NodeNaming, S: HasState<J>, G: Gate> Shared<'a, J, S, G> {
         Link::of_stream(self.alloc, port, index, opened, stream)
     }
 
-    // Takes what the node still holds for a connection that has ended, so that it holds no more.
+    // Drops what the node still holds for a connection that has ended.
     fn forget_closed<R: Wait>(&self, rt: &R, port: Port) {
         forget(self.alloc, self.node.lock(rt).state(), port);
     }

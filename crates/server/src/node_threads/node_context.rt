@@ -1,4 +1,4 @@
-// What a node's threads use: its listener, the node as others see it, and the other nodes.
+// What the threads of a node know of its surroundings.
 
 ghost use Rattle.std.specs.Prelude.{◌≡◌, IfSome};
 
@@ -6,14 +6,14 @@ use post::{Cluster, Peer};
 use std::time::{Clock, Instant};
 use streams::Listener;
 
-/// The listeners of all nodes, and what they have in common.
+/// The listeners of all nodes, and what the nodes have in common.
 #[derive(Clone, Copy)]
 pub struct NodeContexts<'a> {
     /// The nodes and their master.
     pub cluster: &'a Cluster,
     /// The listener of each node.
     pub listeners: &'a [Listener],
-    /// When their times begin.
+    /// The zero of the nodes' clocks.
     pub start: Instant,
 }
 
@@ -36,21 +36,20 @@ impl<'a> NodeContexts<'a> {
     }
 }
 
-/// What a node's threads use: its listener, the node as others see it, and the other nodes.
+/// A node's listener, the node as others see it, and the other nodes.
 #[derive(Clone, Copy)]
 pub(crate) struct NodeContext<'a> {
-    /// All nodes, and their master.
     pub(crate) cluster: &'a Cluster,
     /// The node as others see it.
     pub(crate) peer: &'a Peer,
-    /// Where its clients connect. It has the number of the node.
+    /// The listener, which has the node's number.
     pub(crate) listener: &'a Listener,
-    // When its times begin.
+    // The zero of the node's clock.
     start: Instant,
 }
 
 impl<'a> NodeContext<'a> {
-    /// Returns the context of a listener. Times are counted from `start`. There is none if no node
+    /// Returns the context of a listener. Times are counted from `start`. Returns none if no node
     /// has the listener's number.
     pub(crate) fn new(
         cluster: &'a Cluster,
@@ -68,7 +67,7 @@ impl<'a> NodeContext<'a> {
         })
     }
 
-    /// Returns the milliseconds since its times began, or 0 if the clock fails. No clause says so.
+    /// Returns the milliseconds since `start`, or 0 if the clock fails. No clause says so.
     pub(crate) fn now<R: Clock>(&self, rt: &R) -> u64 {
         match self.start.elapsed(rt) {
             Ok(time) => u64::try_from(time.as_millis()).unwrap_or(u64::MAX),

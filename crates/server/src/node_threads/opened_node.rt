@@ -3,7 +3,7 @@
 use mailbox::Inbox;
 use world_base::node_core::{Item, NodeCore};
 
-/// A node that is about to serve, with its inbox, by which it receives everything.
+/// A node that is about to serve, and its inbox.
 #[derive(Drop)]
 pub struct OpenedNode {
     /// The node's number.

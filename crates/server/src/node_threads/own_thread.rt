@@ -1,6 +1,11 @@
-// The node's own thread. It takes what other nodes have for the node, gives the node the time, has
-// the log cut, and ends connections whose first packet does not come. It does no other node's turn,
-// so each node always has a thread of its own.
+// The node's own thread.
+//
+// It takes what other nodes queued for this one, sends ticks and cuts, and ends connections whose
+// first packet is overdue. It does no other node's turn and waits for no socket, so a node always
+// has a thread, also while clients' threads work elsewhere. Before it sleeps it looks a while,
+// since a wake-up costs as much; then it calls `doze` and looks once more, so an item queued just
+// then is found or wakes it. The own lane's lock is held for a turn; threads of other nodes only
+// try it.
 
 ghost use Rattle.std.specs.Prelude.{◌≡◌};
 ghost use Rattle.post.specs.outbox.Queued.{IsQueued};
@@ -19,23 +24,23 @@ use streams::writer::FIRST_INDEX;
 use streams::{Closed, Link, MAX_CONNECTIONS};
 use world_base::node_core::Item;
 
-/// How often the node gets the time, in milliseconds.
+/// How often a tick is sent to the node, in milliseconds.
 const TICK_MILLIS: u64 = 200;
 
-/// How many times the thread looks for what comes before it sleeps. With the steps between two
-/// looks this takes about as long as it takes to wake a thread.
+/// How many times the thread looks for items before it sleeps. With the pauses between, this takes
+/// about as long as it takes to wake a thread.
 const LOOKS_BEFORE_SLEEP: u32 = 64;
 
-/// How many spins it waits between two looks: less than a microsecond, so that a look finds an item
-/// soon after it came.
+/// How many spins a pause between two looks has: less than a microsecond, so an item is found soon
+/// after it came.
 const SPINS: u32 = 8;
 
-// When the node got the time last, and how many times, at most 2^64 - 1.
+// The last tick.
 #[derive(Clone, Copy)]
 struct LastTick {
-    // When it got the time last, in the milliseconds of the node's clock; 0 before the first.
+    // Its time, in the milliseconds of the node's clock; 0 before the first.
     time: u64,
-    // How many times it got the time, at most 2^64 - 1.
+    // How many ticks were sent (saturates at 2^64 - 1).
     ticks: u64,
 }
 
@@ -62,8 +67,8 @@ impl<'a, J: NodeNaming, S: HasState<J>, G: Gate> ServedNode<'a, J, S, G> {
         unreachable!()
     }
 
-    // Does the node's turn by its own lane, once no other thread holds that. Returns when the node
-    // got the time last.
+    // Does the node's turn by its own lane; waits while another thread holds that. Returns the last
+    // tick.
     fn do_own_turn<R: Wait + Clock>(&self, rt: &R, last: LastTick) -> LastTick {
         let mut own = self.own.lock(rt);
         // The numbers are always equal: the lane is this node's (see `ServedNode::own`).
@@ -75,8 +80,8 @@ impl<'a, J: NodeNaming, S: HasState<J>, G: Gate> ServedNode<'a, J, S, G> {
 }
 
 impl<'a, J: NodeNaming, S: HasState<J>, G: Gate> Shared<'a, J, S, G> {
-    // Does the node's turn by its own lane: takes what was queued for the node, gives it the time
-    // and has its log cut, if that is due. Returns when the node got the time last.
+    // Takes what was queued for the node, and sends a tick and a cut if they are due. Returns the
+    // last tick.
     fn do_turn_by<R: Wait + Clock>(&self, rt: &R, own: &mut OwnLane<J>, last: LastTick) -> LastTick
         requires { own.old.number ≡ self.now.context.peer.now.number }
     {
@@ -86,16 +91,15 @@ impl<'a, J: NodeNaming, S: HasState<J>, G: Gate> Shared<'a, J, S, G> {
         last
     }
 
-    /// Takes what was queued for the node up to now, by the node's own lane. It only calls
-    /// `take_queued`: what it requires shows that the lane keeps its invariant.
+    /// Takes what was queued for the node up to now. It only calls `take_queued`: its premise shows
+    /// that the own lane keeps its invariant.
     pub(crate) fn take_queued_by<R: Wait + Clock>(&self, rt: &R, own: &mut OwnLane<J>)
         requires { own.old.number ≡ self.now.context.peer.now.number }
     {
         self.take_queued(rt, &mut own.lane);
     }
 
-    // Gives the node the time, if it is due, and then has the log cut, if that is due. Returns when
-    // the node got the time last.
+    // Sends a tick if it is due, and then a cut if that is due by time. Returns the last tick.
     fn tick<R: Wait + Clock>(&self, rt: &R, lane: &mut Lane<Item, J>, last: LastTick) -> LastTick
         ensures { SendsOwn self.now.context.peer.now.number lane.old.sent lane.new.sent }
     {
@@ -109,7 +113,7 @@ impl<'a, J: NodeNaming, S: HasState<J>, G: Gate> Shared<'a, J, S, G> {
         LastTick { time: now, ticks }
     }
 
-    // Has the log cut, if a cut is due after this many ticks.
+    // Sends a cut, if it is due after this many ticks.
     fn cut_in_time<R: Wait + Clock>(&self, rt: &R, lane: &mut Lane<Item, J>, ticks: u64)
         ensures { SendsOwn self.now.context.peer.now.number lane.old.sent lane.new.sent }
     {
@@ -118,7 +122,7 @@ impl<'a, J: NodeNaming, S: HasState<J>, G: Gate> Shared<'a, J, S, G> {
         }
     }
 
-    // Has the log cut, if what the node took since the last cut is large enough.
+    // Sends a cut, if the size of the log makes it due.
     fn cut_by_size<R: Wait + Clock>(&self, rt: &R, lane: &mut Lane<Item, J>)
         ensures { SendsOwn self.now.context.peer.now.number lane.old.sent lane.new.sent }
     {
@@ -128,7 +132,7 @@ impl<'a, J: NodeNaming, S: HasState<J>, G: Gate> Shared<'a, J, S, G> {
         }
     }
 
-    // Ends the connections whose first packet did not come in time.
+    // Ends the connections whose first packet is overdue.
     fn end_overdue<R: Wait>(&self, rt: &R, now: u64) {
         let mut index = 0;
         for _ in 0..MAX_CONNECTIONS {
@@ -142,14 +146,14 @@ impl<'a, J: NodeNaming, S: HasState<J>, G: Gate> Shared<'a, J, S, G> {
         }
     }
 
-    // Returns true if the first packet of a connection did not come in time.
+    // Returns true if the first packet of a connection is overdue.
     fn awaits_too_long<R: Wait>(&self, rt: &R, link: &Link, now: u64) -> bool {
         let standing = self.node.lock(rt).state().standing(link.port);
         is_overdue(standing, link.opened, now)
     }
 
-    // Takes all that other nodes and the master queued for the node up to now. If that is
-    // something, takes items until the inbox is empty.
+    // Takes all that was queued for the node up to now. If that is something, takes items until the
+    // inbox is empty.
     fn take_queued<R: Wait + Clock>(&self, rt: &R, lane: &mut Lane<Item, J>)
         ensures { SendsOwn self.now.context.peer.now.number lane.old.sent lane.new.sent }
     {
@@ -163,8 +167,7 @@ impl<'a, J: NodeNaming, S: HasState<J>, G: Gate> Shared<'a, J, S, G> {
         self.take_until_empty(rt, lane);
     }
 
-    // Sends what was queued for the node by its lane. It only calls `send`: what it requires shows
-    // which items the lane sends.
+    // Sends a queued item. It only calls `send`: its premise shows which items the own lane sends.
     fn send_queued<R: Wait + Clock>(&self, rt: &R, lane: &mut Lane<Item, J>, item: Item)
         requires { IsQueued self.now.context.peer.now.number item }
         ensures { SendsOwn self.now.context.peer.now.number lane.old.sent lane.new.sent }
@@ -172,7 +175,7 @@ impl<'a, J: NodeNaming, S: HasState<J>, G: Gate> Shared<'a, J, S, G> {
         self.send(rt, lane, item);
     }
 
-    // Sleeps until something comes or it is time for a tick, if nothing comes at once.
+    // Sleeps until an item is queued or a tick is due, unless an item comes at once.
     fn sleep_until_wanted<R: Wait>(&self, rt: &R) {
         if self.comes_at_once(rt) {
             return;
@@ -184,7 +187,7 @@ impl<'a, J: NodeNaming, S: HasState<J>, G: Gate> Shared<'a, J, S, G> {
         }
     }
 
-    // Watches for a while whether other nodes have something for the node. Returns whether they do.
+    // Looks a while for queued items. Returns true if there are some.
     fn comes_at_once<R: Wait>(&self, rt: &R) -> bool {
         for _ in 0..LOOKS_BEFORE_SLEEP {
             if self.context.peer.is_wanted(rt) {
@@ -196,7 +199,6 @@ impl<'a, J: NodeNaming, S: HasState<J>, G: Gate> Shared<'a, J, S, G> {
     }
 }
 
-// Waits for less than a microsecond.
 fn pause() {
     for _ in 0..SPINS {
         hint::spin_loop();

@@ -1,4 +1,11 @@
 // A node that serves, with the lanes of its threads.
+//
+// Each thread has a lane for good, taken out of its slot while it runs and put back when it
+// returns; that is how `close` gets all lanes, without which a node cannot end. The own lane is
+// under the lock `own` instead, since threads of other nodes use it, too. `own` is the first of all
+// locks: its holder takes the node's, and through that the master's, an outbox's, an intake's and a
+// waker's. A thread that helps only tries it, so no two threads wait for each other's own lanes.
+// `lane_slots` is taken only while no other lock is held.
 
 ghost use Rattle.std.specs.Prelude.{◌≡◌, [], IfOk, map};
 ghost use Rattle.lists.specs.Lists.{Each};
@@ -30,31 +37,30 @@ use world_base::node_core::Item;
 pub struct ServedNode<'a, J: NodeNaming, S: HasState<J>, G: Gate> {
     /// The node's number, which is that of its listener.
     pub number: u8,
-    /// What its threads share.
     pub(crate) shared: Shared<'a, J, S, G>,
-    /// The lane of everything that does not come from a client. The thread that holds it does the
-    /// node's turn with what was queued for the node: its own thread, or one that queued something.
-    /// It is this node's, but it is under a lock, so no clause says that (see [`OwnLane`]). Whoever
-    /// locks it compares the numbers, which are always equal.
+    /// The own lane. Its holder does the node's turn with what was queued for it: the node's own
+    /// thread, or a thread that queued something. It is this node's, but is under a lock, so no
+    /// clause says that (see [`OwnLane`]): whoever locks it compares the numbers, which are always
+    /// equal.
     pub(crate) own: Mutex<OwnLane<J>>,
-    // The lanes of its connections, while no thread works with them.
+    // The lanes of its connections, while no thread uses them.
     lane_slots: Mutex<LaneSlots<J>>,
     /// Whether a gate is asked before each taking.
     pub(crate) is_gated: bool,
     pub(crate) ghost its: { number ≡ shared.context.listener.now.number },
 }
 
-/// What happened to the items that were sent to one of the nodes.
+/// The fate of the items that were sent to one of the nodes.
 #[derive(Drop)]
 pub struct NodeReport {
     /// The node's number.
     pub number: u8,
-    /// What it took and what it left.
+    /// What it took, and what it left.
     pub report: Report,
 }
 
 impl<'a, J: NodeNaming, G: Gate> ServedNode<'a, J, NodeState<J>, G> {
-    /// Starts a node that opened. The only error is that memory ran out.
+    /// Returns a node that opened, ready to serve. The only error is that memory ran out.
     pub(crate) fn start<R: Wait>(
         rt: &R,
         alloc: Global,
@@ -94,8 +100,8 @@ impl<'a, J: NodeNaming, G: Gate> ServedNode<'a, J, NodeState<J>, G> {
         })
     }
 
-    /// Ends the node, whose listener is closed and whose threads have returned. Reports what became
-    /// of the items that were sent to it. The error comes if not all its lanes came back. They were
+    /// Ends the node, whose listener is closed and whose threads have returned, and reports the
+    /// fate of the items that were sent to it. Fails if not all its lanes came back. They were
     /// under a lock, so the clause says only whose report it is.
     pub fn close<R: Wait>(self, rt: &R, _closed: Closed) -> Result<NodeReport, Memory>
         requires { _closed ≡ self.number }
@@ -118,7 +124,7 @@ impl<'a, J: NodeNaming, G: Gate> ServedNode<'a, J, NodeState<J>, G> {
 
 impl<'a, J: NodeNaming, S: HasState<J>, G: Gate> ServedNode<'a, J, S, G> {
     /// Ends all connections of the node, and admits no more: its threads return. Returns the
-    /// witness that its listener is closed. No clause says more than whose witness it is.
+    /// witness that its listener is closed. The clause says only whose witness it is.
     pub fn close_listener<R: Wait + Clock + Net<Stream = TcpStream>>(&self, rt: &R) -> Closed
         ensures { result ≡ self.now.number }
     {
@@ -132,8 +138,7 @@ where
     S: HasState<J> + Send,
     G: Gate + Sync,
 {
-    /// Works with each lane by a thread of its own, until the listener is closed. No clause says
-    /// so.
+    /// Runs the node's threads until the listener is closed. No clause says so.
     pub fn work<R>(&self, rt: &R, all: &[ServedNode<'a, J, S, G>])
     where
         R: Threads + Wait + Clock + Sync,
@@ -147,8 +152,8 @@ where
     }
 }
 
-/// Returns the nodes that serve, made of those that opened, each with its listener's context. The
-/// error comes if memory ran out, or a node has no listener; no clause says when it comes.
+/// Returns a served node for each that opened, with its listener's context. Fails if memory ran
+/// out, or if a node has no listener; no clause says when.
 pub fn start_all<'a, J: NodeNaming, R: Wait, G: Gate>(
     rt: &R,
     alloc: Global,
@@ -164,15 +169,15 @@ pub fn start_all<'a, J: NodeNaming, R: Wait, G: Gate>(
 {
     let mut nodes = Vec::with_capacity(alloc, opened.len())?;
     for one in opened {
-        // It was opened for a listener, and is one of the cluster's nodes. No clause says so.
+        // A node was opened for each listener, and is in the cluster. No clause says so.
         let context = contexts.context_of(one.number).ok_or(Memory)?;
         nodes.push(ServedNode::start(rt, alloc, context, config, one, gate)?)?;
     }
     Ok(nodes)
 }
 
-// Returns the node's own lane, the first of these lanes, and the slots of its threads. The error
-// comes if memory ran out, or if there is no lane.
+// Returns the node's own lane, the first of these, and the slots of its threads with the others.
+// Fails if memory ran out, or if there is no lane.
 fn lane_slots_of<J: NodeNaming>(
     alloc: Global,
     number: u8,
@@ -188,8 +193,7 @@ fn lane_slots_of<J: NodeNaming>(
         // This does not come: an inbox has as many lanes as it was named with, `LANES`.
         return Err(Memory);
     };
-    // The slots of the node's own thread, and of the thread that continues with full sockets, have
-    // no lane.
+    // The slots of the node's own thread and of the blocked writer have no lane.
     slots.push(LaneSlot::new(None))?;
     for lane in lanes {
         slots.push(LaneSlot::new(Some(lane)))?;

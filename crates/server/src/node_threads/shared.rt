@@ -16,33 +16,31 @@ use std::sync::Wait;
 use streams::writer::{BlockedLinks, Writer};
 use world_base::node_core::Item;
 
-/// What the threads of a node share. No thread holds one of the locks while it waits, except its
-/// turn at a gate.
+/// What the threads of a node share. No thread waits while it holds one of the locks, except for
+/// its turn at a gate.
 #[derive(Drop)]
 pub(crate) struct Shared<'a, J: NodeNaming, S: HasState<J>, G: Gate> {
-    /// The allocator of connections and lists.
     pub(crate) alloc: Global,
-    /// The node, under its lock.
     pub(crate) node: Node<'a, J, S, G>,
     /// Its listener, the other nodes, and its clock.
     pub(crate) context: NodeContext<'a>,
     /// The configuration in which all nodes opened.
     pub(crate) config: &'a Config,
-    /// The connections whose sockets were full.
     pub(crate) blocked: BlockedLinks,
     pub(crate) ghost opens: { EachOpensAs config.now J.first_of },
     pub(crate) ghost named: { node.number ≡ context.listener.now.number },
 }
 
 impl<'a, J: NodeNaming, G: Gate> Shared<'a, J, NodeState<J>, G> {
-    /// Ends the node, whose threads have returned, and reports what happened to the items that were
-    /// sent to it by these lanes. If they are not all its lanes, in order, the answer is `Memory`.
+    /// Ends the node, whose threads have returned, and reports the fate of the items that these
+    /// lanes sent. Fails with `Memory` if they are not all its lanes, in order.
     pub(crate) fn close<R: Wait>(
         self,
         rt: &R,
         lanes: &mut [Lane<Item, J>],
     ) -> Result<Report, Memory>
-        // What was taken and what is left over are, lane by lane and in order, all that was sent.
+        // Lane by lane, what was taken followed by what is left over is all that was sent, in
+        // order.
         ensures whole { IfOk result (λ report.
             All (ArrivesWhole report.taken.items report.left.items) lanes.new) }
         ensures lanes { OnOk result (map unmet lanes.new ≡ map unmet lanes.old) }
@@ -53,7 +51,7 @@ impl<'a, J: NodeNaming, G: Gate> Shared<'a, J, NodeState<J>, G> {
         let Shared { node, .. } = self;
         if !node.has_all(lanes) {
             // This does not come: each thread puts its lane back, and there is room for all. But
-            // the slots were under a lock, and no clause is about what is there.
+            // the slots were under a lock, and no clause speaks of what is there.
             return Err(Memory);
         }
         Ok(node.close(rt, lanes))
@@ -61,7 +59,7 @@ impl<'a, J: NodeNaming, G: Gate> Shared<'a, J, NodeState<J>, G> {
 }
 
 impl<'a, J: NodeNaming, S: HasState<J>, G: Gate> Shared<'a, J, S, G> {
-    /// Returns what writes to the node's connections.
+    /// Returns the writer of the node's connections.
     pub(crate) fn writer(&self) -> Writer<'_, 'a, J, S, G>
         ensures { result.listener.now.number ≡ self.now.context.listener.now.number }
     {

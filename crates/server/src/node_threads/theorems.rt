@@ -1,4 +1,4 @@
-// A law about ports. The call does nothing; its contract is the law.
+// A theorem on ports. The call does nothing; its contract is the theorem.
 
 ghost use Rattle.server.specs.node_threads.Theorems.{PortsDiffer};
 

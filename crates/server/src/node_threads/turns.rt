@@ -1,4 +1,11 @@
-// A node's turn, which the thread that sent an item, or queued something for the node, does itself.
+// A node's turn, done by the thread that sent an item or queued something for the node.
+//
+// Whoever sends also takes, until the inbox is empty: so each item is taken, and no thread waits
+// for an inbox. The node's state is locked for one batch at a time, and while it is locked three
+// things happen in this order: the items are stepped, the new status is shown, and what the steps
+// gave is queued. So statuses and messages keep the order of the steps. Nothing is written and no
+// thread sleeps under that lock. Nobody is woken under it either, except the receiver of an answer
+// of the master, and the node's own thread for a cut.
 
 ghost use Rattle.std.specs.Prelude.{◌≡◌, ◌++◌, ◌∷◌, [], true, false};
 ghost use Rattle.mailbox.specs.Ends.{all_met, unmet};
@@ -17,9 +24,9 @@ use std::time::Clock;
 use world_base::node_core::Item;
 
 impl<'a, J: NodeNaming, S: HasState<J>, G: Gate> Shared<'a, J, S, G> {
-    /// Sends an item by a lane, and then takes what waits in the inbox, including that item. Once
-    /// it returns the node has taken all that the lane sent, and the lane knows it. What the node
-    /// queued for connections is not written yet.
+    /// Sends an item, and then takes what waits in the inbox. On return the node has taken all that
+    /// the lane sent, and the lane knows it. What the node queued for connections is not written
+    /// yet.
     pub(crate) fn send_and_take<R: Wait + Clock>(
         &self,
         rt: &R,
@@ -32,7 +39,7 @@ impl<'a, J: NodeNaming, S: HasState<J>, G: Gate> Shared<'a, J, S, G> {
         self.take_until_empty(rt, lane);
     }
 
-    /// Sends an item by a lane. If the inbox is full, takes what waits there first.
+    /// Sends an item. While the inbox is full, takes what waits there.
     pub(crate) fn send<R: Wait + Clock>(&self, rt: &R, lane: &mut Lane<Item, J>, item: Item)
         ensures { unmet lane.new ≡ unmet (record lane.old { sent = lane.old.sent ++ item ∷ [] }) }
     {
@@ -48,7 +55,7 @@ impl<'a, J: NodeNaming, S: HasState<J>, G: Gate> Shared<'a, J, S, G> {
         unreachable!()
     }
 
-    /// Takes items until the inbox is empty, with all that this lane sent.
+    /// Takes items until the inbox is empty; all that this lane sent is among those taken.
     pub(crate) fn take_until_empty<R: Wait + Clock>(&self, rt: &R, lane: &mut Lane<Item, J>)
         ensures { lane.new ≡ all_met lane.old }
     {
@@ -60,12 +67,12 @@ impl<'a, J: NodeNaming, S: HasState<J>, G: Gate> Shared<'a, J, S, G> {
         unreachable!()
     }
 
-    // Takes at most as many items as one permit allows. Returns whether more may wait. The gate is
-    // asked for the permit before, while the node's state is not locked.
+    // Takes at most as many items as one permit allows. Returns true if more may wait. The gate is
+    // asked before the node's state is locked.
     fn take_with_permit<R: Wait + Clock>(&self, rt: &R, lane: &mut Lane<Item, J>) -> bool
         ensures more { result ≡ true → lane.new ≡ lane.old }
 
-        // If none waits, all was taken that the lane sent.
+        // If none waits, all that the lane sent was taken.
         ensures none { result ≡ false → lane.new ≡ all_met lane.old }
     {
         let permit = self.node.begin_taking(rt);
@@ -74,9 +81,9 @@ impl<'a, J: NodeNaming, S: HasState<J>, G: Gate> Shared<'a, J, S, G> {
         more
     }
 
-    // Takes items under one lock, at most as many as the permit allows. Returns whether more may
-    // wait. What the node has for others is queued for them while the lock is held, so that it
-    // keeps the order of the node's steps. The status is shown then, too.
+    // Takes items under one lock, at most as many as the permit allows. Returns true if more may
+    // wait. Under the same lock the status is shown and the node's messages are queued, so they
+    // keep the order of its steps.
     fn take_and_queue_given<R: Wait>(
         &self,
         rt: &R,
@@ -96,7 +103,7 @@ impl<'a, J: NodeNaming, S: HasState<J>, G: Gate> Shared<'a, J, S, G> {
         let (more, given) = take_as_permitted(rt, self.alloc, state, permit, lane);
         self.context.peer.show(rt, state.status());
         self.context.cluster.queue_given(rt, state, given);
-        // The node's own thread has the log cut.
+        // The node's own thread sends the cut.
         if state.wants_cut() {
             self.context.peer.wake(rt);
         }
@@ -104,7 +111,7 @@ impl<'a, J: NodeNaming, S: HasState<J>, G: Gate> Shared<'a, J, S, G> {
     }
 }
 
-// Takes items until the inbox is empty, at most as many as the permit allows. Returns whether more
+// Takes items until the inbox is empty, at most as many as the permit allows. Returns true if more
 // may wait, and what the node's steps gave.
 fn take_as_permitted<J: NodeNaming, R: Wait>(
     rt: &R,
@@ -121,7 +128,7 @@ fn take_as_permitted<J: NodeNaming, R: Wait>(
     ensures given { Turns node.old node.new result.1 }
     ensures more { result.0 ≡ true → lane.new ≡ lane.old }
 
-    // If none waits, all was taken that the lane sent: the node has its items in its history.
+    // If none waits, all that the lane sent was taken: the node has its items in its history.
     ensures none { result.0 ≡ false → lane.new ≡ all_met lane.old }
 {
     let mut effects = Vec::new(alloc);

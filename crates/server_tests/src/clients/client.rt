@@ -79,7 +79,7 @@ impl Pair {
         Ok(Pair { sink, speaker })
     }
 
-    /// Has the subscriber subscribe to `t/#` at QoS 2.
+    /// Subscribes to `t/#` at QoS 2.
     pub fn subscribe(&mut self) -> Result<(), Came> {
         exchange(&mut self.sink, &SUBSCRIBE, &SUBSCRIBED)
     }

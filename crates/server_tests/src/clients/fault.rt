@@ -23,7 +23,7 @@ pub fn unless(is_so: bool, step: &'static str) -> Result<(), Fault> {
     if is_so { Ok(()) } else { Err(Fault::new(step)) }
 }
 
-/// Gives the outcome of a step on a stream these words.
+/// Names the step in which an outcome failed.
 pub fn named<T>(outcome: Result<T, Came>, step: &'static str) -> Result<T, Fault> {
     match outcome {
         Ok(value) => Ok(value),

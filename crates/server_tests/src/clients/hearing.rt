@@ -14,7 +14,7 @@ fn unless_refused(is_taken: bool) -> Result<(), Came> {
     }
 }
 
-/// Has a read of this stream end after this many milliseconds from now on.
+/// Sets the deadline of reads on this stream, in milliseconds.
 pub(crate) fn limit_reads(stream: &TcpStream, milliseconds: u64) -> Result<(), Came> {
     unless_refused(
         stream
@@ -23,7 +23,7 @@ pub(crate) fn limit_reads(stream: &TcpStream, milliseconds: u64) -> Result<(), C
     )
 }
 
-/// Has a write on this stream end after this many milliseconds from now on.
+/// Sets the deadline of writes on this stream, in milliseconds.
 pub fn limit_writes(stream: &TcpStream, milliseconds: u64) -> Result<(), Came> {
     unless_refused(
         stream

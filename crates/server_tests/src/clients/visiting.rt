@@ -33,7 +33,7 @@ fn are_answers(got: &[u8]) -> bool {
     got == ANSWERS.as_slice() || got == PUBLISH_FIRST.as_slice()
 }
 
-/// Has client `a` send all at once, and be answered.
+/// Sends all of client `a` at once, and reads the answers.
 pub fn visit<R>(rt: &R, listener: Option<&Listener>) -> Result<(), Came>
 where
     R: Net<Stream = TcpStream>,

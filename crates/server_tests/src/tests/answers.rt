@@ -41,8 +41,8 @@ fn a_flood_is_answered_whole(rt: HostRuntime) {
     assert_eq!(rt; fault_in(&rt, FLOODS), None);
 }
 
-/// Has a client with keep alive 1 fall silent: it is closed after one and a half seconds (MQTT
-/// 3.1.2.10). Nothing more is sent to it. Returns the first step that fails.
+/// Checks that a client with keep alive 1 that falls silent is closed after one and a half seconds
+/// (MQTT 3.1.2.10), and is sent nothing more. Returns the first step that fails.
 pub(super) fn silence<R>(rt: &R, listener: Option<&Listener>) -> Result<(), Fault>
 where
     R: Clock + Net<Stream = TcpStream>,

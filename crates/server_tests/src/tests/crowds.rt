@@ -44,8 +44,8 @@ fn a_client_that_never_reads_keeps_nobody_waiting(rt: HostRuntime) {
     assert_eq!(rt; first_fault_with(&rt, &[1], Row::NeverReads), Ok(()));
 }
 
-/// Has sixty clients answered by PINGRESP while they are connected and one more has come. Returns
-/// the first step that fails.
+/// Checks that sixty clients are answered by PINGRESP while they are connected and one more has
+/// come. Returns the first step that fails.
 pub(super) fn sixty<R>(rt: &R, listener: Option<&Listener>) -> Result<(), Fault>
 where
     R: AllocGlobal + Net<Stream = TcpStream>,
@@ -79,7 +79,7 @@ fn ping_all(streams: &mut [TcpStream]) -> Result<(), Came> {
     Ok(())
 }
 
-// Has the clients of these letters accepted, and adds their streams.
+// Connects the clients of these letters, and adds their streams.
 fn join_all<R>(
     rt: &R,
     listener: Option<&Listener>,
@@ -112,9 +112,9 @@ where
     hear_end(&mut stream)
 }
 
-/// Has sixty clients say nothing: they keep their connections for four seconds. Then one more is
-/// closed, and the sixty lose theirs within ten seconds more. Then another is accepted. Returns the
-/// first step that fails.
+/// Checks that sixty silent clients keep their connections for four seconds. Then one more is
+/// closed, the sixty lose theirs within ten seconds more, and after that another is accepted.
+/// Returns the first step that fails.
 pub(super) fn silent_ones<R>(rt: &R, listener: Option<&Listener>) -> Result<(), Fault>
 where
     R: AllocGlobal + Net<Stream = TcpStream>,
@@ -184,7 +184,7 @@ where
     Ok(())
 }
 
-/// Has 200 clients come one after another, each once the one before has left. All are accepted.
+/// Connects 200 clients one after another, each once the one before has left. All are accepted.
 /// Returns the first step that fails.
 pub(super) fn come_in_turn<R>(rt: &R, listener: Option<&Listener>) -> Result<(), Fault>
 where
@@ -196,7 +196,7 @@ where
     )
 }
 
-// Has 200 clients accepted, one after another.
+// Connects 200 clients, one after another.
 fn come_and_go_by_turns<R>(rt: &R, listener: Option<&Listener>) -> Result<(), Came>
 where
     R: Net<Stream = TcpStream>,
@@ -207,7 +207,7 @@ where
     Ok(())
 }
 
-// Has the client of this letter, which wants no session, accepted. Then it leaves.
+// Connects the client of this letter, which wants no session, and disconnects it.
 fn come_and_go<R>(rt: &R, listener: Option<&Listener>, letter: u8) -> Result<(), Came>
 where
     R: Net<Stream = TcpStream>,
@@ -265,8 +265,9 @@ fn pass_fifty(large: &mut Large, pair: &mut Pair) -> Result<(), Came> {
     Ok(())
 }
 
-/// Has a subscriber with keep alive 10 never read, and say nothing more. It keeps its place until
-/// its keep alive has ended; then another client is accepted. Returns the first step that fails.
+/// Checks that a subscriber with keep alive 10 that never reads, and sends nothing more, keeps its
+/// place until its keep alive has ended; then another client is accepted. Returns the first step
+/// that fails.
 pub(super) fn deaf_one<R>(rt: &R, listener: Option<&Listener>) -> Result<(), Fault>
 where
     R: AllocGlobal + Wait + Clock + Net<Stream = TcpStream>,
@@ -330,7 +331,7 @@ where
     Ok(stream)
 }
 
-// Has a client publish 20 MB, and be answered after that.
+// Publishes 20 MB from one client, and reads the answer after that.
 fn publish_twenty(alloc: Global, stream: Option<&mut TcpStream>) -> Result<(), Came> {
     match (large_publish(alloc), stream) {
         (Ok(large), Some(stream)) => publish_times(stream, large.as_slice(), 20),
@@ -338,7 +339,7 @@ fn publish_twenty(alloc: Global, stream: Option<&mut TcpStream>) -> Result<(), C
     }
 }
 
-// Has client `a` accepted within thirty seconds.
+// Connects client `a` within thirty seconds, and disconnects it.
 fn come_and_go_in_time<R>(rt: &R, listener: Option<&Listener>) -> Result<(), Came>
 where
     R: Wait + Clock + Net<Stream = TcpStream>,

@@ -75,7 +75,7 @@ where
     )
 }
 
-// Has client `q` subscribe, and then be away.
+// Subscribes client `q`, and disconnects it.
 fn leave_a_queue<R>(rt: &R, listener: Option<&Listener>) -> Result<(), Came>
 where
     R: Net<Stream = TcpStream>,
@@ -102,7 +102,7 @@ where
     )
 }
 
-// Has the subscriber be sent `x`, which it does not acknowledge.
+// Publishes `x` to the subscriber, which does not acknowledge it.
 fn begin<R: AllocGlobal>(rt: &R, pair: &mut Pair) -> Result<(), Came> {
     let mut heard = Heard::new(rt);
     begin_by(pair, &mut heard)
@@ -143,7 +143,8 @@ where
     )
 }
 
-// Has the subscriber find no session and get nothing, subscribe again, and then be away.
+// Checks that the subscriber finds no session and gets nothing. Subscribes it again, and
+// disconnects it.
 fn begin_anew<R>(rt: &R, listener: Option<&Listener>) -> Result<(), Came>
 where
     R: Net<Stream = TcpStream>,
@@ -190,7 +191,7 @@ where
     )
 }
 
-// Has client `q` find its session, and get all three publications.
+// Checks that client `q` finds its session, and gets all three publications.
 fn hear_all<R>(rt: &R, listener: Option<&Listener>) -> Result<(), Came>
 where
     R: AllocGlobal + Net<Stream = TcpStream>,

@@ -61,8 +61,7 @@ where
     served.unwrap_or(Err(Fault::new("the nodes serve")))
 }
 
-/// Gives the next ballot to these members, and returns whether their primary becomes the active
-/// one.
+/// Assigns the next ballot to these members. Returns true if their primary becomes the active one.
 pub(super) fn move_to<R>(rt: &R, cluster: &Cluster, members: &[u8], primary: u8) -> bool
 where
     R: AllocGlobal + Wait + Clock,

@@ -33,8 +33,8 @@ fn sessions_outlive_their_nodes(rt: HostRuntime) {
 // CONNACK with a session present, and the PUBLISH again.
 const FOUND: [u8; 14] = [0x20, 2, 1, 0, 0x3C, 8, 0, 3, 0x74, 0x2F, 0x31, 0, 1, 0x78];
 
-/// Gives ballot 2 with node 2 as sole member while client `a` has not finished a handshake with
-/// node 1. The client finds its session at node 2, and is sent the publication again. Returns the
+/// Assigns ballot 2 to node 2 as sole member while client `a` has an unfinished handshake with node
+/// 1. Checks that the client finds its session at node 2, and gets the retransmission. Returns the
 /// first step that fails.
 pub(super) fn move_session<R>(
     rt: &R,
@@ -103,7 +103,7 @@ where
     )
 }
 
-// Has two clients begin at node 1, which then crashes.
+// Starts handshakes of two clients at node 1, which then crashes.
 fn begin<R>(
     rt: &R,
     cluster: &Cluster,
@@ -142,7 +142,7 @@ fn begin_three(pair: &mut Pair, heard: &mut Heard) -> Result<(), Came> {
     send(&mut pair.speaker, &publish(0x34, 3, b'z'))
 }
 
-// Has both find their sessions at another node, and end there what they began.
+// Checks that both find their sessions at another node, and end their handshakes there.
 fn end<R>(rt: &R, listener: Option<&Listener>, heard: &mut Heard) -> Result<(), Came>
 where
     R: Net<Stream = TcpStream>,

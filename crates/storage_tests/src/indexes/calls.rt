@@ -72,7 +72,7 @@ pub(crate) fn first_fault<I: SubIndex>(alloc: Global, row: &[Call<'static>]) -> 
     first_fault_with(alloc, &mut index, row)
 }
 
-// Makes a call. Returns what came, if it is not the wanted answer.
+// Makes a call. Returns the answer, if it is not the wanted one.
 fn came_instead<I: SubIndex>(alloc: Global, index: &mut I, call: Call<'_>) -> Option<Came> {
     match call {
         Call::Set(client, filter, qos) => unless(set(alloc, index, client, filter, qos).is_some()),

@@ -64,7 +64,7 @@ fn is_appended<I: SubIndex>(index: &I, topic: &TopicName, rows: &mut Vec<(Client
         || (rows.len() == before && index.granted(topic, rows).is_ok())
 }
 
-// Appends what is granted at the topic that is spelled so, in the same way.
+// Appends what is granted at the topic of this text, in the same way.
 fn is_shown<I: SubIndex>(
     alloc: Global,
     index: &I,

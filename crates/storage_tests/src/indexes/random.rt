@@ -133,7 +133,8 @@ fn call_with(
     }
 }
 
-// Makes the call of the next number for what is named so, in the same way.
+// Makes the call of the next number for the client, filter and topic of these texts, in the same
+// way.
 fn call_both(
     alloc: Global,
     both: &mut Both,

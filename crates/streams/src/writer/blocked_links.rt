@@ -9,15 +9,15 @@ use std::thread::Parker;
 /// no clause of a call says which there are.
 #[derive(Drop)]
 pub struct BlockedLinks {
-    /// Those connections. There is capacity for all that a node serves.
+    /// Has capacity for all connections that a node serves.
     pub(crate) links: Mutex<Vec<BlockedLink>>,
-    /// The thread that continues with them sleeps on this.
+    /// The blocked writer sleeps on this.
     pub(crate) waker: Parker,
 }
 
 impl BlockedLinks {
-    /// Returns a list without connections, with capacity for all that a node serves. The error is
-    /// that memory ran out.
+    /// Returns an empty list, with capacity for all connections that a node serves. The only error
+    /// is that memory ran out.
     pub fn new(alloc: Global) -> Result<BlockedLinks, AllocError> {
         Ok(BlockedLinks {
             links: Mutex::new(empty_list(alloc)?),
@@ -26,8 +26,8 @@ impl BlockedLinks {
     }
 }
 
-/// Returns an empty list with capacity for all connections that a node serves. The error is that
-/// memory ran out.
+/// Returns an empty list with capacity for all connections that a node serves. The only error is
+/// that memory ran out.
 pub(crate) fn empty_list(alloc: Global) -> Result<Vec<BlockedLink>, AllocError> {
     Vec::with_capacity(alloc, usize::from(MAX_CONNECTIONS))
 }

@@ -1,4 +1,4 @@
-// The thread that continues with connections whose sockets were full.
+// The blocked writer: the thread that continues with connections whose sockets were full.
 
 ghost use Rattle.std.specs.Prelude.{◌≡◌, ◌<◌, ◌≤◌, ◌*◌, IfSome, min};
 ghost use Rattle.std.specs.Arc.{arc_value};
@@ -15,20 +15,19 @@ use std::sync::{Arc, Wait};
 use std::time::Duration;
 use world_base::node_connections::Standing;
 
-/// How long the thread sleeps at most before it looks whether the listener is closed, in
-/// milliseconds.
+/// How long it sleeps at most before it looks whether the listener is closed, in milliseconds.
 const CLOSED_LOOK_MILLIS: u64 = 200;
 
-/// How long it sleeps at first before it tries sockets again that were full, in milliseconds.
+/// Its first pause before it tries full sockets again, in milliseconds.
 const FIRST_PAUSE_MILLIS: u64 = 1;
 
-/// How long it sleeps at most before it tries them again, in milliseconds.
+/// Its longest pause before it tries them again, in milliseconds.
 const MAX_PAUSE_MILLIS: u64 = 16;
 
 impl<'e, 'a, J: NodeNaming, S: HasState<J>, G: Gate> Writer<'e, 'a, J, S, G> {
-    /// Goes on with connections whose sockets were full until it sees the listener closed. Returns
-    /// the witness. No thread waits for this one, and it waits for no socket: between its tries it
-    /// sleeps, longer each time while all stay full. The clause says only whose witness it is.
+    /// Works as the blocked writer until it sees the listener closed. Returns the witness. No
+    /// thread waits for this one, and it waits for no socket: between its tries it sleeps, longer
+    /// each time while all stay full. The clause says only whose witness it is.
     pub fn write_blocked<R: Wait>(&self, rt: &R) -> Closed
         ensures { result ≡ self.now.listener.now.number }
     {
@@ -47,7 +46,7 @@ impl<'e, 'a, J: NodeNaming, S: HasState<J>, G: Gate> Writer<'e, 'a, J, S, G> {
         unreachable!()
     }
 
-    /// Hands a connection whose socket is full to the blocked writer, and wakes it.
+    /// Leaves a connection whose socket is full to the blocked writer, and wakes it.
     pub(crate) fn hand_blocked<R: Wait>(&self, rt: &R, link: &Arc<Link, Global>, token: WriteToken)
         requires { IsTokenOf (arc_value link.now).port token }
     {
@@ -56,8 +55,8 @@ impl<'e, 'a, J: NodeNaming, S: HasState<J>, G: Gate> Writer<'e, 'a, J, S, G> {
         }
     }
 
-    // Keeps a connection for the next round of the blocked writer, and returns whether it is kept.
-    // If there is no memory for it, it is ended.
+    // Adds a connection for the next round. Returns false if memory ran out: then the connection is
+    // ended.
     fn keep_blocked<R: Wait>(&self, rt: &R, link: &Arc<Link, Global>, token: WriteToken) -> bool
         requires { IsTokenOf (arc_value link.now).port token }
     {
@@ -81,8 +80,8 @@ impl<'e, 'a, J: NodeNaming, S: HasState<J>, G: Gate> Writer<'e, 'a, J, S, G> {
         }
     }
 
-    // Goes over the connections whose sockets were full. Returns how many there were, and how many
-    // are still full.
+    // Tries all connections whose sockets were full. Returns how many there were, and how many are
+    // still full.
     fn write_each_blocked<R: Wait>(&self, rt: &R) -> (usize, usize) {
         let blocked = self.take_blocked(rt);
         let tried = blocked.len();
@@ -100,8 +99,8 @@ impl<'e, 'a, J: NodeNaming, S: HasState<J>, G: Gate> Writer<'e, 'a, J, S, G> {
         (tried, left)
     }
 
-    // Takes the connections whose sockets were full, and leaves a list with capacity for all that
-    // the node serves. If there is no memory for that it takes none, so that they are tried later.
+    // Takes all connections whose sockets were full. Leaves a list with capacity for all that the
+    // node serves; if there is no memory for that, takes none, and they are tried later.
     fn take_blocked<R: Wait>(&self, rt: &R) -> Vec<BlockedLink> {
         match empty_list(self.alloc) {
             Ok(empty) => mem::replace(&mut *self.blocked.links.lock(rt), empty),
@@ -109,8 +108,8 @@ impl<'e, 'a, J: NodeNaming, S: HasState<J>, G: Gate> Writer<'e, 'a, J, S, G> {
         }
     }
 
-    // Writes as much as the socket takes. Returns the token if the socket is still full. A
-    // connection that the node closed meanwhile is then ended, so that a client that does not read
+    // Writes as much as the socket takes. Returns the token if the socket is still full, unless the
+    // node closed the connection meanwhile: then it is ended, so that a client that does not read
     // keeps no index.
     fn retry_blocked<R: Wait>(
         &self,
@@ -131,13 +130,12 @@ impl<'e, 'a, J: NodeNaming, S: HasState<J>, G: Gate> Writer<'e, 'a, J, S, G> {
     }
 }
 
-// Returns how long the thread sleeps next, by how many connections it tried and how many of these
-// are still blocked.
+// Returns the next pause, by how many connections were tried and how many of these are still full.
 fn next_pause(pause: u64, tried: usize, left: usize) -> u64
     ensures none { left ≡ 0 → result ≡ FIRST_PAUSE_MILLIS }
     ensures fewer { left < tried → result ≡ FIRST_PAUSE_MILLIS }
 
-    // While all stay full it sleeps longer each time.
+    // While all stay full, the pause doubles.
     ensures all { 0 < left → tried ≤ left → result ≡ min (2 * pause) MAX_PAUSE_MILLIS }
 {
     if left == 0 || left < tried {

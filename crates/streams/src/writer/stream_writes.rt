@@ -1,4 +1,4 @@
-// Writing what the node queued for a connection to its stream.
+// Writing on one connection.
 
 ghost use Rattle.std.specs.Prelude.{IfSome};
 ghost use Rattle.std.specs.Arc.{arc_value};
@@ -14,10 +14,9 @@ use std::alloc::Global;
 use std::sync::{Arc, Wait};
 use world_base::node_connections::Handed;
 
-// The node under its lock, which queued bytes for its connections.
+// The node under its lock, as the outlet of its connections.
 #[derive(Drop)]
 struct Source<'e, 'a, J: NodeNaming, S: HasState<J>, G: Gate> {
-    // Has the node, and writes to its connections.
     writer: &'e Writer<'e, 'a, J, S, G>,
 }
 
@@ -34,9 +33,10 @@ impl<'e, 'a, J: NodeNaming, S: HasState<J>, G: Gate> Outlet<PortTap> for Source<
 }
 
 impl<'e, 'a, J: NodeNaming, S: HasState<J>, G: Gate> Writer<'e, 'a, J, S, G> {
-    /// Writes what the node queued for a connection, unless another thread writes there: then that
-    /// one will look again. What a full socket does not take is left to the blocked writer. `waits`
-    /// says whether this thread may sleep a moment for a full socket: the node's own one may not.
+    /// Writes what the node queued for a connection, unless another thread writes there, which then
+    /// looks again. What a full socket does not take is left to the blocked writer. `waits` is true
+    /// if this thread may wait for a full socket, for a millisecond; a thread that does a node's
+    /// turn may not.
     pub(crate) fn flush<R: Wait>(&self, rt: &R, link: &Arc<Link, Global>, waits: bool) {
         let Some(token) = link.take_token(rt) else {
             return;
@@ -47,9 +47,9 @@ impl<'e, 'a, J: NodeNaming, S: HasState<J>, G: Gate> Writer<'e, 'a, J, S, G> {
         }
     }
 
-    /// Writes what a full socket left over and what was queued, until nothing more is, and returns
-    /// the token to its connection. Returns the token to the caller if the socket is full. A stream
-    /// that takes no more is ended, and its token with it.
+    /// Writes what a full socket left over and what the node queued, until nothing is left, and
+    /// puts the token back. Returns the token if the socket is full. Ends a stream that takes no
+    /// more, and its token.
     pub(crate) fn write_until_blocked<R: Wait>(
         &self,
         rt: &R,
@@ -77,7 +77,7 @@ impl<'e, 'a, J: NodeNaming, S: HasState<J>, G: Gate> Writer<'e, 'a, J, S, G> {
         unreachable!()
     }
 
-    // Writes once. `waits` says whether it waits for a full socket.
+    // Writes once; waits for a full socket if `waits` is true.
     fn write_waiting<R: Wait>(
         &self,
         rt: &R,
@@ -101,8 +101,8 @@ impl<'e, 'a, J: NodeNaming, S: HasState<J>, G: Gate> Writer<'e, 'a, J, S, G> {
         }
     }
 
-    // Writes what a full socket left over, followed by what the node hands over, as far as the
-    // socket takes it within its time.
+    // Writes what a full socket left over, then what the node hands over, as far as the socket
+    // takes it.
     fn write_once<R: Wait>(&self, rt: &R, token: &mut WriteToken) -> Flow
         ensures whole { HasWholeStream token.new }
         ensures port { IsTokenOf token.old.tap.port token.new }

@@ -1,4 +1,12 @@
-// What writes to the connections of a node, and which of them it writes to.
+// Writing to the connections of a node.
+//
+// A thread first asks the node which lanes are idle, then the table for the other connections, and
+// then writes to each: one lock after another, and none while it writes or sleeps. The node is
+// locked only to ask for idle lanes, and to hand over the bytes of one port, which swaps two lists.
+// So a slow client delays neither the node nor other writers; it delays the thread that writes to
+// it by a millisecond, and then its bytes are left to the blocked writer. The connection whose
+// bytes were just taken is written first: a write to another one would wake the reader of that one
+// first.
 
 ghost use Rattle.std.specs.Prelude.{◌≡◌, []};
 ghost use Rattle.node.specs.State.{EachOpensAs};
@@ -11,18 +19,18 @@ use node_base::devices::Gate;
 use std::alloc::Global;
 use std::sync::{Arc, Wait};
 
-/// Before a lock is taken, memory is allocated for a list of this many connections. If there are
-/// more to write to, the list grows under the lock of the connections.
+/// Before a lock is taken, a list of this many connections is allocated. If there are more to write
+/// to, it grows under the lock of the connections.
 const BUSY_CAPACITY: usize = 8;
 
-/// The lowest index of a connection. [`Writer::write_busy`] begins there if none is to come first.
+/// The lowest index of a connection: where [`Writer::write_busy`] begins if none is to come first.
 pub const FIRST_INDEX: usize = 0;
 
-/// What writes to the connections of a node. It holds no lock while it writes or sleeps. No clause
-/// says so, or which connections a call writes to.
+/// Writes to the connections of a node. It holds no lock while it writes or sleeps. No clause says
+/// so, or which connections a call writes to.
 #[derive(Drop)]
 pub struct Writer<'e, 'a, J: NodeNaming, S: HasState<J>, G: Gate> {
-    /// Where its lists are allocated.
+    /// Where lists are allocated.
     pub alloc: Global,
     /// The node, which queues bytes for its connections.
     pub node: &'e Node<'a, J, S, G>,
@@ -37,8 +45,8 @@ pub struct Writer<'e, 'a, J: NodeNaming, S: HasState<J>, G: Gate> {
 }
 
 impl<'e, 'a, J: NodeNaming, S: HasState<J>, G: Gate> Writer<'e, 'a, J, S, G> {
-    /// Writes what the node queued for its connections, to the one at this index first. `waits`
-    /// says whether it waits for a full socket, for a short time.
+    /// Writes what the node queued for its connections, to the one at index `first` before the
+    /// others. `waits` is true if it may wait for a full socket, for a millisecond each.
     pub fn write_busy<R: Wait>(&self, rt: &R, first: usize, waits: bool) {
         let busy = self.busy_links(rt, first);
         for link in &busy {
@@ -46,9 +54,8 @@ impl<'e, 'a, J: NodeNaming, S: HasState<J>, G: Gate> Writer<'e, 'a, J, S, G> {
         }
     }
 
-    // Returns the connections for which something may have been queued, the one at this index
-    // first. Memory is allocated before a lock is taken. If it runs out, idle connections may be
-    // among them, or some may be missing.
+    // Returns the connections for which something may have been queued, the one at index `first`
+    // before the others. If memory runs out, idle ones may be among them, or some may be missing.
     fn busy_links<R: Wait>(&self, rt: &R, first: usize) -> Vec<Arc<Link, Global>> {
         let mut idle = list_with_capacity(self.alloc, usize::from(MAX_CONNECTIONS));
         let mut busy = list_with_capacity(self.alloc, BUSY_CAPACITY);
@@ -59,7 +66,7 @@ impl<'e, 'a, J: NodeNaming, S: HasState<J>, G: Gate> Writer<'e, 'a, J, S, G> {
     }
 }
 
-// Returns a list with capacity for this many, or without capacity if memory runs out.
+// Returns a list with capacity for `count`, or without capacity if memory runs out.
 fn list_with_capacity<T: Drop>(alloc: Global, count: usize) -> Vec<T>
     ensures { result.items ≡ [] }
 {

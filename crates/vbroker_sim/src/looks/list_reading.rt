@@ -146,7 +146,7 @@ impl ListReading {
         self.archive()
     }
 
-    // Makes a connection the current one of a client. Its session continues if neither that nor the
+    // Makes a connection its client's current one. Its session continues if neither that nor the
     // CONNECT is clean; otherwise it ends, and a new one begins. A second CONNECT on a connection
     // is a violation, which ends the connection.
     fn connect(

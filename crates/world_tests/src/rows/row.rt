@@ -133,7 +133,7 @@ pub fn opened(alloc: Global, nodes: u8, members: &[u8]) -> Option<World> {
     World::opening(alloc, nodes, config, clients.as_slice()).ok()
 }
 
-// Adds both. The list is lent, so that no way out of the loop has to drop it.
+// Adds both. The list is lent, so that no exit from the loop has to drop it.
 fn put_clients(alloc: Global, clients: &mut Vec<ClientId>) -> Option<()> {
     for name in &["a", "b"] {
         clients.push(named(alloc, name)?).ok()?;
@@ -205,7 +205,7 @@ pub(crate) fn is_said(command: &Command, said: &Said) -> bool {
     }
 }
 
-/// Lets the event of an action happen, and returns whether it could.
+/// Does the event of an action. Returns false if it cannot happen.
 pub fn let_happen(alloc: Global, world: &mut World, action: &Action) -> bool {
     match event_of(alloc, world, action) {
         Some(event) => {

@@ -32,8 +32,8 @@ enum Fault {
     Change(u64, Shown, Shown),
 }
 
-// Gives members 1, 2 and 3 a new ballot with this primary, and returns what that leads to; none if
-// there was no memory for the configuration.
+// Assigns a new ballot with this primary to members 1, 2 and 3. Returns the result; none if there
+// was no memory for the configuration.
 fn change_primary(alloc: Global, world: &mut World, primary: u8) -> Option<Shown> {
     let first = world.messages();
     let Some(config) = config_of(alloc, &[1, 2, 3], primary) else {

@@ -95,8 +95,8 @@ impl Course {
     }
 }
 
-// Lets an event happen or be idle, and looks at what is agreed after it. It takes the event, so
-// that the drop of one is proved here alone.
+// Does an event, which may be idle, and compares what is agreed after it. Takes the event, so that
+// the drop of one is proved here alone.
 fn step(world: &mut World, course: &mut Course, event: Event) -> bool {
     let before = world.agreed_len();
     let happened = world.step(&event).is_ok();
@@ -109,7 +109,7 @@ fn step(world: &mut World, course: &mut Course, event: Event) -> bool {
     happened
 }
 
-// Has the next node cut its log, if it has something to cut.
+// Cuts the log of the next node, if it has something to cut.
 fn cut_next(world: &mut World, course: &mut Course) {
     let node = (course.events / UNTIL_A_CUT % 3) as u8 + 1;
     let cut = Event::Cut(node);
@@ -119,7 +119,7 @@ fn cut_next(world: &mut World, course: &mut Course) {
     drop(cut);
 }
 
-/// Lets the next event of the rule happen or be idle. False if it ran out of memory.
+/// Does the next event of the rule, which may be idle. Returns false if memory ran out.
 pub fn step_next(alloc: Global, world: &mut World, course: &mut Course) -> bool {
     let number = course.draw() % 128;
     if number < 32 || course.is_behind(world) {
@@ -137,7 +137,7 @@ pub fn step_next(alloc: Global, world: &mut World, course: &mut Course) -> bool 
     true
 }
 
-// Lets the next message come; one in 32 is lost, and one in 8 comes again.
+// Delivers the next message; one in 32 is lost, and one in 8 is delivered again.
 fn deliver(world: &mut World, course: &mut Course) {
     let number = course.draw();
     if number % 8 == 0 {
@@ -177,8 +177,8 @@ fn tick(world: &mut World, course: &mut Course) {
     step(world, course, Event::Tick(node));
 }
 
-// Gives the next ballot to some of the nodes that run, one time of four. False if it ran out of
-// memory.
+// Assigns the next ballot to some of the running nodes, one time of four. Returns false if memory
+// ran out.
 fn assign(alloc: Global, world: &mut World, course: &mut Course) -> bool {
     if course.draw() % 4 != 0 {
         return true;
@@ -253,7 +253,7 @@ fn runs(course: &Course, node: u8) -> bool {
     )
 }
 
-// Has a client do something, by a number of the rule. False if it ran out of memory.
+// Makes a call of a client, by a number of the rule. Returns false if memory ran out.
 fn call(alloc: Global, world: &mut World, course: &mut Course, number: u64) -> bool {
     let client = (course.draw() % 4) as usize;
     let Some(name) = named(alloc, CLIENTS[client]) else {
@@ -280,7 +280,7 @@ fn open(world: &mut World, course: &mut Course, client: usize, name: ClientId, n
     }
 }
 
-// Has a client say something: mostly a publication. False if it ran out of memory.
+// Makes a call of a client that sends a packet, mostly a PUBLISH. Returns false if memory ran out.
 fn say(
     alloc: Global,
     world: &mut World,

@@ -128,8 +128,8 @@ fn first_step(all_came: bool, world: &World, course: &Course) -> Option<&'static
     }
 }
 
-// Lets the run happen. Returns the first step that fails, with what the world shows then, or the
-// first client that did not take each publication once.
+// Does all events of the run. Returns the first step that fails, with the state of the world then,
+// or the first client that did not accept each publication once.
 fn first_fault(alloc: Global, world: &mut World) -> Option<Fault> {
     let mut course = Course::new();
     let all_came = let_all_come(alloc, world, &mut course);

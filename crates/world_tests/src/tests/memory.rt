@@ -19,7 +19,7 @@ fn events(alloc: Global) -> Option<Vec<Event>> {
     Some(events)
 }
 
-// Adds them. The list is lent, so that no way out has to drop it.
+// Adds them. The list is lent, so that no early return has to drop it.
 fn put_events(alloc: Global, events: &mut Vec<Event>) -> Option<()> {
     events.push(Event::Open(named(alloc, "a")?, 1)).ok()?;
     events.push(Event::CarryUp(1, 15)).ok()?;
@@ -29,8 +29,8 @@ fn put_events(alloc: Global, events: &mut Vec<Event>) -> Option<()> {
     events.push(Event::Cut(1)).ok()
 }
 
-// Lets an event happen. Returns whether it does and leads here, and whether the agreed list did not
-// become shorter.
+// Does an event. Returns true if it happens and leads here, and if the agreed list did not become
+// shorter.
 fn step_and_compare(world: &mut World, event: &Event, wanted: &(u64, u64)) -> (bool, bool) {
     let before = world.agreed_len();
     let happened = world.step(event).is_ok();

@@ -20,7 +20,7 @@ pub fn opened_for(alloc: Global, nodes: u8, members: &[u8], names: &[&str]) -> O
     World::opening(alloc, nodes, config, clients.as_slice()).ok()
 }
 
-// Adds clients of these names. The list is lent, so that no way out of the loop has to drop it.
+// Adds clients of these names. The list is lent, so that no exit from the loop has to drop it.
 fn put_clients(alloc: Global, names: &[&str], clients: &mut Vec<ClientId>) -> Option<()> {
     for name in names {
         clients.push(named(alloc, name)?).ok()?;

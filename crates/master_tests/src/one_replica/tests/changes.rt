@@ -128,7 +128,7 @@ fn a_longer_log_of_a_stale_primary_is_replaced(rt: HostRuntime) {
     );
 }
 
-// Has a tick of node 2 say again what it waits for, and returns whether that is of these kinds.
+// Ticks node 2. Returns true if its retransmissions are of these kinds.
 fn ask_again(pair: &mut Pair, kinds: &[&str]) -> bool {
     pair.out.clear();
     pair.two.tick(&mut pair.out);

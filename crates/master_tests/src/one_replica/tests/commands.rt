@@ -131,8 +131,8 @@ fn hear_held_again(
     }
 }
 
-/// Has node 1 of two members append a command that adds 2 and receive Held twice. Returns the first
-/// step that fails.
+/// Appends a command that adds 2 at node 1 of two members, and delivers its Held twice. Returns the
+/// first step that fails.
 pub fn append_and_hear_twice(
     primary: &mut Replica<Tally>,
     out: &mut Vec<Effect<TallyCommand, u64>>,
@@ -269,7 +269,7 @@ fn send_four_messages(
     }
 }
 
-/// Has node 2 of three members append commands that add 2 and 3, of which node 1 holds the first.
+/// Appends commands that add 2 and 3 at node 2 of three members, of which node 1 holds the first.
 /// Checks that a tick then sends what each member lacks. Returns the first step that fails.
 pub fn send_what_is_lacking(
     primary: &mut Replica<Tally>,

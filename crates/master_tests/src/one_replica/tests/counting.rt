@@ -32,7 +32,7 @@ enum Fault {
     Row(usize, Row, Came),
 }
 
-// Gives the machine a copy of a row's command. Returns what came, if it is not what the row says.
+// Applies a copy of a row's command. Returns the result, if it is not the row's.
 fn came_instead(alloc: Global, tally: &mut Tally, row: &Row) -> Option<Came> {
     let (command, wanted) = *row;
     let mut out = Vec::new(alloc);

@@ -100,8 +100,8 @@ pub fn read_snapshots(
     }
 }
 
-// Gives a replica the Install of ballot 2 with a log that has this snapshot, base 2 and one
-// command. Returns true if the replica continues.
+// Delivers the Install of ballot 2, with a log of this snapshot, base 2 and one command. Returns
+// true if the replica continues.
 fn install(
     replica: &mut Replica<Tally>,
     out: &mut Vec<Effect<TallyCommand, u64>>,

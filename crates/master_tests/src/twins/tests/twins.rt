@@ -128,7 +128,7 @@ impl Twins {
         one == other && self.count_alike()
     }
 
-    // Has a node cut its log now and then. Returns true if nothing is seen of it.
+    // Cuts a node's log now and then. Returns true if both groups count alike after it.
     fn cut_now_and_then(&mut self) -> bool {
         if self.draw(5) == 0 {
             let node = self.draw_node();
@@ -178,7 +178,7 @@ impl Twins {
         }
     }
 
-    // Lets all events happen, and returns the first fault.
+    // Does all events, and returns the first fault.
     fn first_fault(&mut self, alloc: Global) -> Option<Fault> {
         match self.go(alloc) {
             Some(fault) => Some(fault),

@@ -4,7 +4,7 @@ use std::alloc::Global;
 use std::io;
 use std::io::{ErrorKind, Read, Write};
 
-/// Gives its bytes, at most `most` a call. The call number `bad_call`, from 1, fails.
+/// Returns its bytes, at most `most` a read. The call number `bad_call`, from 1, fails.
 #[derive(Drop)]
 pub struct Source<'a> {
     bytes: &'a [u8],
@@ -14,8 +14,8 @@ pub struct Source<'a> {
 }
 
 impl<'a> Source<'a> {
-    /// Makes a source of these bytes, which gives `most` at a time and fails at the call of number
-    /// `bad_call`.
+    /// Returns a source of these bytes, which returns at most `most` a read and fails at the call
+    /// number `bad_call`, from 1.
     pub fn new(bytes: &'a [u8], most: usize, bad_call: u64) -> Source<'a> {
         Source {
             bytes,
@@ -51,8 +51,8 @@ pub struct Sink {
 }
 
 impl Sink {
-    /// Makes a sink that takes `most` bytes at a time, and fails with `fault` at the call of number
-    /// `bad_call`.
+    /// Returns a sink that takes at most `most` bytes a write, and fails with `fault` at the call
+    /// number `bad_call`, from 1.
     pub fn new(alloc: Global, most: usize, bad_call: u64, fault: ErrorKind) -> Sink {
         Sink {
             bytes: Vec::new(alloc),

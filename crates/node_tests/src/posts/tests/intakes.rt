@@ -16,7 +16,7 @@ const PRIMARY: Status = Status {
     stopped: false,
 };
 
-// Has node 1 show a status. Returns what the cluster says of it then.
+// Shows a status of node 1. Returns the status that the cluster has of it then.
 fn shown<R: Wait + Clock>(rt: &R, cluster: &Cluster, status: Status) -> Option<Status> {
     cluster.node(1)?.show(rt, status);
     cluster.status(rt, 1)

@@ -63,7 +63,7 @@ fn is_order(item: &Item, order: Order) -> bool {
     }
 }
 
-// Takes what waits for a node. Returns how many times it is this order; none if anything else
+// Takes all items that wait for a node. Returns how many are this order; none if any other item
 // waits.
 fn waiting<R: Wait>(rt: &R, alloc: Global, peer: &Peer, order: Order) -> Option<usize> {
     let items = peer.take_waiting(rt, alloc);
@@ -77,7 +77,7 @@ fn waiting<R: Wait>(rt: &R, alloc: Global, peer: &Peer, order: Order) -> Option<
 // What two orders to crash answer, and how many of them wait for the node.
 type Crashed = (bool, bool, Option<usize>);
 
-// Has node 1 show a status, and orders it to crash twice.
+// Shows a status of node 1, and orders it to crash twice.
 fn crash_twice<R>(rt: &R, alloc: Global, cluster: &Cluster, status: Status) -> Option<Crashed>
 where
     R: Wait + Clock,
@@ -130,7 +130,7 @@ fn answer<R: Wait + Clock>(rt: &R, alloc: Global, cluster: &Cluster) -> Option<b
     }
 }
 
-// Has nodes 1 and 2 show these, and orders to end the session of client `a`.
+// Shows these statuses of nodes 1 and 2, and orders to end the session of client `a`.
 fn expel<R>(
     rt: &R,
     alloc: Global,

@@ -89,7 +89,7 @@ fn assign<R: Wait>(rt: &R, alloc: Global, cluster: &Cluster, node: u8) -> bool {
     }
 }
 
-// Does what a row asks, and returns whether that has the result of the row.
+// Does a row's act. Returns true if the result is the row's.
 fn do_act<R: Wait>(rt: &R, alloc: Global, cluster: &Cluster, act: Act) -> bool {
     match act {
         Act::Look => true,

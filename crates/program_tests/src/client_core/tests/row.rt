@@ -16,7 +16,7 @@ pub enum Act<'a> {
     Bytes(&'a [u8]),
     /// Asks for `t/#` at QoS 2.
     Subscribe,
-    /// Gives `t/#` up.
+    /// Unsubscribes from `t/#`.
     Unsubscribe,
     /// Publishes one byte on `t/1`.
     Publish(QoS, u8),
@@ -78,7 +78,7 @@ pub fn new_client(alloc: Global) -> Option<ClientCore> {
     Some(ClientCore::new(alloc, client, 0))
 }
 
-/// Gives the client bytes of the server, and returns their refusal.
+/// Passes bytes of the server to the client, and returns the error.
 pub fn give(client: &mut ClientCore, bytes: &[u8]) -> Option<ClientError> {
     client.on_bytes(bytes).err()
 }
@@ -88,8 +88,7 @@ pub fn open(client: &mut ClientCore) -> Option<ClientError> {
     client.open().err()
 }
 
-// Gives a piece in two parts, of which the first has this many bytes, or all. Returns the first
-// refusal.
+// Passes a piece in two parts, the first of this many bytes or of all. Returns the first error.
 fn give_in_two(client: &mut ClientCore, bytes: &[u8], split: usize) -> Option<ClientError> {
     let Some((front, rest)) = bytes.split_at_checked(split.min(bytes.len())) else {
         return Some(ClientError::TooLarge);
@@ -99,7 +98,7 @@ fn give_in_two(client: &mut ClientCore, bytes: &[u8], split: usize) -> Option<Cl
     first.or(second)
 }
 
-// Gives a piece, whole or split in two.
+// Passes a piece, whole or split in two.
 fn give_split(client: &mut ClientCore, bytes: &[u8], split: Option<usize>) -> Option<ClientError> {
     match split {
         Some(split) => give_in_two(client, bytes, split),

@@ -41,7 +41,7 @@ const BOTH: &str = "assign 1,2 1\n\
     deliver 15\n\
     down 2 4\n";
 
-// A script and its transcript, members and client of a way out. Then the end of both: the length
+// A script and its transcript, members and client of a recovery. Then the end of both: the length
 // of the agreed list, and the active ballot.
 const WAYS: &[(&[&str; 2], &[u8], &str, u64, u64)] = &[
     (&ANSWER_WAITS_FOR_THE_BACKUP, &[2], "a", 3, 2),
@@ -51,7 +51,7 @@ const WAYS: &[(&[&str; 2], &[u8], &str, u64, u64)] = &[
     (&CLIENT_IS_EXPELLED, &[1], "b", 10, 2),
 ];
 
-// Returns the lines of a way out.
+// Returns the lines of a recovery.
 fn recovery_of(
     alloc: Global,
     script: &str,
@@ -64,7 +64,7 @@ fn recovery_of(
     Ok(way)
 }
 
-// Returns the transcript of a script that is followed by its way out.
+// Returns the transcript of a script that is followed by its recovery.
 fn played(alloc: Global, script: &str, members: &[u8], client: &str) -> Result<Vec<u8>, PlayError> {
     let way = recovery_of(alloc, script, members, client)?;
     let lines = str::from_utf8(way.as_slice()).unwrap_or("not UTF-8");
@@ -97,7 +97,7 @@ fn ways_have_their_lines(rt: HostRuntime) {
     assert_eq!(rt; text_of(&both), BOTH);
 }
 
-// No line of a way out is idle.
+// No line of a recovery is idle.
 #[test]
 fn ways_are_played(rt: HostRuntime) {
     for (row, members, client, agreed, active) in WAYS {
@@ -110,7 +110,7 @@ fn ways_are_played(rt: HostRuntime) {
     }
 }
 
-// Members, client, and why there is no way out.
+// Members, client, and why there is no recovery.
 const NO_WAYS: &[(&[u8], &str, PlayError)] = &[
     (&[2, 1], "a", PlayError::Idle),
     (&[3], "a", PlayError::Idle),

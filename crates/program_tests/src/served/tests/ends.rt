@@ -39,7 +39,7 @@ const ENDS: &[(&str, u8, &str)] = &[
     ),
 ];
 
-// Does what the words, separated by blanks, say, over no input. Returns the exit status; none if
+// Runs the job of these words, separated by blanks, over no input. Returns the exit status; none if
 // there was no memory for the words.
 fn status_of_line<R>(rt: &R, words: &str, output: &mut Vec<u8>, faults: &mut Vec<u8>) -> Option<u8>
 where

@@ -71,7 +71,7 @@ fn is_closed(stream: &mut TcpStream) -> bool {
     matches!(stream.read(&mut byte), Ok(0))
 }
 
-// Has the node accept client `p` on this stream, and end the stream after it is ordered to crash.
+// Connects client `p` on this stream, orders the node to crash, and checks that the stream ends.
 // Returns the first step that fails.
 fn crash_by(stream: &mut TcpStream, orders: &mut PipeWriter) -> Option<&'static str> {
     if !is_accepted(stream) {
@@ -101,8 +101,9 @@ where
     }
 }
 
-// Gives each order once it shows that the one before was obeyed. The `sub` has a session once it
-// prints what was kept, and has lost it once it prints that. Returns the first step that fails.
+// Writes each order once it shows that the one before was carried out. The `sub` has a session once
+// it prints what was retained, and has lost it once it prints that. Returns the first step that
+// fails.
 fn give_all<R>(
     rt: &R,
     orders: &mut PipeWriter,
@@ -132,7 +133,7 @@ where
     }
 }
 
-// Gives all orders, by a pipe that then ends. Returns the first step that fails.
+// Writes all orders to a pipe, and ends it. Returns the first step that fails.
 fn order_all<R>(rt: &R, orders: PipeWriter, address: &str, heard: &Shown) -> Option<&'static str>
 where
     R: Wait + Clock + Net<Listener = TcpListener, Stream = TcpStream>,
@@ -143,7 +144,7 @@ where
     fault
 }
 
-/// Gives the orders while a `sub` waits that gets what was kept before, and takes down what the
+/// Writes the orders while a `sub` waits that gets what was retained before, and keeps what the
 /// clients write. Returns the first step that fails.
 pub(super) fn talk_and_expel<R>(
     rt: &R,

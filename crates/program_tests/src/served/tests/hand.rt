@@ -18,7 +18,7 @@ pub fn text_of(written: &[u8]) -> &str {
     str::from_utf8(written).unwrap_or("not UTF-8")
 }
 
-/// Gives these orders. Returns true if that succeeds.
+/// Writes these orders. Returns true if that succeeds.
 pub fn write_orders(orders: &mut PipeWriter, lines: &str) -> bool {
     orders.write_all(lines.as_bytes()).is_ok()
 }
@@ -31,7 +31,7 @@ pub fn free_name<R: Clock + AllocGlobal>(rt: &R, ending: &str) -> Option<String>
     format!(in rt.alloc(); "/tmp/vbroker_{seconds}_{nanoseconds}.{ending}").ok()
 }
 
-/// Does what a command line of these words says, and returns the exit status.
+/// Runs the job of a command line of these words, and returns the exit status.
 pub fn status_of_words<R, I, O, E>(
     rt: &R,
     words: &[&str],

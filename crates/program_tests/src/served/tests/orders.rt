@@ -105,7 +105,7 @@ impl Written {
     }
 }
 
-/// Has `sub` wait for this many publications, and takes down what it prints and its error.
+/// Runs `sub` for this many publications, and keeps what it prints and its error.
 pub(super) fn hear<R>(rt: &R, address: &str, count: u32, heard: &Shown)
 where
     R: Wait + Clock + AllocGlobal + Net<Stream = TcpStream>,
@@ -129,8 +129,7 @@ where
     }
 }
 
-/// Has `pub` publish what the server is to keep, and takes down its error. Returns true if there is
-/// none.
+/// Runs `pub` with RETAIN, and keeps its error. Returns true if there is none.
 pub(super) fn keep_or_print<R>(rt: &R, address: &str, told: &Shown) -> bool
 where
     R: Wait + Clock + AllocGlobal + Net<Stream = TcpStream>,
@@ -144,7 +143,7 @@ where
     }
 }
 
-/// Has `pub` publish what the server is to keep. It is tried for ten seconds.
+/// Runs `pub` with RETAIN; tries for ten seconds.
 pub(super) fn keep<R>(rt: &R, address: &str) -> Result<(), JobError>
 where
     R: Clock + AllocGlobal + Net<Stream = TcpStream>,
@@ -163,7 +162,7 @@ where
     publish(rt, &job)
 }
 
-// Has `pub` publish, and has `sub` come after its end. Takes down what they write.
+// Runs `pub`, and then `sub`, and keeps what they write.
 fn talk<R>(rt: &R, address: &str, written: &Written)
 where
     R: Wait + Clock + AllocGlobal + Net<Stream = TcpStream>,
@@ -173,8 +172,8 @@ where
     }
 }
 
-// Gives the orders, and has the clients talk between them, once the first orders are answered.
-// Returns the first step that fails.
+// Writes the orders, and runs the clients between them, once the first orders are answered. Returns
+// the first step that fails.
 fn order_around<R>(
     rt: &R,
     orders: &mut PipeWriter,
@@ -198,7 +197,7 @@ where
     }
 }
 
-// Gives all orders, by a pipe that then ends. Returns the first step that fails.
+// Writes all orders to a pipe, and ends it. Returns the first step that fails.
 fn order_all<R>(
     rt: &R,
     orders: PipeWriter,
@@ -224,7 +223,7 @@ pub(super) enum Given {
 }
 
 impl Given {
-    // Gives the orders. Returns the first step that fails.
+    // Writes the orders. Returns the first step that fails.
     fn order<R>(
         self,
         rt: &R,
@@ -265,7 +264,7 @@ where
     }
 }
 
-// Gives the orders once node 1 listens. Returns the first step that fails.
+// Writes the orders once node 1 listens. Returns the first step that fails.
 fn order_once_served<R>(
     rt: &R,
     given: Given,

@@ -43,7 +43,7 @@ fn scripts_of_the_input_are_played(rt: HostRuntime) {
     }
 }
 
-// A script after which there is a way out, and its lines.
+// A script after which there is a recovery, and its lines.
 const ANSWERED: &str = "world 1 1 1 a\nopen a 1\nup 1 all\ndown 1 all\n";
 
 const WAY: &str = "assign 1 1\n\
@@ -57,7 +57,7 @@ const WAY: &str = "assign 1 1\n\
     up 2 15\n\
     down 2 4\n";
 
-// The node and the client for which a way out of a script is asked, and how that ends.
+// The node and the client for which a recovery of a script is asked, and how that ends.
 const ESCAPED: &[(&str, &str, &str, End<'static>)] = &[
     ("1", "a", ANSWERED, (0, WAY, "")),
     ("2", "a", ANSWERED, (3, "", "vbroker: idle\n")),

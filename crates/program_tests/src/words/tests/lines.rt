@@ -54,7 +54,7 @@ enum Outcome<'a> {
     Serves(&'a str),
     // For a script, in this file or in none.
     Plays(Option<&'a str>),
-    // For a way out to these members with this client, in the script of this file or of none.
+    // For a recovery to these members with this client, in the script of this file or of none.
     Escapes(Option<&'a str>, &'a str, &'a str),
     // For the publication that is above: the first one, or the one that is retained.
     Publishes,

@@ -70,7 +70,7 @@ fn has_index<R: Wait>(rt: &R, listener: &Listener) -> bool {
     }
 }
 
-// Has a client come, and ends its stream.
+// Connects a client, and ends its stream.
 fn come_and_end<R>(rt: &R, listener: &Listener, shows: Shows) -> Result<(), Fault>
 where
     R: AllocGlobal + Wait + Clock + Net<Stream = TcpStream>,

@@ -113,7 +113,7 @@ fn take_over(alloc: Global, one: &mut NodeCore, two: &mut NodeCore) -> Option<bo
     Some(is_sent && asks_for_2(&asked) && stands_at(two, 1, CONNECTED))
 }
 
-// Has node 1 hold what node 2 appends, and node 2 commit it.
+// Delivers node 2's appends to node 1, and its answer to node 2, which commits.
 fn commit(alloc: Global, one: &mut NodeCore, two: &mut NodeCore, appended: Effects) {
     let held = give(alloc, one, 1, appended);
     let committed = give(alloc, two, 2, held);
@@ -344,8 +344,8 @@ fn came_instead_of_session(alloc: Global, one: &mut NodeCore, two: &mut NodeCore
     }
 }
 
-// Returns what came, if a session does not move by a snapshot although no allocation is refused, or
-// more than one step is counted.
+// Returns the result of moving a session by a snapshot, if the move fails although no allocation is
+// refused, or if more than one step counts a loss.
 fn came_instead_of_move(alloc: Global, one: &mut NodeCore, two: &mut NodeCore) -> Option<Came> {
     connect(alloc, one);
     for _ in 0..2 {

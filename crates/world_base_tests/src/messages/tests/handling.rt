@@ -64,12 +64,12 @@ pub fn bring(
     Some(take(alloc, node, Item::Bytes(Port(port), piece, time)))
 }
 
-/// Gives a node a message of another node; 0 is the master.
+/// Delivers a message of another node, or of the master, 0.
 pub fn tell(alloc: Global, node: &mut NodeCore, from: u8, body: Body<Command>) -> Effects {
     take(alloc, node, Item::Peer(Message { from, body }))
 }
 
-/// Gives a node what was sent to its number: what it hands out then.
+/// Delivers the messages that were sent to the node's number. Returns what it sends then.
 pub fn give(alloc: Global, node: &mut NodeCore, number: u8, effects: Effects) -> Effects {
     let mut answers = Vec::new(alloc);
     for effect in effects {
@@ -94,8 +94,8 @@ pub fn connecting(effect: &Effect<Command, Output>) -> Option<ConnectionName> {
     }
 }
 
-/// Has a node hand over what it queued for a port, which takes it away. Returns true if it is these
-/// bytes, and the port is open then or not.
+/// Takes the bytes that a node queued for a port. Returns true if they are these, and the port is
+/// open or not as wanted.
 pub fn hand_over(alloc: Global, node: &mut NodeCore, port: u64, bytes: &[u8], open: bool) -> bool {
     let mut out = Vec::new(alloc);
     let answer = if open { Handed::Open } else { Handed::Closed };

@@ -48,7 +48,7 @@ fn look(node: &mut NodeCore, port: u64, seen: &mut Seen) {
     }
 }
 
-// Lets all rows come, whatever is lost: what was handed over for the subscriber, and for the
+// Plays all rows, whatever is lost. Returns the bytes handed over for the subscriber, and for the
 // publisher.
 fn rows_seen(alloc: Global, node: &mut NodeCore) -> (Seen, Seen) {
     let mut subscriber = Seen {
@@ -119,7 +119,7 @@ fn has_no_gap(subscriber: &Seen, publisher: &Seen) -> bool {
 // How many losses were counted, and how many bytes came to the subscriber and the publisher.
 type Came = (u64, usize, usize);
 
-// Returns what came, if it has a gap, or something is closed although nothing was lost.
+// Returns what was seen, if it has a gap, or if something is closed although nothing was lost.
 fn came_instead(alloc: Global, node: &mut NodeCore) -> Option<Came> {
     let (subscriber, publisher) = rows_seen(alloc, node);
     let losses = node.losses();

@@ -22,7 +22,7 @@ fn ballot_2(alloc: Global) -> Option<Body<Command>> {
     Some(Body::NewBallot(2, members, 1, before))
 }
 
-// Tells the node of the ballot, until it is its primary.
+// Takes the node through the ballot, until it is its primary.
 fn change(alloc: Global, node: &mut NodeCore, ballot: Body<Command>) {
     let joins = tell(alloc, node, 0, ballot);
     let states = give(alloc, node, 1, joins);

@@ -58,14 +58,14 @@ fn append(alloc: Global, primary: &mut NodeCore) -> Option<Effects> {
     }
 }
 
-// Gives the backup what the primary appended. Returns what it sends, if it holds it then.
+// Delivers the primary's appends to the backup. Returns what it sends, if it holds the place then.
 fn hold(alloc: Global, backup: &mut NodeCore, appended: Effects) -> Option<Effects> {
     let held = give(alloc, backup, 2, appended);
     if holds(&held) { Some(held) } else { None }
 }
 
-// Gives the primary that acknowledgement. Returns what it sends, if that commits the place and the
-// answer is sent.
+// Delivers the acknowledgement to the primary. Returns what it sends, if that commits the place and
+// the answer is sent.
 fn commit(alloc: Global, primary: &mut NodeCore, held: Effects) -> Option<Effects> {
     let committed = give(alloc, primary, 1, held);
     if commits(&committed) && hand_over(alloc, primary, 1, ACCEPTED, true) {

@@ -93,12 +93,12 @@ enum QueueFault {
     Step(&'static str, Coming, Shown),
 }
 
-// Lets bytes come on a port. Returns whether no message follows.
+// Delivers bytes on a port. Returns true if no message follows.
 fn let_bytes_come(splitting: Splitting, node: &mut NodeCore, port: u64, bytes: &[u8]) -> bool {
     let_come(splitting.alloc, node, port, bytes, 0, splitting.coming)
 }
 
-// Goes through the rows once. Returns the first row whose result differs, and what came.
+// Plays the rows once. Returns the first row whose result differs, with its result.
 fn fault_in(
     splitting: Splitting,
     node: &mut NodeCore,
@@ -184,7 +184,7 @@ impl Got {
         Some(())
     }
 
-    // Takes what is handed over for a port. Returns whether it was something.
+    // Takes the bytes that are handed over for a port. Returns true if there were some.
     fn look(&mut self, alloc: Global, node: &mut NodeCore, port: u64) -> Option<bool> {
         let mut out = Vec::new(alloc);
         node.outgoing(Port(port), &mut out).ok()?;
@@ -222,7 +222,7 @@ fn come_back(splitting: Splitting, node: &mut NodeCore, got: &mut Got) -> bool {
         && got.look(splitting.alloc, node, 3) == Some(true)
 }
 
-// Has the subscriber come back and answer the first two. Returns the first step that fails.
+// Reconnects the subscriber, which answers the first two. Returns the first step that fails.
 fn first_step(splitting: Splitting, node: &mut NodeCore, got: &mut Got) -> Option<&'static str> {
     if !come_back(splitting, node, got) {
         Some("the subscriber comes back, and is handed what waited")

@@ -8,7 +8,7 @@ use std::alloc::Global;
 use world_base::node_connections::{Handed, Port};
 use world_base::node_core::{Item, NodeCore};
 
-// Lets a row's act come. A piece that found no memory comes again: one allocation fails.
+// Plays a row's act. Repeats a piece for which memory ran out: only one allocation fails.
 fn let_come_at_last(alloc: Global, node: &mut NodeCore, row: &Row<'_>) {
     let (time, port, act, _, _) = *row;
     let item = match act {

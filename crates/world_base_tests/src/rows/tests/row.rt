@@ -96,7 +96,7 @@ pub fn take(alloc: Global, node: &mut NodeCore, item: Item) -> Effects {
     effects
 }
 
-/// Takes bytes that come on a port: what is handed out to other nodes, if there is memory for them.
+/// Delivers bytes on a port. Returns what is sent to other nodes, if there is memory for them.
 pub fn bring(
     alloc: Global,
     node: &mut NodeCore,
@@ -119,8 +119,8 @@ pub fn lost(effect: &Effect<Command, Output>) -> Option<ConnectionName> {
     }
 }
 
-/// Has a node hand over what it queued for a port, which takes it away. Returns true if it is these
-/// bytes, and the port is open then or not.
+/// Takes the bytes that a node queued for a port. Returns true if they are these, and the port is
+/// open or not as wanted.
 pub fn hand_over(alloc: Global, node: &mut NodeCore, port: u64, bytes: &[u8], open: bool) -> bool {
     let mut out = Vec::new(alloc);
     let answer = if open { Handed::Open } else { Handed::Closed };
@@ -145,7 +145,7 @@ fn let_come_by_bytes(
         .all(|byte| let_come_whole(alloc, node, port, &[*byte], time))
 }
 
-// Gives bytes in two pieces, of which the first has `at` bytes, or all. Returns true if no message
+// Delivers bytes in two pieces, the first of `at` bytes or of all. Returns true if no message
 // follows.
 fn let_come_split(
     alloc: Global,
@@ -180,7 +180,7 @@ pub fn let_come(
     }
 }
 
-// Lets a row's act come. Returns whether no message follows.
+// Plays a row's act. Returns true if no message follows.
 fn bring_row(alloc: Global, node: &mut NodeCore, row: &Row<'_>, coming: Coming) -> bool {
     let (time, port, act, _, _) = *row;
     let item = match act {
@@ -217,7 +217,7 @@ pub fn shown<'a>(row: &Row<'a>) -> Row<'a> {
     (time, port, act, shown_bytes(bytes), open)
 }
 
-// Lets a row come. Returns what came, if it is not what the row says, or something was lost.
+// Plays a row. Returns the result, if it is not the row's, or if something was lost.
 fn came_instead(alloc: Global, node: &mut NodeCore, row: &Row<'_>, coming: Coming) -> Option<Came> {
     let (_, port, _, bytes, open) = *row;
     let answer = if open { Handed::Open } else { Handed::Closed };
@@ -238,8 +238,8 @@ fn came_instead(alloc: Global, node: &mut NodeCore, row: &Row<'_>, coming: Comin
     }
 }
 
-/// Goes through the rows with a node, to which pieces come so. Returns the first row whose result
-/// differs, and what came.
+/// Plays the rows at a node that gets its pieces in this way. Returns the first row whose result
+/// differs, with its result.
 pub fn fault_with<'a>(
     alloc: Global,
     node: &mut NodeCore,
@@ -254,8 +254,8 @@ pub fn fault_with<'a>(
     None
 }
 
-/// Goes through the rows with a fresh node, the sole member of ballot 1, to which pieces come so.
-/// Returns the first row whose result differs, and what came.
+/// Plays the rows at a fresh node, the sole member of ballot 1, that gets its pieces in this way.
+/// Returns the first row whose result differs, with its result.
 pub fn first_fault_so<'a>(alloc: Global, rows: &[Row<'a>], coming: Coming) -> Option<Fault<'a>> {
     match primary(alloc, &[1]) {
         Some(mut node) => fault_with(alloc, &mut node, rows, coming),
@@ -274,8 +274,8 @@ fn longest(rows: &[Row<'_>]) -> usize {
     longest
 }
 
-/// Goes through the rows with the pieces whole, split in two at every byte, and byte by byte.
-/// Returns the first row whose result differs, with which split, and what came.
+/// Plays the rows with whole pieces, with pieces split in two at every byte, and byte by byte.
+/// Returns the first row whose result differs, with the split and its result.
 pub fn first_fault<'a>(alloc: Global, rows: &[Row<'a>]) -> Option<Fault<'a>> {
     for at in 0..=longest(rows) {
         let fault = first_fault_so(alloc, rows, Coming::Split(at));

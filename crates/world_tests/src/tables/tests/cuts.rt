@@ -19,8 +19,8 @@ fn is_cut_once(world: &mut World, node: u8) -> bool {
 // The step that fails, and what the world shows then.
 type CutFault = (&'static str, Fault);
 
-// Has a node cut its log after the row at this index, or after each row for the index after the
-// last one. Returns the first row that fails.
+// Cuts a node's log after the row at this index, or after each row for the index after the last
+// one. Returns the first row that fails.
 fn first_fault(
     alloc: Global,
     world: &mut World,

@@ -27,7 +27,7 @@ const LISTS: &[&[u8]] = &[
 
 const CLIENTS: &[&str] = &["a", "b", "z"];
 
-// Checks the way out of the world after this many rows. It is returned, if there is one, and leads
+// Checks the recovery of the world after this many rows. It is returned, if there is one, and leads
 // to its end, and `Idle` is returned otherwise. Returns the first step that fails. Here and below a
 // world is lent by the one function that makes it, and goes by a call of `drop`, which is proved
 // once.
@@ -79,7 +79,7 @@ fn first_fault_in(
     }
 }
 
-// Returns the step that fails if no way out is returned.
+// Returns the step that fails if no recovery is returned.
 fn fault_without_way(error: EscapeError, may: bool) -> Option<&'static str> {
     if may {
         Some("there is a way out")
@@ -90,8 +90,8 @@ fn fault_without_way(error: EscapeError, may: bool) -> Option<&'static str> {
     }
 }
 
-// Goes a way out in one more world, after these rows of its course. The other world is there before
-// the way out. Returns the first step that fails.
+// Does the events of a recovery in one more world, after these rows of its course. The other world
+// is there before the recovery. Returns the first step that fails.
 fn first_fault_by(
     alloc: Global,
     course: &Course,
@@ -178,7 +178,7 @@ fn is_same_command(one: &Command, other: &Command) -> bool {
     }
 }
 
-// A way out that differs from the wanted one: after how many rows and which last one, for which
+// A recovery that differs from the wanted one: after how many rows and which last one, for which
 // members and client. The step says what fails.
 #[derive(Clone, Copy, Debug, PartialEq, Eq)]
 struct Fault {
@@ -189,7 +189,7 @@ struct Fault {
     step: &'static str,
 }
 
-// Returns the first way out of a course that differs from the wanted one.
+// Returns the first recovery of a course that differs from the wanted one.
 fn first_fault(alloc: Global, course: &Course) -> Option<Fault> {
     for rows in 0..course.rows.len().saturating_add(1) {
         for members in LISTS {
@@ -219,7 +219,7 @@ const NOBODY: &[Action] = &[Action::Crash(1), Action::Crash(2)];
 enum Asked<'a> {
     // That the client comes back at node 2 as sole member.
     ComesBack,
-    // That there is no way out for these members and the client.
+    // That there is no recovery for these members and the client.
     IsIdle(&'a [u8]),
     // That an allocation that fails is reported.
     IsReported,
@@ -305,7 +305,7 @@ fn bring_back_by(world: &mut World, way: &[Event], client: &ClientId) -> Answer 
     unless(world.losses() == 0, "nothing was lost")
 }
 
-// Looks for a way out for these members and this client, where there is none.
+// Looks for a recovery for these members and this client, where there is none.
 fn find_no_recovery(world: &World, members: &[u8], client: &ClientId) -> Answer {
     match world.escape(members, client) {
         Ok(_) => Err("there is no way out"),
