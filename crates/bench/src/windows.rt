@@ -65,7 +65,7 @@ fn go_round(
         put(rt, session)?;
     }
     sent.clear();
-    session.fill(usize::try_from(window)?.min(64), sent)?;
+    session.fill_within(usize::try_from(window)?.min(64), sent)?;
     answer(session, sent.as_slice());
     Ok(())
 }

@@ -21,6 +21,7 @@ use crate::rows::Rows;
 use crate::tables::Tables;
 use broker_base::form::thawed_is_in_range;
 use broker_spec::Window;
+use machine::Memory;
 use packet_base::{ClientId, OUT_OF_MEMORY, QoS, Reader, Stop};
 use retained::{MAX_TOPICS, RetainedPublication, RetainedStore};
 use session::Session;
@@ -121,10 +122,7 @@ fn is_after(retained: &RetainedStore, topic: &TopicName) -> bool
 // ---- the index of subscriptions
 
 // Returns the tree of a list of each session's subscriptions.
-fn index_of(
-    alloc: Global,
-    sessions: &BTreeMap<ClientId, ClientRow>,
-) -> Result<TreeIndex, AllocError>
+fn index_of(alloc: Global, sessions: &BTreeMap<ClientId, ClientRow>) -> Result<TreeIndex, Memory>
     ensures { IfOk result
         (λ index. content_of index ≡ all_put sessions.now.entries no_subscriptions) }
 {

@@ -116,8 +116,8 @@ impl ClientCore {
     }
 
     /// Marks the connection lost: requests without an answer and bytes that were not read are
-    /// dropped. What is kept stays; what was written stays until `open`.
-    pub fn lose_connection(&mut self)
+    /// dropped. What is kept stays; what was written stays until `open`. Takes no memory.
+    pub fn lost(&mut self)
         ensures { self.new ≡ gone self.old }
     {
         self.requests.clear();

@@ -23,7 +23,7 @@ impl ClientCore {
     {
         let mut out = Vec::new(self.alloc);
         write_connect(&self.client, self.keep_alive, &mut out)?;
-        self.lose_connection();
+        self.lost();
         self.stage = Stage::Opened;
         self.out = out;
         Ok(())
@@ -40,7 +40,7 @@ impl ClientCore {
             Stage::Opened => {}
             Stage::Online => write(&Packet::Disconnect, &mut self.out)?,
         }
-        self.lose_connection();
+        self.lost();
         Ok(())
     }
 

@@ -15,7 +15,7 @@ impl ClientCore {
     /// Takes the next bytes from the server, in pieces of any size, and handles each whole packet.
     /// `NotActive` comes if there is no connection, and nothing changes, or if the server refused
     /// the connection; `Protocol` for a packet that may not come there; `Malformed` for bytes that
-    /// are no packet; `Memory`. After these the client is as after `lose_connection`, and the
+    /// are no packet; `Memory`. After these the client is as after `lost`, and the
     /// effects of earlier packets remain. `SessionLost` comes if the server has lost the session:
     /// what was kept is dropped and the connection stays open; what came after that packet is
     /// handled by the next call.
@@ -27,7 +27,7 @@ impl ClientCore {
         }
         let read = self.feed_and_read(piece);
         if is_fatal(read) {
-            self.lose_connection();
+            self.lost();
         }
         read
     }

@@ -61,7 +61,7 @@ impl ClientCore {
     }
 
     /// Returns true if the server accepted the connection, and it is still open.
-    pub fn is_connected(&self) -> bool
+    pub fn connected(&self) -> bool
         ensures { result ≡ is_online self.now.state.stage }
     {
         self.stage == Stage::Online
@@ -69,7 +69,7 @@ impl ClientCore {
 
     /// Returns true if the server reported, on the last accepted connection, that it has a session
     /// of this client; false before the first.
-    pub fn is_session_present(&self) -> bool
+    pub fn present(&self) -> bool
         ensures { result ≡ self.now.state.session_present }
     {
         self.session_present

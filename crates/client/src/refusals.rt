@@ -19,7 +19,7 @@ impl ClientCore {
         ensures { result ≡ is_some (publish_refusal publication.now self.now.state) }
     {
         if publication.qos == QoS::AtMostOnce {
-            return !self.is_connected() || is_long(publication);
+            return !self.connected() || is_long(publication);
         }
         self.publication_id().is_err() || is_long(publication)
     }

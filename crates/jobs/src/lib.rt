@@ -1,4 +1,5 @@
-//! Runs the program's subcommands over one reader and two writers.
+//! Runs the program's subcommands over one reader and two writers. With `line` and `table`, which
+//! read its words and its table of nodes, it is the program as a library.
 #![tactic(auto)]
 
 mod job_error;
@@ -13,6 +14,7 @@ mod whole_output;
 mod word_fault;
 mod words;
 
+pub use command_line::{Job, LineFault, NodeTable, TableFault, line, table};
 pub use job_error::JobError;
 pub use job_runs::{perform, print_fault};
 pub use refusals::refuse;

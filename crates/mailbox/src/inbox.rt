@@ -19,7 +19,8 @@ use crate::limits::{MAX_ITEMS, MAX_LANES};
 use crate::moves::{Knowledge, Queue};
 use crate::naming::Naming;
 use crate::receiver::Receiver;
-use std::alloc::{AllocError, Global};
+use machine::Memory;
+use std::alloc::Global;
 use std::marker::{Model, PhantomData};
 use std::sync::Arc;
 
@@ -56,7 +57,7 @@ impl<T: Drop> Model for Inbox<T> {
 impl<T: Drop> Inbox<T> {
     /// Returns an empty inbox with capacity for [`MAX_ITEMS`] items. The only error is that memory
     /// ran out.
-    pub fn new(alloc: Global) -> Result<Self, AllocError>
+    pub fn new(alloc: Global) -> Result<Self, Memory>
         ensures { IfOk result (λ inbox. inbox.slots ≡ max_items) }
     {
         let (queue, pass) = Queue::ruled(alloc, MAX_ITEMS)?;
@@ -70,7 +71,7 @@ impl<T: Drop> Inbox<T> {
         self,
         number: u8,
         lanes: u8,
-    ) -> Result<(Receiver<T, J>, Vec<Lane<T, J>>), AllocError>
+    ) -> Result<(Receiver<T, J>, Vec<Lane<T, J>>), Memory>
         requires named { self ≡ J.inbox_of number }
         requires lanes { (1 ≤ lanes) × (lanes ≤ MAX_LANES) }
         ensures receiver { IfOk result (λ ends.

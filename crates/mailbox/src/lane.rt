@@ -58,7 +58,7 @@ impl<T: Drop, J: Naming> Model for Lane<T, J> {
 
 impl<T: Drop, J: Naming> Lane<T, J> {
     /// Returns the number of its inbox.
-    pub fn inbox_number(&self) -> u8
+    pub fn number(&self) -> u8
         ensures { result ≡ self.now.inbox }
     {
         self.inbox

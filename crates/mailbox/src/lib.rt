@@ -16,6 +16,7 @@ mod view;
 pub use inbox::Inbox;
 pub use lane::{Lane, MAX_SENT};
 pub use limits::{MAX_ITEMS, MAX_LANES};
+pub use machine::Memory;
 pub use naming::Naming;
 pub use receipt::Receipt;
 pub use receiver::Receiver;

@@ -56,7 +56,7 @@ impl<T: Drop, J: Naming> Model for Receiver<T, J> {
 
 impl<T: Drop, J: Naming> Receiver<T, J> {
     /// Returns the number of its inbox.
-    pub fn inbox_number(&self) -> u8
+    pub fn number(&self) -> u8
         ensures { result ≡ self.now.inbox }
     {
         self.inbox
@@ -77,7 +77,7 @@ impl<T: Drop, J: Naming> Receiver<T, J> {
             return false;
         }
         for (index, lane) in lanes.iter().enumerate() {
-            if lane.inbox_number() != self.inbox_number() || usize::from(lane.lane()) != index {
+            if lane.number() != self.number() || usize::from(lane.lane()) != index {
                 return false;
             }
         }

@@ -27,7 +27,7 @@ use crate::master::Master;
 use crate::opening::can_open;
 use ballot::Replica;
 use ballot_base::errors::OpeningError;
-use ballot_base::{Config, Effect, Message};
+use ballot_base::{Config, Effect, Members, Message};
 use machine::Machine;
 use std::alloc::Global;
 use std::marker::Model;
@@ -98,9 +98,33 @@ impl<M: Machine> Model for Group<M> {
 }
 
 impl<M: Machine> Group<M> {
-    /// Opens nodes 1 to `nodes` in ballot 1. [`OpeningError::BadMembers`] comes for more than 15
-    /// nodes, for a configuration that no ballot may have, and for a member above `nodes`.
-    pub fn opening(alloc: Global, nodes: u8, config: Config) -> Result<Group<M>, OpeningError>
+    /// Opens nodes 1 to `nodes` in ballot 1, with these members and this primary.
+    /// [`OpeningError::BadMembers`] comes for more than 15 nodes, for members and a primary that no
+    /// ballot may have, as in [`Master::new`], and for a member above `nodes`.
+    /// [`OpeningError::Memory`] comes only if memory ran out.
+    pub fn opening(
+        alloc: Global,
+        nodes: u8,
+        members: Members,
+        primary: u8,
+    ) -> Result<Group<M>, OpeningError>
+        ensures ok { IfOk result (λ group.
+            group ≡ record {
+              moment = opening_moment M.rules nodes
+                  (record { members = members; primary = primary });
+              losses = 0;
+            }) }
+        ensures opens { IfOk result (λ group.
+            Moments M.rules (record { members = members; primary = primary })
+            (group.moment ∷ [])) }
+        ensures bad { IsErrOf result OpeningError.BadMembers
+            ↔ (can_open nodes (record { members = members; primary = primary }) ≡ false) }
+    {
+        Self::opening_with(alloc, nodes, Config { members, primary })
+    }
+
+    // Does what `opening` does, for members and a primary that are one value.
+    fn opening_with(alloc: Global, nodes: u8, config: Config) -> Result<Group<M>, OpeningError>
         ensures ok { IfOk result (λ group.
             group ≡ record {
               moment = opening_moment M.rules nodes config;
@@ -118,7 +142,7 @@ impl<M: Machine> Group<M> {
         }
         let told = Acknowledged::new(alloc, 1)?;
         let next = Acknowledged::new(alloc, 1)?;
-        let Ok(master) = Master::new(config) else {
+        let Ok(master) = Master::new(config.members, config.primary) else {
             return Err(OpeningError::BadMembers);
         };
         Ok(Group {

@@ -56,14 +56,16 @@ impl Model for Master {
 }
 
 impl Master {
-    /// Returns a master whose ballot 1 is active with these members. [`AssignError::BadMembers`] is
-    /// its only error.
-    pub fn new(config: Config) -> Result<Master, AssignError>
-        ensures ok { IfOk result (λ master. master ≡ opening_master config) }
-        ensures bad { IsErrOf result AssignError.BadMembers
-            ↔ (is_lawful config.members config.primary ≡ false) }
+    /// Returns a master whose ballot 1 is active with these members and this primary. Its only
+    /// error, [`AssignError::BadMembers`], comes for members that are not 1 to 7, not strictly
+    /// rising, or outside 1 to 15, and for a primary that is none of them.
+    pub fn new(members: Members, primary: u8) -> Result<Master, AssignError>
+        ensures ok { IfOk result (λ master.
+            master ≡ opening_master (record { members = members; primary = primary })) }
+        ensures bad { IsErrOf result AssignError.BadMembers ↔ (is_lawful members primary ≡ false) }
         ensures spent { IsErrOf result AssignError.BallotsSpent → ⊥ }
     {
+        let config = Config { members, primary };
         if !config.is_lawful() {
             return Err(AssignError::BadMembers);
         }
@@ -82,18 +84,24 @@ impl Master {
         config.is_lawful() && self.given < MAX_BALLOT
     }
 
-    /// Gives the next ballot to a configuration and lets it wait. A ballot that waited is
-    /// superseded for good. Returns the new ballot.
-    pub fn assign(&mut self, config: Config) -> Result<u64, AssignError>
+    /// Gives the next ballot to these members and this primary and lets it wait. A ballot that
+    /// waited is superseded for good. Returns the new ballot. [`AssignError::BadMembers`] comes
+    /// first, as in [`Master::new`], then [`AssignError::BallotsSpent`] once ballot 2^32 was given.
+    pub fn assign(&mut self, members: Members, primary: u8) -> Result<u64, AssignError>
         ensures ok { IfOk result (λ ballot. ballot ≡ self.old.given + 1) }
         ensures bad { IsErrOf result AssignError.BadMembers
-            ↔ (refusal self.old config ≡ Some bad_members) }
+            ↔ (refusal self.old (record { members = members; primary = primary })
+            ≡ Some bad_members) }
         ensures spent { IsErrOf result AssignError.BallotsSpent
-            ↔ (refusal self.old config ≡ Some ballots_spent) }
+            ↔ (refusal self.old (record { members = members; primary = primary })
+            ≡ Some ballots_spent) }
 
         // If it is refused, nothing changes.
-        ensures state { self.new ≡ master_after self.old config (refusal self.old config) }
+        ensures state { self.new
+            ≡ master_after self.old (record { members = members; primary = primary })
+            (refusal self.old (record { members = members; primary = primary })) }
     {
+        let config = Config { members, primary };
         if !config.is_lawful() {
             return Err(AssignError::BadMembers);
         }

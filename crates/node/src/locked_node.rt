@@ -93,7 +93,7 @@ impl<'g, J: NodeNaming, G: Gate> Node<'g, J, NodeState<J>, G> {
         ensures lanes { IfOk result (λ node. node.lanes ≡ state.receiver.lanes) }
         ensures gated { IfOk result (λ node. node.is_gated ≡ is_some gate.entry) }
     {
-        let number = state.inbox_number();
+        let number = state.number();
         let report = Report::with_capacity(alloc, state.lanes())?;
         Ok(Node {
             state: Mutex::new(state),
@@ -130,11 +130,8 @@ impl<'g, J: NodeNaming, G: Gate> Node<'g, J, NodeState<J>, G> {
             ..
         } = self;
         let state = state.into_inner();
-        // They are all its lanes, but no clause speaks of what was under a lock.
-        if state.inbox_number() == number
-            && state.lanes() == report.taken.len()
-            && state.has_all(lanes)
-        {
+        // They are all its lanes, but no clause is about what was under a lock.
+        if state.number() == number && state.lanes() == report.taken.len() && state.has_all(lanes) {
             return state.close(rt, lanes, report, missed.into_inner());
         }
         for _ in rt.forever() {}
@@ -158,7 +155,7 @@ impl<'g, J: NodeNaming, S: HasState<J>, G: Gate> Node<'g, J, S, G> {
             return false;
         }
         for (index, lane) in lanes.iter().enumerate() {
-            if lane.inbox_number() != self.number || usize::from(lane.lane()) != index {
+            if lane.number() != self.number || usize::from(lane.lane()) != index {
                 return false;
             }
         }

@@ -77,10 +77,10 @@ impl<J: NodeNaming> NodeState<J> {
     }
 
     /// Returns the number of its inbox.
-    pub fn inbox_number(&self) -> u8
+    pub fn number(&self) -> u8
         ensures { result ≡ self.now.receiver.inbox }
     {
-        self.receiver.inbox_number()
+        self.receiver.number()
     }
 
     /// Returns how many lanes its inbox has.

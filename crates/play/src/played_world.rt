@@ -19,6 +19,7 @@ ghost use Rattle.play.specs.AcceptedLines.{accepted_by_client, accepted_lines, l
 use crate::error::PlayError;
 use crate::events::event_of;
 use crate::transcript_lines::{write_accepted, write_done, write_end, write_idle};
+use ballot_base::Config;
 use client_base::Accepted;
 use master::Idle;
 use packet_base::ClientId;
@@ -68,8 +69,9 @@ impl PlayedWorld {
             config,
             clients,
         } = opening;
+        let Config { members, primary } = config;
         let recipients = recipients_of(alloc, clients.as_slice())?;
-        let world = World::opening(alloc, nodes, config, clients.as_slice())?;
+        let world = World::opening(alloc, nodes, members, primary, clients.as_slice())?;
         Ok(PlayedWorld {
             alloc,
             world,
@@ -147,7 +149,7 @@ impl PlayedWorld {
         ensures losses { IsErrOf result PlayError.Losses → 0 < self.now.world.losses }
         ensures form { (number : ℕ) → IsErrOf result (PlayError.Line number) → ⊥ }
     {
-        let (active, _) = self.world.active();
+        let active = self.world.active();
         write_end(self.alloc, self.world.agreed_len(), active, transcript)?;
         if self.world.losses() == 0 {
             Ok(())

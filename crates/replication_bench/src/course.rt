@@ -45,7 +45,8 @@ impl Course {
 pub fn opened(alloc: Global) -> Result<World> {
     let mut clients = Vec::new(alloc);
     put_all(alloc, &mut clients)?;
-    Ok(World::opening(alloc, 3, config(alloc, 1)?, clients.as_slice())?)
+    let Config { members, primary } = config(alloc, 1)?;
+    Ok(World::opening(alloc, 3, members, primary, clients.as_slice())?)
 }
 
 // Adds the clients. The list is lent, so that no exit from the loop has to drop it.

@@ -8,8 +8,7 @@ use std::alloc::Global;
 
 /// Returns a group of three nodes in ballot 1, with these members and node 1 as primary.
 pub fn opened(alloc: Global, members: &[u8]) -> Result<Group<Tally>> {
-    let config = config_of(alloc, members, 1)?;
-    Ok(Group::opening(alloc, 3, config)?)
+    Ok(Group::opening(alloc, 3, Members::from_slice(alloc, members)?, 1)?)
 }
 
 /// Returns a configuration with these members and this primary.

@@ -3,6 +3,7 @@
 ghost use Rattle.std.specs.Prelude.{◌≡◌};
 ghost use Rattle.session.specs.Refusals.{enqueue_error_number};
 
+use machine::Memory;
 use std::alloc::{AllocError, AllocFailed};
 use std::error::Error;
 use std::fmt;
@@ -56,6 +57,16 @@ impl<T: Drop> From<AllocFailed<T>> for EnqueueError {
     ghost from_gives = { λ _ error. error ≡ Memory };
 
     fn from(_error: AllocFailed<T>) -> EnqueueError {
+        EnqueueError::Memory
+    }
+}
+
+impl From<Memory> for EnqueueError {
+    ghost use Rattle.session.specs.declared.error.EnqueueError.TheVariants.{Memory};
+
+    ghost from_gives = { λ _ error. error ≡ Memory };
+
+    fn from(_error: Memory) -> EnqueueError {
         EnqueueError::Memory
     }
 }

@@ -14,5 +14,6 @@ mod subscriptions;
 
 pub use arrival::Arrival;
 pub use error::EnqueueError;
-pub use session::Session;
+pub use machine::Memory;
+pub use session::{Session, WINDOW};
 pub use session_base::{MAX_ENTRIES, MAX_SUBSCRIPTIONS};

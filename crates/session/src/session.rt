@@ -19,12 +19,16 @@ use crate::received::Received;
 use crate::session_queue::SessionQueue;
 use crate::subscriptions::Subscriptions;
 use indexmap::IndexMap;
+use machine::Memory;
 use packet::Packet;
 use packet_base::{PacketId, QoS};
 use session_base::{MAX_ENTRIES, Publication, resend_keeps_the_order};
-use std::alloc::{AllocError, Global};
+use std::alloc::Global;
 use std::marker::Model;
 use topics::{Filter, TopicName};
+
+/// How many entries of a session are in flight at most, once a broker's ballot has begun (MQTT 4.6).
+pub const WINDOW: usize = 64;
 
 /// One client's session: its subscriptions, the identifiers of QoS 2 publications that were
 /// received, the entries in flight and those that wait.
@@ -75,9 +79,10 @@ impl Session {
         }
     }
 
-    /// Takes the identifier of a QoS 2 PUBLISH. Its DUP flag does not matter: a first delivery may
-    /// carry it (MQTT 3.3.1.1).
-    pub fn receive(&mut self, id: PacketId) -> Result<Arrival, AllocError>
+    /// Takes the identifier of a QoS 2 PUBLISH, and keeps it until `release`. Its DUP flag does not
+    /// matter: a first delivery may carry it (MQTT 3.3.1.1). The only error is that memory ran out,
+    /// and it comes only for an identifier that is not kept.
+    pub fn inbound(&mut self, id: PacketId) -> Result<Arrival, Memory>
         ensures again { (result ≡ Ok Again) ↔ (has_id id self.old.received ≡ true) }
         ensures first { result ≡ Ok First
             → self.new ≡ with_received (with_id id self.old.received) self.old }
@@ -99,8 +104,9 @@ impl Session {
         self.received.contains(id)
     }
 
-    /// Handles PUBREL: the identifier may be used again.
-    pub fn on_pubrel(&mut self, id: PacketId)
+    /// Handles PUBREL: forgets the identifier, so that it may be used again. Nothing else changes, and
+    /// an identifier that is not kept changes nothing (MQTT 4.3.3). Takes no memory.
+    pub fn release(&mut self, id: PacketId)
         ensures { self.new ≡ with_received (without_id id self.old.received) self.old }
     {
         self.received.remove(id);
@@ -131,7 +137,7 @@ impl Session {
 
     /// Queues a publication after the others, if `room` said that there is room for it. The only
     /// error is that memory ran out.
-    pub fn enqueue_within_room(&mut self, publication: Publication) -> Result<(), AllocError>
+    pub fn enqueue_within_room(&mut self, publication: Publication) -> Result<(), Memory>
         requires room { 1 ≤ room MAX_ENTRIES self.old.queue }
         ensures ok { OnOk result
             (self.new ≡ with_queue (enqueue publication self.old.queue) self.old) }
@@ -141,10 +147,29 @@ impl Session {
         Ok(())
     }
 
+    /// Starts what waits while fewer than [`WINDOW`] entries are in flight: the first that waits takes
+    /// the least identifier from 1 up that is not in flight, and its PUBLISH is appended with DUP 0
+    /// (MQTT 4.6). If memory runs out nothing changes; if nothing starts it takes none.
+    pub fn fill(&mut self, out: &mut Vec<Packet>) -> Result<(), Memory>
+        ensures state { OnOk result
+            (self.new ≡ with_queue (filled WINDOW self.old.queue) self.old) }
+        ensures sends { OnOk result
+            (out.new.items
+            ≡ out.old.items ++ fill_sends WINDOW self.old.queue.in_flight self.old.queue.waiting) }
+        ensures err { OnErr result (self.new ≡ self.old) }
+        ensures unsent { OnErr result (out.new.items ≡ out.old.items) }
+
+        // `Err` only if something is sent.
+        ensures nothing { fill_sends WINDOW self.old.queue.in_flight self.old.queue.waiting ≡ []
+            → IsOk result }
+    {
+        self.fill_within(WINDOW, out)
+    }
+
     /// Starts what waits while fewer entries are in flight than the window: the first that waits
     /// takes the least free identifier, and its PUBLISH is appended (MQTT 4.6). If memory runs out
     /// nothing changes.
-    pub fn fill(&mut self, window: usize, out: &mut Vec<Packet>) -> Result<(), AllocError>
+    pub fn fill_within(&mut self, window: usize, out: &mut Vec<Packet>) -> Result<(), Memory>
         requires { window ≤ max_id }
         ensures state { OnOk result
             (self.new ≡ with_queue (filled window self.old.queue) self.old) }
@@ -158,7 +183,7 @@ impl Session {
         ensures nothing { fill_sends window self.old.queue.in_flight self.old.queue.waiting ≡ []
             → IsOk result }
     {
-        self.queue.fill(window, out)
+        Ok(self.queue.fill(window, out)?)
     }
 
     /// Handles PUBACK: finishes the QoS 1 entry with this identifier (MQTT 4.3.2).
@@ -172,7 +197,7 @@ impl Session {
 
     /// Handles PUBREC: releases the QoS 2 entry with this identifier. Appends PUBREL if it released
     /// one now or earlier (MQTT 4.3.3). If memory runs out nothing changes.
-    pub fn on_pubrec(&mut self, id: PacketId, out: &mut Vec<Packet>) -> Result<(), AllocError>
+    pub fn on_pubrec(&mut self, id: PacketId, out: &mut Vec<Packet>) -> Result<(), Memory>
         ensures state { OnOk result
             (self.new ≡ with_queue
             (with_flights (on_pubrec id self.old.queue.in_flight) self.old.queue) self.old) }
@@ -187,7 +212,7 @@ impl Session {
             IsOk result }
     {
         resend_keeps_the_order();
-        self.queue.on_pubrec(id, out)
+        Ok(self.queue.on_pubrec(id, out)?)
     }
 
     /// Handles PUBCOMP: finishes the released entry with this identifier (MQTT 4.3.3).
@@ -201,18 +226,18 @@ impl Session {
 
     /// Appends what a client that comes back is sent for what is in flight: PUBREL for each
     /// released entry, then PUBLISH with DUP 1 (MQTT 4.4). If memory runs out nothing is appended.
-    pub fn resend(&self, out: &mut Vec<Packet>) -> Result<(), AllocError>
+    pub fn resend(&self, out: &mut Vec<Packet>) -> Result<(), Memory>
         ensures ok { OnOk result
             (out.new.items ≡ out.old.items ++ resend self.now.queue.in_flight) }
         ensures err { OnErr result (out.new.items ≡ out.old.items) }
         ensures nothing { self.now.queue.in_flight ≡ [] → IsOk result }
     {
-        self.queue.resend(out)
+        Ok(self.queue.resend(out)?)
     }
 
     /// Sets a subscription: an identical filter gets the new QoS in its place, and a new one is
     /// appended (MQTT 3.8.4).
-    pub fn subscribe(&mut self, filter: Filter, qos: QoS) -> Result<(), AllocError>
+    pub fn subscribe(&mut self, filter: Filter, qos: QoS) -> Result<(), Memory>
         ensures ok { OnOk result
             (self.new
             ≡ with_granted (with_subscription (filter, qos) self.old.subscriptions) self.old) }
@@ -221,7 +246,7 @@ impl Session {
         // `Err` only for a new filter.
         ensures subscribed { is_subscribed filter self.old.subscriptions ≡ true → IsOk result }
     {
-        self.subscriptions.set(filter, qos)
+        Ok(self.subscriptions.set(filter, qos)?)
     }
 
     /// Removes a subscription, compared character by character (MQTT 3.10.4).

@@ -6,8 +6,9 @@ ghost use Rattle.subs.specs.Gathered.{rows_of_group};
 ghost use Rattle.subs.specs.Rows.{qos_of_client};
 
 use crate::rows::Rows;
+use machine::Memory;
 use packet_base::{ClientId, QoS};
-use std::alloc::{AllocError, Global};
+use std::alloc::Global;
 use std::collections::BTreeMap;
 
 /// The rows of one filter in the order in which they came. A single one takes no memory of its own.
@@ -19,7 +20,7 @@ pub(crate) enum Group {
 
 impl Group {
     /// Adds a row after the others.
-    pub(crate) fn add(&mut self, alloc: Global, row: (ClientId, QoS)) -> Result<(), AllocError>
+    pub(crate) fn add(&mut self, alloc: Global, row: (ClientId, QoS)) -> Result<(), Memory>
         ensures { OnOk result (rows_of_group self.new ≡ rows_of_group self.old ++ row ∷ []) }
     {
         match self {
@@ -33,7 +34,7 @@ impl Group {
     }
 
     /// Returns the same rows by their clients; of each client the last row counts.
-    pub(crate) fn into_rows(self, alloc: Global) -> Result<Rows, AllocError>
+    pub(crate) fn into_rows(self, alloc: Global) -> Result<Rows, Memory>
         ensures { IfOk result (λ rows. qos_of_client rows ≡ last_qos_in (rows_of_group self)) }
     {
         match self {

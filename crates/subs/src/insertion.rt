@@ -8,13 +8,13 @@ ghost use Rattle.subs.specs.Shown.{shape, rows_at_levels, IsSoundTree, LeadsTo, 
 use crate::node_id::NodeId;
 use crate::nodes::{Nodes, is_all};
 use crate::slots::{Slot, add_node, child, free_node, link};
-use std::alloc::AllocError;
+use machine::Memory;
 use topics::split_level;
 
 impl Nodes {
     /// Returns the slot of the filter that continues with this text after a node. Nodes that are
     /// missing are made; if memory runs out some of them may stay.
-    pub(crate) fn make_slot(&mut self, at: NodeId, text: Option<&[u8]>) -> Result<Slot, AllocError>
+    pub(crate) fn make_slot(&mut self, at: NodeId, text: Option<&[u8]>) -> Result<Slot, Memory>
         requires sound { IsSoundTree self.old }
         requires there { IsThere self.old at.number }
         ensures leads { IfOk result (λ made. (path : Levels) → LeadsTo self.old path at.number
@@ -45,7 +45,7 @@ impl Nodes {
     }
 
     // Returns the node after a level, which is made if there is none.
-    fn child_or_new(&mut self, at: NodeId, level: &[u8]) -> Result<NodeId, AllocError>
+    fn child_or_new(&mut self, at: NodeId, level: &[u8]) -> Result<NodeId, Memory>
         requires sound { IsSoundTree self.old }
         requires there { IsThere self.old at.number }
         ensures leads { IfOk result (λ child. (path : Levels) → LeadsTo self.old path at.number
@@ -62,7 +62,7 @@ impl Nodes {
     }
 
     // Makes the node after a level.
-    fn add_child(&mut self, at: NodeId, level: &[u8]) -> Result<NodeId, AllocError>
+    fn add_child(&mut self, at: NodeId, level: &[u8]) -> Result<NodeId, Memory>
         requires sound { IsSoundTree self.old }
         requires there { IsThere self.old at.number }
         requires none { (shape self.old).child at.number level.now ≡ None }

@@ -15,5 +15,5 @@ mod slots;
 mod tests;
 mod tree_index;
 
-pub use subs_base::{ListIndex, SubIndex, grants_one_list};
+pub use subs_base::{ListIndex, Memory, SubIndex, grants_one_list};
 pub use tree_index::TreeIndex;

@@ -9,8 +9,9 @@ ghost use Rattle.subs.specs.Changes.{SetsRow, SetsSide, SetsChild};
 
 use crate::node_id::NodeId;
 use crate::rows::Rows;
+use machine::Memory;
 use packet_base::{ClientId, QoS};
-use std::alloc::{AllocError, Global};
+use std::alloc::Global;
 use std::collections::BTreeMap;
 
 /// The subscriptions of the filters that end with the same levels, and the nodes of the next
@@ -56,7 +57,7 @@ impl Node {
         alloc: Global,
         level: &[u8],
         child: NodeId,
-    ) -> Result<(), AllocError>
+    ) -> Result<(), Memory>
         ensures ok { OnOk result
             (SetsChild (child_in self.old) (child_in self.new) level.now (Some child.number)) }
         ensures err { OnErr result (child_in self.new ≡ child_in self.old) }
@@ -89,7 +90,7 @@ impl Node {
         rest: bool,
         client: &ClientId,
         qos: QoS,
-    ) -> Result<(), AllocError>
+    ) -> Result<(), Memory>
         ensures ok { OnOk result
             (SetsRow (clients_at self.old) (clients_at self.new) rest client.now (Some qos)) }
         ensures err { OnErr result (clients_at self.new ≡ clients_at self.old) }

@@ -13,9 +13,10 @@ use crate::node::Node;
 use crate::node_id::NodeId;
 use crate::rows::Rows;
 use crate::slots::{Slot, add_node, child, clear_at, put_at, set_at};
+use machine::Memory;
 use packet_base::{ClientId, QoS};
 use slab::Slab;
-use std::alloc::{AllocError, Global};
+use std::alloc::Global;
 use topics::split_level;
 
 /// Nodes in a vector. The numbers of removed nodes are used again.
@@ -44,7 +45,7 @@ impl Nodes {
 
     /// Sets the client's subscription of the filter with this text. If memory runs out it leaves
     /// the rows as they were, and removes the nodes that it made.
-    pub(crate) fn set(&mut self, text: &[u8], client: &ClientId, qos: QoS) -> Result<(), AllocError>
+    pub(crate) fn set(&mut self, text: &[u8], client: &ClientId, qos: QoS) -> Result<(), Memory>
         requires { IsSoundTree self.old }
         ensures ok { OnOk result
             (rows_at_levels self.new
@@ -64,7 +65,7 @@ impl Nodes {
 
     /// Puts these rows in place of those of the filter with this text. If memory runs out some
     /// nodes that hold nothing may stay.
-    pub(crate) fn put(&mut self, text: &[u8], rows: Rows) -> Result<(), AllocError>
+    pub(crate) fn put(&mut self, text: &[u8], rows: Rows) -> Result<(), Memory>
         requires { IsSoundTree self.old }
         ensures ok { OnOk result
             (rows_at_levels self.new ≡ with_rows (rows_at_levels self.old) (levels text.now)
@@ -99,7 +100,7 @@ impl Nodes {
     }
 
     // Returns the root, which is made if there is none.
-    fn make_root(&mut self) -> Result<NodeId, AllocError>
+    fn make_root(&mut self) -> Result<NodeId, Memory>
         requires { IsSoundTree self.old }
         ensures sound { IsSoundTree self.new }
         ensures rows { rows_at_levels self.new ≡ rows_at_levels self.old }
@@ -121,7 +122,7 @@ impl Nodes {
         text: &[u8],
         client: &ClientId,
         qos: QoS,
-    ) -> Result<(), AllocError>
+    ) -> Result<(), Memory>
         requires sound { IsSoundTree self.old }
         requires root { root_of self.old ≡ Some root.number }
         ensures ok { OnOk result

@@ -14,8 +14,9 @@ ghost use Rattle.subs.specs.Shown.{content_of_nodes, IsSoundTree};
 use crate::group::Group;
 use crate::nodes::Nodes;
 use indexmap::IndexMap;
+use machine::Memory;
 use packet_base::{ClientId, QoS};
-use std::alloc::{AllocError, Global};
+use std::alloc::Global;
 use std::collections::BTreeMap;
 use topics::Filter;
 
@@ -26,7 +27,7 @@ pub(crate) type Groups = IndexMap<Filter, Group>;
 pub(crate) fn gather(
     alloc: Global,
     clients: &BTreeMap<ClientId, BTreeMap<Filter, QoS>>,
-) -> Result<Groups, AllocError>
+) -> Result<Groups, Memory>
     ensures { IfOk result
         (λ groups. gathered (groups_as_lists groups.entries)
         ≡ content_of (listed clients.now.entries)) }
@@ -44,7 +45,7 @@ fn gather_filters(
     groups: &mut Groups,
     client: &ClientId,
     filters: &BTreeMap<Filter, QoS>,
-) -> Result<(), AllocError>
+) -> Result<(), Memory>
     ensures rows { OnOk result
         (gathered (groups_as_lists groups.new.entries)
         ≡ filters_set client.now filters.now.entries
@@ -65,7 +66,7 @@ fn add_row(
     groups: &mut Groups,
     filter: &Filter,
     row: (ClientId, QoS),
-) -> Result<(), AllocError>
+) -> Result<(), Memory>
     ensures { OnOk result
         (gathered (groups_as_lists groups.new.entries)
         ≡ with_row (gathered (groups_as_lists groups.old.entries)) row.0 filter.now row.1) }
@@ -78,7 +79,7 @@ fn add_row(
 }
 
 /// Returns the nodes of these filters.
-pub(crate) fn nodes_of(alloc: Global, groups: Groups) -> Result<Nodes, AllocError>
+pub(crate) fn nodes_of(alloc: Global, groups: Groups) -> Result<Nodes, Memory>
     ensures content { IfOk result
         (λ nodes. content_of_nodes nodes ≡ gathered (groups_as_lists groups.entries)) }
     ensures sound { IfOk result IsSoundTree }

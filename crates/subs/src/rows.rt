@@ -7,8 +7,9 @@ ghost use Rattle.std.specs.BTreeMap.{Updates, get};
 ghost use Rattle.subs.specs.declared.rows.Rows.TheVariants.{One};
 ghost use Rattle.subs.specs.Rows.{rows_as_list, qos_of_client, SetsAt};
 
+use machine::Memory;
 use packet_base::{ClientId, QoS};
-use std::alloc::{AllocError, Global};
+use std::alloc::Global;
 use std::collections::BTreeMap;
 
 /// The clients of one filter, with the QoS of their subscriptions. A single client takes no memory
@@ -22,12 +23,7 @@ pub(crate) enum Rows {
 
 impl Rows {
     /// Sets the client's row. If memory runs out all rows stay as they were.
-    pub(crate) fn set(
-        &mut self,
-        alloc: Global,
-        client: &ClientId,
-        qos: QoS,
-    ) -> Result<(), AllocError>
+    pub(crate) fn set(&mut self, alloc: Global, client: &ClientId, qos: QoS) -> Result<(), Memory>
         ensures ok { OnOk result (SetsAt self.old self.new client.now (Some qos)) }
         ensures err { OnErr result (qos_of_client self.new ≡ qos_of_client self.old) }
         ensures absent { OnErr result (qos_of_client self.old client.now ≡ None) }
@@ -86,7 +82,7 @@ fn both(
     kept: QoS,
     client: &ClientId,
     qos: QoS,
-) -> Result<Rows, AllocError>
+) -> Result<Rows, Memory>
     ensures { IfOk result (λ rows. SetsAt (One owner.now kept) rows client.now (Some qos)) }
 {
     let mut rows = BTreeMap::new(alloc);
@@ -100,7 +96,7 @@ fn set_client(
     clients: &mut BTreeMap<ClientId, QoS>,
     client: &ClientId,
     qos: QoS,
-) -> Result<(), AllocError>
+) -> Result<(), Memory>
     ensures ok { OnOk result
         (Updates (slice_cmp nat_cmp) clients.old clients.new client.now (Some qos)) }
     ensures err { OnErr result (clients.new.entries ≡ clients.old.entries) }

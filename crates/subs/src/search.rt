@@ -15,8 +15,8 @@ use crate::node_id::NodeId;
 use crate::nodes::Nodes;
 use crate::rows::Rows;
 use crate::slots::child;
+use machine::Memory;
 use packet_base::{ClientId, QoS};
-use std::alloc::AllocError;
 use std::collections::BTreeMap;
 use topics::split_level;
 
@@ -26,7 +26,7 @@ type Found = BTreeMap<ClientId, QoS>;
 impl Nodes {
     /// Raises each client of a filter that matches the topic to its QoS there. No wildcard at the
     /// front matches a topic that begins with `$` (MQTT 4.7.2).
-    pub(crate) fn find(&self, topic: &[u8], found: &mut Found) -> Result<(), AllocError>
+    pub(crate) fn find(&self, topic: &[u8], found: &mut Found) -> Result<(), Memory>
         ensures ok { OnOk result
             (Raises found.old found.new (found_for (shape self.now) (root_of self.now) topic.now)) }
         ensures some { OnErr result
@@ -44,7 +44,7 @@ impl Nodes {
 
     // Raises each client of a filter that continues after a node and matches there to its QoS.
     #[cycle(find_at)]
-    fn find_at(&self, at: NodeId, topic: Option<&[u8]>, found: &mut Found) -> Result<(), AllocError>
+    fn find_at(&self, at: NodeId, topic: Option<&[u8]>, found: &mut Found) -> Result<(), Memory>
         ensures ok { OnOk result
             (Raises found.old found.new
             (found_at (shape self.now) at.number (levels_of topic.entry))) }
@@ -70,7 +70,7 @@ impl Nodes {
         below: Option<NodeId>,
         after: Option<&[u8]>,
         found: &mut Found,
-    ) -> Result<(), AllocError>
+    ) -> Result<(), Memory>
         ensures ok { OnOk result
             (Raises found.old found.new
             (found_after (shape self.now) (option_map (λ id. id.number) below)
@@ -87,7 +87,7 @@ impl Nodes {
 }
 
 // Raises each of the clients to its QoS there.
-fn raise_all(rows: &Rows, found: &mut Found) -> Result<(), AllocError>
+fn raise_all(rows: &Rows, found: &mut Found) -> Result<(), Memory>
     ensures ok { OnOk result (Raises found.old found.new (qos_of_client rows.now)) }
     ensures some { OnErr result (GivesSome (qos_of_client rows.now)) }
 {
@@ -99,7 +99,7 @@ fn raise_all(rows: &Rows, found: &mut Found) -> Result<(), AllocError>
 }
 
 // Raises each of the clients of a map to its QoS there.
-fn raise_each(clients: &BTreeMap<ClientId, QoS>, found: &mut Found) -> Result<(), AllocError>
+fn raise_each(clients: &BTreeMap<ClientId, QoS>, found: &mut Found) -> Result<(), Memory>
     ensures ok { OnOk result (Raises found.old found.new (get (slice_cmp nat_cmp) clients.now)) }
     ensures some { OnErr result (GivesSome (get (slice_cmp nat_cmp) clients.now)) }
 {
@@ -110,7 +110,7 @@ fn raise_each(clients: &BTreeMap<ClientId, QoS>, found: &mut Found) -> Result<()
 }
 
 // Sets the client's QoS to this one, if it is greater than what is there.
-fn raise(client: &ClientId, qos: QoS, found: &mut Found) -> Result<(), AllocError>
+fn raise(client: &ClientId, qos: QoS, found: &mut Found) -> Result<(), Memory>
     ensures { OnOk result (Updates (slice_cmp nat_cmp) found.old found.new client.now
         (greatest (get (slice_cmp nat_cmp) found.old client.now) (Some qos))) }
 {

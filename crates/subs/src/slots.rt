@@ -9,9 +9,10 @@ ghost use Rattle.subs.specs.Rows.{qos_of_client};
 use crate::node::Node;
 use crate::node_id::NodeId;
 use crate::rows::Rows;
+use machine::Memory;
 use packet_base::{ClientId, QoS};
 use slab::Slab;
-use std::alloc::{AllocError, Global};
+use std::alloc::Global;
 
 /// Where the rows of a filter are: at a node, or at `#` beside it.
 #[derive(Clone, Copy, Debug)]
@@ -23,7 +24,7 @@ pub(crate) struct Slot {
 }
 
 /// Adds a node that holds nothing, and returns its number.
-pub(crate) fn add_node(nodes: &mut Slab<Node>, alloc: Global) -> Result<NodeId, AllocError>
+pub(crate) fn add_node(nodes: &mut Slab<Node>, alloc: Global) -> Result<NodeId, Memory>
     ensures adds { IfOk result (λ id.
         AddsNode (shape_of nodes.old) (shape_of nodes.new) id.number) }
     ensures bare { IfOk result (λ id. IsBare (shape_of nodes.new) id.number) }
@@ -68,7 +69,7 @@ pub(crate) fn link(
     at: NodeId,
     level: &[u8],
     child: NodeId,
-) -> Result<(), AllocError>
+) -> Result<(), Memory>
     requires { (shape_of nodes.old).used at.number ≡ true }
     ensures ok { OnOk result
         (Links (shape_of nodes.old) (shape_of nodes.new) at.number level.now (Some child.number)) }
@@ -97,7 +98,7 @@ pub(crate) fn set_at(
     slot: Slot,
     client: &ClientId,
     qos: QoS,
-) -> Result<(), AllocError>
+) -> Result<(), Memory>
     requires { (shape_of nodes.old).used slot.node.number ≡ true }
     ensures ok { OnOk result
         (WritesRow (shape_of nodes.old)

@@ -11,8 +11,9 @@ ghost use Rattle.subs.specs.Shown.{content_of_nodes, IsSoundTree};
 
 use crate::nodes::Nodes;
 use crate::row_groups::{gather, nodes_of};
+use machine::Memory;
 use packet_base::{ClientId, QoS};
-use std::alloc::{AllocError, Global};
+use std::alloc::Global;
 use std::collections::BTreeMap;
 use std::marker::Model;
 use subs_base::{ListIndex, SubIndex};
@@ -64,7 +65,7 @@ impl SubIndex for TreeIndex {
         }
     }
 
-    fn set(&mut self, client: &ClientId, filter: &Filter, qos: QoS) -> Result<(), AllocError> {
+    fn set(&mut self, client: &ClientId, filter: &Filter, qos: QoS) -> Result<(), Memory> {
         self.clients.set(client, filter, qos)?;
         let text = filter.as_str().as_bytes();
         let set = self.nodes.set(text, client, qos);
@@ -86,11 +87,7 @@ impl SubIndex for TreeIndex {
         self.clients.drop_client(client);
     }
 
-    fn granted(
-        &self,
-        topic: &TopicName,
-        rows: &mut Vec<(ClientId, QoS)>,
-    ) -> Result<(), AllocError> {
+    fn granted(&self, topic: &TopicName, rows: &mut Vec<(ClientId, QoS)>) -> Result<(), Memory> {
         let mut found = BTreeMap::new(self.alloc);
         self.nodes.find(topic.as_str().as_bytes(), &mut found)?;
         let before = rows.len();
@@ -104,7 +101,7 @@ impl SubIndex for TreeIndex {
 
 impl TreeIndex {
     /// Builds the tree of a whole list in one pass, in place of a `set` for each of its filters.
-    pub fn of_list(alloc: Global, clients: ListIndex) -> Result<TreeIndex, AllocError>
+    pub fn of_list(alloc: Global, clients: ListIndex) -> Result<TreeIndex, Memory>
         ensures { IfOk result (λ index. index ≡ clients) }
     {
         let groups = gather(alloc, clients.clients())?;
@@ -133,7 +130,7 @@ fn clear_all(nodes: &mut Nodes, filters: &BTreeMap<Filter, QoS>, client: &Client
 fn append_rows(
     found: &BTreeMap<ClientId, QoS>,
     rows: &mut Vec<(ClientId, QoS)>,
-) -> Result<(), AllocError>
+) -> Result<(), Memory>
     ensures ok { OnOk result (rows.new.items ≡ rows.old.items ++ found.now.entries) }
     ensures ordered { IsOrdered (slice_cmp nat_cmp) found.now }
     ensures err { OnErr result (rows.old.items ≡ take (length rows.old.items) rows.new.items) }

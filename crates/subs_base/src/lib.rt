@@ -7,5 +7,6 @@ mod sub_index;
 mod theorems;
 
 pub use list_index::ListIndex;
+pub use machine::Memory;
 pub use sub_index::SubIndex;
 pub use theorems::grants_one_list;

@@ -30,8 +30,9 @@ ghost use Rattle.subs_base.specs.ListIndex.{content_of, at};
 ghost use Rattle.subs_base.specs.Inside.{listed, greatest_from, rows_of, AreOrdered};
 
 use crate::sub_index::SubIndex;
+use machine::Memory;
 use packet_base::{ClientId, QoS};
-use std::alloc::{AllocError, Global};
+use std::alloc::Global;
 use std::collections::BTreeMap;
 use std::marker::Model;
 use topics::{Filter, TopicName, matches};
@@ -73,7 +74,7 @@ impl SubIndex for ListIndex {
         }
     }
 
-    fn set(&mut self, client: &ClientId, filter: &Filter, qos: QoS) -> Result<(), AllocError> {
+    fn set(&mut self, client: &ClientId, filter: &Filter, qos: QoS) -> Result<(), Memory> {
         match self.clients.get_mut(client) {
             Some(filters) => set_filter(filters, filter, qos),
             None => {
@@ -95,11 +96,7 @@ impl SubIndex for ListIndex {
         self.clients.remove(client);
     }
 
-    fn granted(
-        &self,
-        topic: &TopicName,
-        rows: &mut Vec<(ClientId, QoS)>,
-    ) -> Result<(), AllocError> {
+    fn granted(&self, topic: &TopicName, rows: &mut Vec<(ClientId, QoS)>) -> Result<(), Memory> {
         let before = rows.len();
         let appended = append_rows(&self.clients, topic, rows);
         if appended.is_err() {
@@ -119,11 +116,7 @@ impl ListIndex {
 
     /// Puts these filters of a client in place of those that it has. If memory runs out the index
     /// stays as it was.
-    pub fn put(
-        &mut self,
-        client: &ClientId,
-        filters: BTreeMap<Filter, QoS>,
-    ) -> Result<(), AllocError>
+    pub fn put(&mut self, client: &ClientId, filters: BTreeMap<Filter, QoS>) -> Result<(), Memory>
         ensures ok { OnOk result
             (content_of self.new ≡ with_client_filters (content_of self.old) client.now
             (get (slice_cmp nat_cmp) filters)) }
@@ -172,11 +165,7 @@ impl ListIndex {
 }
 
 // Sets the QoS of a filter. On an error nothing is changed.
-fn set_filter(
-    filters: &mut BTreeMap<Filter, QoS>,
-    filter: &Filter,
-    qos: QoS,
-) -> Result<(), AllocError>
+fn set_filter(filters: &mut BTreeMap<Filter, QoS>, filter: &Filter, qos: QoS) -> Result<(), Memory>
     ensures ok { OnOk result
         (Updates (slice_cmp nat_cmp) filters.old filters.new filter.now (Some qos)) }
     ensures err { OnErr result (filters.new.entries ≡ filters.old.entries) }
@@ -203,7 +192,7 @@ fn append_rows(
     clients: &BTreeMap<ClientId, BTreeMap<Filter, QoS>>,
     topic: &TopicName,
     rows: &mut Vec<(ClientId, QoS)>,
-) -> Result<(), AllocError>
+) -> Result<(), Memory>
     ensures ok { OnOk result
         (rows.new.items ≡ rows.old.items ++ rows_of topic.now (listed clients.now.entries)) }
     ensures ordered { OnOk result (AreOrdered (listed clients.now.entries)) }

@@ -10,8 +10,9 @@ ghost use Rattle.subs_base.specs.Content.{
 };
 ghost use Rattle.subs_base.specs.Granted.{AppendsGranted, IsWanted};
 
+use machine::Memory;
 use packet_base::{ClientId, QoS};
-use std::alloc::{AllocError, Global};
+use std::alloc::Global;
 use topics::{Filter, TopicName};
 
 /// The subscriptions of all clients, each pair of client and filter once.
@@ -24,7 +25,7 @@ pub trait SubIndex: Drop {
 
     /// Sets the client's subscription of this filter, replacing an identical one, which takes no
     /// memory (MQTT 3.8.4).
-    fn set(&mut self, client: &ClientId, filter: &Filter, qos: QoS) -> Result<(), AllocError>
+    fn set(&mut self, client: &ClientId, filter: &Filter, qos: QoS) -> Result<(), Memory>
         ensures ok { OnOk result
             (content self.new ≡ with_row (content self.old) client.now filter.now qos) }
         ensures err { OnErr result (content self.new ≡ content self.old) }
@@ -44,7 +45,7 @@ pub trait SubIndex: Drop {
     /// Appends a row for each client with a filter that matches the topic, with the greatest QoS of
     /// these filters (MQTT 3.3.5). The rows are in the order of the clients' bytes. If memory runs
     /// out the rows stay as they were. If no filter matches it takes none.
-    fn granted(&self, topic: &TopicName, rows: &mut Vec<(ClientId, QoS)>) -> Result<(), AllocError>
+    fn granted(&self, topic: &TopicName, rows: &mut Vec<(ClientId, QoS)>) -> Result<(), Memory>
         ensures ok { OnOk result
             (AppendsGranted (content self.now) topic.now rows.old.items rows.new.items) }
         ensures err { OnErr result (rows.new.items ≡ rows.old.items) }

@@ -137,10 +137,10 @@ impl Caller {
         ensures news { IfOk result (IsNews self.old self.new) }
         ensures lost { IfErr result (IsLostBy self.old self.new) }
     {
-        let was_connected = self.core.is_connected();
+        let was_connected = self.core.connected();
         let is_open = stays_open(self.core.on_bytes(piece))?;
         self.check_first_session()?;
-        let is_connected = self.core.is_connected();
+        let is_connected = self.core.connected();
         self.was_accepted = self.was_accepted || is_connected;
         Ok(news_of(is_open, was_connected, is_connected))
     }
@@ -150,7 +150,7 @@ impl Caller {
         ensures ok { OnOk result (IsFirst self.now self.now.core) }
         ensures err { IfErr result (λ error. error ≡ UserClientError.SessionPresent) }
     {
-        if !self.was_accepted && self.core.is_session_present() {
+        if !self.was_accepted && self.core.present() {
             return Err(UserClientError::SessionPresent);
         }
         Ok(())

@@ -6,8 +6,7 @@ mod standard_error;
 
 ghost use Rattle.std.specs.Prelude.{◌≡◌, ◌≢◌};
 
-use command_line::line;
-use jobs::{JobError, perform, print_fault, refuse};
+use jobs::{JobError, line, perform, print_fault, refuse};
 use standard_error::StandardError;
 use std::io::ErrorKind;
 use std::net::{Net, TcpListener, TcpStream};

@@ -218,7 +218,7 @@ impl Course {
 
     // Returns true if a node may crash: it runs, and so does another member of the active ballot.
     fn may_crash(&self, world: &World, node: u8) -> bool {
-        let (_, members) = world.active();
+        let members = world.active_members();
         let is_left = |it: &u8| *it != node && self.runs(*it);
         self.runs(node) && members.iter().any(is_left)
     }
@@ -241,7 +241,7 @@ impl Course {
 
     // Returns the active primary; node 1 if there is none.
     fn active_primary(&self, world: &World) -> u8 {
-        let (ballot, _) = world.active();
+        let ballot = world.active();
         let at = ballot.saturating_sub(1) as usize;
         self.primaries.get(at).copied().unwrap_or(1)
     }
@@ -284,5 +284,5 @@ impl Course {
 
 // Returns true if a client is connected, as far as it knows.
 fn is_served(world: &World, name: &ClientId) -> bool {
-    world.client(name).is_some_and(|core| core.is_connected())
+    world.client(name).is_some_and(|core| core.connected())
 }

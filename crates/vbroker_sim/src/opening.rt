@@ -1,6 +1,6 @@
 // The worlds in which runs begin.
 
-use ballot_base::{Config, Members};
+use ballot_base::Members;
 use packet_base::ClientId;
 use std::alloc::{AllocError, Global};
 use world::World;
@@ -42,11 +42,7 @@ impl Opening {
             members.push(node).ok()?;
         }
         let members = Members::from_slice(alloc, members.as_slice()).ok()?;
-        let config = Config {
-            members,
-            primary: 1,
-        };
-        World::opening(alloc, self.nodes, config, self.clients.as_slice()).ok()
+        World::opening(alloc, self.nodes, members, 1, self.clients.as_slice()).ok()
     }
 
     /// Returns the first line of a script of this world. Errors: out of memory.

@@ -51,7 +51,7 @@ impl Counts {
             happened,
             agreed: world.agreed_len(),
             messages: world.messages(),
-            ballot: world.active().0,
+            ballot: world.active(),
             accepted,
         }
     }

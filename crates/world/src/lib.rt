@@ -11,7 +11,7 @@ mod transport;
 mod world;
 
 pub use ballot_base::errors::OpeningError;
-pub use ballot_base::{Config, Effect, Members, Message, Status};
+pub use ballot_base::{Body, Config, Effect, Members, Message, Status};
 pub use broker_spec::{Command, ConnectionName};
 pub use client::ClientCore;
 pub use client_base::Accepted;
@@ -19,6 +19,6 @@ pub use machine::Memory;
 pub use master::Idle;
 pub use theorems::{an_open_past_the_last_changes_nothing, uncounted_is_exact};
 pub use world::World;
-pub use world_base::node_connections::Port;
+pub use world_base::node_connections::{Handed, Piece, Port};
 pub use world_base::node_core::{Item, NodeCore};
 pub use world_pipes::events::{EscapeError, Event};

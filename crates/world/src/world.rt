@@ -14,8 +14,8 @@ ghost use Rattle.world.specs.Quiet.{EventTakesNoMemory};
 ghost use Rattle.world_pipes.specs.clients.Clients.{identifiers};
 ghost use Rattle.world.specs.StandsFor.{IsReached, KeepsReached, FollowsModelAsking, asked_on};
 
-use ballot_base::Config;
 use ballot_base::errors::OpeningError;
+use ballot_base::{Config, Members};
 use master::Idle;
 use packet_base::ClientId;
 use std::alloc::Global;
@@ -76,10 +76,40 @@ impl Model for World {
 }
 
 impl World {
-    /// Opens nodes 1 to `nodes` in ballot 1, and clients that were never connected.
-    /// [`OpeningError::BadMembers`] comes for more than 15 nodes, for a configuration that no
-    /// ballot may have, and for a member above `nodes`.
+    /// Opens nodes 1 to `nodes` in ballot 1, with these members and this primary, and clients that
+    /// were never connected. [`OpeningError::BadMembers`] comes for more than 15 nodes, for a member
+    /// above `nodes`, and for members and a primary that no ballot may have: no member, more than 7,
+    /// not strictly rising, one outside 1 to 15, or a primary that is none of them.
+    /// [`OpeningError::Memory`] comes only if memory ran out.
     pub fn opening(
+        alloc: Global,
+        nodes: u8,
+        members: Members,
+        primary: u8,
+        clients: &[ClientId],
+    ) -> Result<World, OpeningError>
+        // If each client has an identifier of its own, each is exact; none was asked to publish.
+        ensures exact { ClientsAreApart clients.now → IfOk result
+            (λ world. (reached : IsReached nodes (record { members = members; primary = primary })
+            clients.now world)
+            × (asked_on reached ≡ [])) }
+        ensures clients { IfOk result (λ world. identifiers world.clients ≡ clients.now) }
+        ensures opens { IfOk result (λ world.
+            WorldOpens nodes (record { members = members; primary = primary })
+            clients.now world) }
+
+        // The nodes agree.
+        ensures reached { IfOk result (λ world.
+            AreReached nodes (record { members = members; primary = primary }) world.nodes) }
+        ensures losses { IfOk result (λ world. world.losses ≡ 0) }
+        ensures bad { IsErrOf result OpeningError.BadMembers
+            ↔ (can_open nodes (record { members = members; primary = primary }) ≡ false) }
+    {
+        World::opening_with(alloc, nodes, Config { members, primary }, clients)
+    }
+
+    // Does what `opening` does, for members and a primary that are one value.
+    fn opening_with(
         alloc: Global,
         nodes: u8,
         config: Config,
@@ -178,12 +208,20 @@ impl World {
         self.nodes.messages()
     }
 
-    /// Returns the active ballot and its members.
-    pub fn active(&self) -> (u64, &[u8])
-        ensures ballot { result.0 ≡ self.now.nodes.master.active }
-        ensures members { result.1.now ≡ self.now.nodes.master.members }
+    /// Returns the master's active ballot, from 1 to 2^32.
+    pub fn active(&self) -> u64
+        ensures { result ≡ self.now.nodes.master.active }
     {
-        self.nodes.active()
+        let (ballot, _) = self.nodes.active();
+        ballot
+    }
+
+    /// Returns the members of the active ballot, 1 to 7, strictly rising.
+    pub fn active_members(&self) -> &[u8]
+        ensures { result.now ≡ self.now.nodes.master.members }
+    {
+        let (_, members) = self.nodes.active();
+        members
     }
 
     /// Returns how many steps lost something for want of memory (saturates at 2^64 - 1).

@@ -139,7 +139,7 @@ impl Nodes {
         let members = Members::from_slice(self.alloc, config.members.as_slice())?;
         let (previous, previous_members) = self.master.active();
         let previous_members = Members::from_slice(self.alloc, previous_members)?;
-        let Ok(ballot) = self.master.assign(given) else {
+        let Ok(ballot) = self.master.assign(given.members, given.primary) else {
             unreachable!()
         };
         self.counters.begin(ballot);

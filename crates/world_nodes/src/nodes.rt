@@ -103,7 +103,7 @@ impl Nodes {
             opened.push(NodeCore::new(alloc, at + 1, &config)?)?;
         }
         let counters = Counters::new(alloc)?;
-        let Ok(master) = Master::new(config) else {
+        let Ok(master) = Master::new(config.members, config.primary) else {
             return Err(OpeningError::BadMembers);
         };
         Ok(Nodes {

@@ -34,7 +34,7 @@ impl PipedClient {
         self.pairs.reserve(1)?;
         self.core.open()?;
         if let Err(error) = pair.up.follow(&mut self.core) {
-            self.core.lose_connection();
+            self.core.lost();
             return Err(error);
         }
         self.pairs.push_reserved(pair);
@@ -48,7 +48,7 @@ impl PipedClient {
         ensures { self.new ≡ taken_back self.old }
     {
         self.pairs.pop();
-        self.core.lose_connection();
+        self.core.lost();
         self.holds = false;
     }
 

@@ -175,7 +175,7 @@ impl PipedClient {
         ensures lost { self.new ≡ record self.old { core = gone self.old.core } }
         ensures goes { FollowsLosing self.old self.new }
     {
-        self.core.lose_connection();
+        self.core.lost();
         self.holds = false;
     }
 }

@@ -28,7 +28,7 @@ pub(crate) fn send_up(core: &mut ClientCore, pairs: &mut Vec<PipePair>, holds: &
     if move_up(core, pairs).is_ok() {
         return Sending::Sent;
     }
-    core.lose_connection();
+    core.lost();
     *holds = false;
     Sending::Lost
 }

@@ -46,7 +46,7 @@ fn carry_down_on(
     let newest = pairs.len() - 1;
     let read = carry_to_client(core, &mut pairs[newest], count);
     if let Err(error) = move_up(core, pairs) {
-        core.lose_connection();
+        core.lost();
         return Err(error);
     }
     read

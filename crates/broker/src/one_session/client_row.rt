@@ -69,7 +69,7 @@ impl ClientRow {
         self.clean = false;
         self.connection = Some(connection);
         self.state.resend(sent)?;
-        self.state.fill(window.size(), sent)?;
+        self.state.fill_within(window.size(), sent)?;
         Ok(())
     }
 }

@@ -68,7 +68,7 @@ pub(crate) fn put_copy(
         return Ok(());
     }
     session.enqueue_within_room(copy)?;
-    session.fill(window.size(), sent)?;
+    session.fill_within(window.size(), sent)?;
     Ok(())
 }
 

@@ -35,16 +35,16 @@ pub fn do_handshake(
     match packet {
         Packet::Puback(id) => {
             session.on_puback(*id);
-            session.fill(window.size(), sent)?;
+            session.fill_within(window.size(), sent)?;
         }
         Packet::Pubrec(id) => session.on_pubrec(*id, sent)?,
         Packet::Pubrel(id) => {
-            session.on_pubrel(*id);
+            session.release(*id);
             sent.push(Packet::Pubcomp(*id))?;
         }
         Packet::Pubcomp(id) => {
             session.on_pubcomp(*id);
-            session.fill(window.size(), sent)?;
+            session.fill_within(window.size(), sent)?;
         }
         _ => {}
     }

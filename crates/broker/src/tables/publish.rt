@@ -20,12 +20,11 @@ ghost use Rattle.broker_base.specs.rows.Published.{granted_rows, received_on};
 use crate::one_session::{ClientRow, deliver, publication_of};
 use crate::tables::tables::Tables;
 use broker_spec::{ConnectionName, Output, Window};
-use machine::Halted;
+use machine::{Halted, Memory};
 use packet::{Delivery, Packet, Publish};
 use packet_base::{ClientId, QoS};
 use retained::{RetainedPublication, RetainedStore};
 use session_base::Publication;
-use std::alloc::AllocError;
 use std::collections::BTreeMap;
 use subs_base::SubIndex;
 use topics::TopicName;
@@ -65,7 +64,7 @@ impl Tables {
     }
 
     // Returns the clients with a subscription that matches, each with the greatest QoS.
-    fn granted(&self, topic: &TopicName) -> Result<Vec<(ClientId, QoS)>, AllocError>
+    fn granted(&self, topic: &TopicName) -> Result<Vec<(ClientId, QoS)>, Memory>
         requires { IsConsistent self.now }
         ensures { IfOk result
             (λ rows. rows.items ≡ granted_rows topic.now self.now.sessions.entries) }
@@ -134,7 +133,7 @@ fn note_identifier(row: &mut ClientRow, delivery: Delivery) -> Result<(), Halted
     ensures { OnOk result (row.new ≡ received_on delivery row.old) }
 {
     if let Delivery::ExactlyOnce(_, id) = delivery {
-        row.state.receive(id)?;
+        row.state.inbound(id)?;
     }
     Ok(())
 }

@@ -8,7 +8,7 @@ use std::test::Fail;
 // Returns a master whose ballot 1 is active with node 1; none if there was no memory for it.
 fn opened(alloc: Global) -> Option<Master> {
     match config(alloc, &[1], 1) {
-        Ok(config) => Master::new(config).ok(),
+        Ok(config) => Master::new(config.members, config.primary).ok(),
         Err(_) => None,
     }
 }
@@ -21,7 +21,7 @@ fn assigned(
     primary: u8,
 ) -> Option<Result<u64, AssignError>> {
     match config(alloc, members, primary) {
-        Ok(config) => Some(master.assign(config)),
+        Ok(config) => Some(master.assign(config.members, config.primary)),
         Err(_) => None,
     }
 }
@@ -132,7 +132,7 @@ fn bad_members_are_given_no_ballot(rt: HostRuntime) {
 // Returns why no master opens with this primary; none if one opens, or there was no memory for it.
 fn refusal_of(alloc: Global, members: &[u8], primary: u8) -> Option<AssignError> {
     match config(alloc, members, primary) {
-        Ok(config) => Master::new(config).err(),
+        Ok(config) => Master::new(config.members, config.primary).err(),
         Err(_) => None,
     }
 }

@@ -17,7 +17,7 @@ pub fn config(alloc: Global, members: &[u8], primary: u8) -> Result<Config, Memo
 /// Returns a group of which node 1 is the first primary.
 pub fn group(alloc: Global, nodes: u8, members: &[u8]) -> Result<Group<Tally>, OpeningError> {
     let config = config(alloc, members, 1)?;
-    Group::opening(alloc, nodes, config)
+    Group::opening(alloc, nodes, config.members, config.primary)
 }
 
 /// Does an event. Returns false if it is idle.

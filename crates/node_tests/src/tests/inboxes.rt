@@ -90,7 +90,7 @@ fn lacks_one<J: Naming>(receiver: &Receiver<u64, J>, lanes: &[Lane<u64, J>]) -> 
 // Returns the inbox of a receiver and the first lane, if their numbers say that it is the same one.
 fn meet<J: Naming>(receiver: &mut Receiver<u64, J>, lanes: &mut [Lane<u64, J>]) -> Option<u64> {
     let lane = lanes.first_mut()?;
-    if receiver.inbox_number() == lane.inbox_number() {
+    if receiver.number() == lane.number() {
         Some(receiver.meet(lane))
     } else {
         None

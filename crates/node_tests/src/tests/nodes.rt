@@ -125,7 +125,7 @@ pub(super) fn met<J: NodeNaming>(
     index: usize,
 ) -> Option<u64> {
     let lane = lanes.get_mut(index)?;
-    if lane.inbox_number() == state.inbox_number() {
+    if lane.number() == state.number() {
         Some(state.meet(lane))
     } else {
         None

@@ -82,7 +82,7 @@ impl MessagingMaster {
             ↔ (is_lawful config.members config.primary ≡ false) }
         ensures spent { IsErrOf result AssignError.BallotsSpent → ⊥ }
     {
-        match Master::new(config) {
+        match Master::new(config.members, config.primary) {
             Ok(master) => Ok(MessagingMaster { master }),
             Err(error) => Err(error),
         }
@@ -109,7 +109,7 @@ impl MessagingMaster {
         let members = Members::from_slice(alloc, config.members.as_slice())?;
         let (previous, of_previous) = self.master.active();
         let previous_members = Members::from_slice(alloc, of_previous)?;
-        let ballot = match self.master.assign(config) {
+        let ballot = match self.master.assign(config.members, config.primary) {
             Ok(ballot) => ballot,
             Err(error) => return Err(OrderError::Refused(error)),
         };

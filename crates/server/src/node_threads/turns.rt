@@ -97,7 +97,7 @@ impl<'a, J: NodeNaming, S: HasState<J>, G: Gate> Shared<'a, J, S, G> {
         let state = node.state();
         // The numbers are always equal: the lane is one of this node's inbox, and the permit is for
         // its next taking. No clause says so, since the state is under a lock.
-        if state.inbox_number() != lane.inbox_number() || !permit.is_for(state) {
+        if state.number() != lane.number() || !permit.is_for(state) {
             return true;
         }
         let (more, given) = take_as_permitted(rt, self.alloc, state, permit, lane);

@@ -71,7 +71,7 @@ impl Seen {
         reading: &ListReading,
         strays: &[bool],
     ) -> Option<Result<(), Broken>> {
-        self.is_confirmed = self.is_confirmed || core.is_connected();
+        self.is_confirmed = self.is_confirmed || core.connected();
         if self.may_stray() {
             return Some(Ok(()));
         }

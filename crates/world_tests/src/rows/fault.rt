@@ -85,7 +85,7 @@ pub fn fault_at(alloc: Global, world: &World, at: usize, row: &'static Row) -> F
         row: Some(row),
         messages: world.messages(),
         agreed: world.agreed_len(),
-        ballot: world.active().0,
+        ballot: world.active(),
         came: what_came(alloc, world, row),
     }
 }
@@ -100,7 +100,7 @@ pub fn fault_after(world: &World, rows: usize) -> Option<Fault> {
         row: None,
         messages: world.messages(),
         agreed: world.agreed_len(),
-        ballot: world.active().0,
+        ballot: world.active(),
         came: Came::Nothing,
     })
 }

@@ -129,8 +129,8 @@ pub type Table = (&'static str, u8, &'static [u8], &'static [Row]);
 pub fn opened(alloc: Global, nodes: u8, members: &[u8]) -> Option<World> {
     let mut clients = Vec::new(alloc);
     put_clients(alloc, &mut clients)?;
-    let config = config_of(alloc, members, 1)?;
-    World::opening(alloc, nodes, config, clients.as_slice()).ok()
+    let Config { members, primary } = config_of(alloc, members, 1)?;
+    World::opening(alloc, nodes, members, primary, clients.as_slice()).ok()
 }
 
 // Adds both. The list is lent, so that no exit from the loop has to drop it.
@@ -165,7 +165,7 @@ pub fn is_right(alloc: Global, world: &mut World, row: &Row) -> bool {
             Some((found, last)) => found == *count && (found == 0 || last == session.0),
             None => false,
         },
-        Row::Active(ballot) => world.active().0 == *ballot,
+        Row::Active(ballot) => world.active() == *ballot,
         Row::Agrees(list) => agrees_on(world, list),
     }
 }

@@ -43,12 +43,7 @@ fn change_primary(alloc: Global, world: &mut World, primary: u8) -> Option<Shown
     let is_given = world.step(&assign).is_ok();
     drop(assign);
     deliver_from(world, first);
-    Some((
-        is_given,
-        world.active().0,
-        world.agreed_len(),
-        world.losses(),
-    ))
+    Some((is_given, world.active(), world.agreed_len(), world.losses()))
 }
 
 // Changes the primary. Returns what that leads to, if its ballot does not become active, does not
@@ -104,7 +99,7 @@ fn after_idle(alloc: Global, world: &mut World) -> Option<(u64, u64, u64)> {
         Event::Deliver(7),
         Event::Deliver(1),
     ]);
-    Some((world.messages(), world.losses(), world.active().0))
+    Some((world.messages(), world.losses(), world.active()))
 }
 
 // Returns the same of a world of two nodes.

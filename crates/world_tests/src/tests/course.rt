@@ -220,8 +220,7 @@ fn primary_of(ballot: u64, members: &[u8]) -> u8 {
 
 // Returns the active primary.
 fn active_primary(world: &World) -> u8 {
-    let (ballot, members) = world.active();
-    primary_of(ballot, members)
+    primary_of(world.active(), world.active_members())
 }
 
 /// Crashes the active primary, if no ballot waits and another of its members runs. Returns whether
@@ -238,9 +237,9 @@ pub fn crash_primary(world: &mut World, course: &mut Course) -> bool {
 
 // Returns true if no ballot waits, and a member of the active one other than this one runs.
 fn is_one_left(world: &World, course: &Course, node: u8) -> bool {
-    let (ballot, members) = world.active();
-    ballot == course.given
-        && members
+    world.active() == course.given
+        && world
+            .active_members()
             .iter()
             .any(|member| *member != node && runs(course, *member))
 }

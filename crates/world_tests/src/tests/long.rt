@@ -106,7 +106,7 @@ fn shown_by(world: &World, course: &Course) -> Shown {
         events: course.events,
         losses: world.losses(),
         only_grows: course.only_grows,
-        ballot: world.active().0,
+        ballot: world.active(),
         cuts: course.cuts,
         agreed: world.agreed_len(),
     }
@@ -117,7 +117,7 @@ fn shown_by(world: &World, course: &Course) -> Shown {
 fn first_step(all_came: bool, world: &World, course: &Course) -> Option<&'static str> {
     if !all_came {
         Some("all events come, two primaries crash, nothing is lost, the list grows")
-    } else if world.active().0 <= 20 {
+    } else if world.active() <= 20 {
         Some("there are over 20 ballots")
     } else if course.cuts <= 50 {
         Some("there are over 50 cuts")

@@ -61,7 +61,7 @@ fn took_nothing(alloc: Global, world: &World) -> bool {
         return true;
     };
     match world.client(&name) {
-        Some(core) => { core.accepted().is_empty() && (core.is_connected() || world.losses() == 1) }
+        Some(core) => { core.accepted().is_empty() && (core.connected() || world.losses() == 1) }
         None => false,
     }
 }

@@ -16,8 +16,8 @@ pub fn opened(alloc: Global, nodes: u8, members: &[u8]) -> Option<World> {
 pub fn opened_for(alloc: Global, nodes: u8, members: &[u8], names: &[&str]) -> Option<World> {
     let mut clients = Vec::new(alloc);
     put_clients(alloc, names, &mut clients)?;
-    let config = config_of(alloc, members, 1)?;
-    World::opening(alloc, nodes, config, clients.as_slice()).ok()
+    let Config { members, primary } = config_of(alloc, members, 1)?;
+    World::opening(alloc, nodes, members, primary, clients.as_slice()).ok()
 }
 
 // Adds clients of these names. The list is lent, so that no exit from the loop has to drop it.

@@ -226,11 +226,7 @@ fn snapshots_sent(group: &Group<Tally>) -> usize {
 // Returns a group of seven nodes, of which 1 to 3 are members and 1 is the first primary.
 fn opened(alloc: Global) -> Option<Group<Tally>> {
     let members = Members::from_slice(alloc, &[1, 2, 3]).ok()?;
-    let config = Config {
-        members,
-        primary: 1,
-    };
-    Group::opening(alloc, NODES, config).ok()
+    Group::opening(alloc, NODES, members, 1).ok()
 }
 
 // Returns two such groups, to which nothing has happened.

@@ -24,7 +24,7 @@ fn is_the_end<'a>(alloc: Global, piece: &'a [u8], cause: ClientError) -> Result<
         (Act::Bytes(NOTHING), Some(NotActive), NOTHING, 0, 1),
     ];
     match play(alloc, &rows) {
-        Ok(client) => Ok(!client.is_connected()),
+        Ok(client) => Ok(!client.connected()),
         Err(fault) => Err(fault),
     }
 }

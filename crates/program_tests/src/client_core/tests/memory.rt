@@ -1,6 +1,6 @@
 // Memory that is refused. `tools/refused-memory` lets each allocation of a test fail in turn; in
 // the gate none fails. A call answers `Memory` and has changed nothing, or the client is as after
-// `lose_connection`; if the call is made again, all is as it is with memory.
+// `lost`; if the call is made again, all is as it is with memory.
 
 use super::handshakes::taken;
 use super::row::*;
@@ -16,12 +16,7 @@ type Shown = (usize, usize, bool, bool);
 
 fn shown_by(client: &ClientCore) -> Shown {
     let (kept, accepted) = counts(client);
-    (
-        kept,
-        accepted,
-        client.is_connected(),
-        client.is_session_present(),
-    )
+    (kept, accepted, client.connected(), client.present())
 }
 
 // Returns what is seen once the connection is lost.
@@ -44,7 +39,7 @@ fn reopen(client: &mut ClientCore, alloc: Global, was_accepted: bool) -> bool {
     opened && accepted && take_written(client, alloc).is_some()
 }
 
-// Returns true if a client shows itself as after `lose_connection`, and comes back.
+// Returns true if a client shows itself as after `lost`, and comes back.
 fn is_as_after_loss(client: &mut ClientCore, alloc: Global, before: Shown) -> bool {
     shown_by(client) == offline(before)
         && give(client, NOTHING) == Some(ClientError::NotActive)
@@ -52,7 +47,7 @@ fn is_as_after_loss(client: &mut ClientCore, alloc: Global, before: Shown) -> bo
 }
 
 // Returns true if nothing is written after this act ran out of memory, and nothing has changed, or
-// the client is as after `lose_connection` if bytes were read.
+// the client is as after `lost` if bytes were read.
 fn is_unchanged_or_lost(
     client: &mut ClientCore,
     alloc: Global,
@@ -177,7 +172,7 @@ fn wrote_pubrecs(client: &mut ClientCore, alloc: Global, count: usize) -> bool {
 
 // Returns true if a client that found no memory is lost, and answers both when they come again.
 fn answer_again(client: &mut ClientCore, alloc: Global) -> bool {
-    !client.is_connected()
+    !client.connected()
         && reopen(client, alloc, true)
         && give(client, PUBLISHES).is_none()
         && wrote(client, alloc, PUBRECS)

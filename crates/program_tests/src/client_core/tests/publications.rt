@@ -44,7 +44,7 @@ const KEEPS: &[Row<'static>] = &[
 #[test]
 fn kept_publications_go_out_again(rt: HostRuntime) {
     let present = match play(rt.alloc(), KEEPS) {
-        Ok(client) => Ok(client.is_session_present()),
+        Ok(client) => Ok(client.present()),
         Err(fault) => Err(fault),
     };
     assert_eq!(rt; present, Ok(true));
@@ -110,8 +110,8 @@ const FORGETS: &[Row<'static>] = &[
 // Returns true if a client is online, and the number of the session that accepted last.
 fn last_session(client: &ClientCore) -> (bool, Option<u64>) {
     match client.accepted() {
-        [.., last] => (client.is_connected(), Some(last.session)),
-        _ => (client.is_connected(), None),
+        [.., last] => (client.connected(), Some(last.session)),
+        _ => (client.connected(), None),
     }
 }
 

@@ -152,7 +152,7 @@ pub fn attempt(
     match act {
         Act::Open => open(client),
         Act::Lost => {
-            client.lose_connection();
+            client.lost();
             None
         }
         Act::Disconnect => client.disconnect().err(),

@@ -35,8 +35,8 @@ fn add_one(alloc: Global, session: &mut Session) -> Option<bool> {
 // Returns true if these are sent next, and nothing is if memory was refused.
 fn send_next(alloc: Global, session: &mut Session, wanted: &[Sent]) -> bool {
     let mut out = Vec::new(alloc);
-    let is_sent = session.fill(16, &mut out).is_ok()
-        || (out.is_empty() && session.fill(16, &mut out).is_ok());
+    let is_sent = session.fill(&mut out).is_ok()
+        || (out.is_empty() && session.fill(&mut out).is_ok());
     is_sent && are_sent(out.as_slice(), wanted)
 }
 
@@ -64,9 +64,9 @@ fn is_released(alloc: Global, session: &mut Session) -> bool {
 // Returns true if an identifier comes for the first time, and then again.
 fn is_received(session: &mut Session) -> bool {
     let id = PacketId::new(7);
-    let is_first = session.receive(id) == Ok(Arrival::First)
-        || (!session.is_received(id) && session.receive(id) == Ok(Arrival::First));
-    is_first && session.receive(id) == Ok(Arrival::Again)
+    let is_first = session.inbound(id) == Ok(Arrival::First)
+        || (!session.is_received(id) && session.inbound(id) == Ok(Arrival::First));
+    is_first && session.inbound(id) == Ok(Arrival::Again)
 }
 
 // Returns the first step that fails, in words.

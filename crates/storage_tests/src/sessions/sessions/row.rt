@@ -112,7 +112,7 @@ fn came_instead(alloc: Global, session: &mut Session, row: Row<'_>) -> Option<Ca
         Row::Room(room) => unless(session.room() == room),
         Row::Puback(number) => unless(id_of(number).map(|id| session.on_puback(id)).is_some()),
         Row::Pubcomp(number) => unless(id_of(number).map(|id| session.on_pubcomp(id)).is_some()),
-        Row::Pubrel(number) => unless(id_of(number).map(|id| session.on_pubrel(id)).is_some()),
+        Row::Pubrel(number) => unless(id_of(number).map(|id| session.release(id)).is_some()),
         Row::Received(number, is) => unless(is_received(session, number) == is),
         Row::Subscribe(text, qos, count) => unless(subscribe(alloc, session, text, qos, count)),
         Row::Unsubscribe(text, count) => unless(unsubscribe(alloc, session, text, count)),
@@ -162,7 +162,7 @@ fn is_full(alloc: Global, session: &mut Session) -> bool {
 
 fn fill(alloc: Global, session: &mut Session, wanted: &[Sent]) -> Option<Came> {
     let mut out = Vec::new(alloc);
-    if session.fill(WINDOW, &mut out).is_err() {
+    if session.fill_within(WINDOW, &mut out).is_err() {
         return Some(Came::Nothing);
     }
     sent_instead(out.as_slice(), wanted)
@@ -242,7 +242,7 @@ fn receive(session: &mut Session, number: u16, wanted: Arrival) -> Option<Came> 
     let Some(id) = id_of(number) else {
         return Some(Came::Nothing);
     };
-    match session.receive(id) {
+    match session.inbound(id) {
         Ok(arrival) if arrival == wanted => None,
         Ok(arrival) => Some(Came::Arrived(arrival)),
         Err(_) => Some(Came::Nothing),

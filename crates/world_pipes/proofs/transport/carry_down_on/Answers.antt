@@ -5,7 +5,7 @@ use Rattle.world_pipes.proofs.transport.carry_down_on.Goals as goal
 
 pub returns-in-Err : goal.returns-in-Err
 returns-in-Err c =
-    let last : c.lose_connection.new.self ≡ gone c.carry_to_client-read.new.core = search rules in
+    let last : c.lost.new.self ≡ gone c.carry_to_client-read.new.core = search rules in
     rw last
     (heard_in_vain c.args.count c.args.core.now c.carry_to_client-read.new.core c.args.pairs.now.items c.move_up.new.pairs.items c.len-newest.result
     c.index_mut.result.now c.carry_to_client-read.new.pair c.carry_to_client-read.result c.in-Err.error c.requires.some (search rules) c.index_mut.ensures.value

@@ -131,7 +131,7 @@ fn first_fault_at_end(
     }
     if world.losses() > 0 {
         Some("no step of the way counted a loss")
-    } else if world.active().0 != ballot {
+    } else if world.active() != ballot {
         Some("the next ballot is active at the end")
     } else if !begins_agreed(before, world) {
         Some("what was agreed before begins what is agreed at the end")
@@ -145,7 +145,7 @@ fn first_fault_at_end(
 // Returns true if a client is online with its session present.
 fn is_online_with_session(world: &World, client: &ClientId) -> bool {
     match world.client(client) {
-        Some(core) => core.is_connected() && core.is_session_present(),
+        Some(core) => core.connected() && core.present(),
         None => false,
     }
 }
@@ -301,7 +301,7 @@ fn bring_back_by(world: &mut World, way: &[Event], client: &ClientId) -> Answer 
         "it is online with its session",
     )?;
     unless(world.agreed_len() == 3, "three commands are agreed")?;
-    unless(world.active().0 == 2, "ballot 2 is active")?;
+    unless(world.active() == 2, "ballot 2 is active")?;
     unless(world.losses() == 0, "nothing was lost")
 }
 
@@ -319,7 +319,7 @@ fn lead_out_or_report(world: &mut World, client: &ClientId) -> Answer {
     match world.escape(&[2], client) {
         Ok(way) => {
             world.run(way.as_slice());
-            let is_out = world.active().0 == 2 && is_online_with_session(world, client);
+            let is_out = world.active() == 2 && is_online_with_session(world, client);
             unless(
                 world.losses() > 0 || is_out,
                 "the way has its end, or a loss",

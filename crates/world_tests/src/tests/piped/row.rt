@@ -168,7 +168,7 @@ fn is_right(alloc: Global, client: &mut PipedClient, row: Row<'_>) -> bool {
         Row::Abandon => is_abandoned(client),
         Row::Disconnect => client.disconnect() == Ok(Sending::Sent),
         Row::CannotDisconnect => client.disconnect() == Err(ClientError::NotActive),
-        Row::Connected => client.core().is_connected(),
+        Row::Connected => client.core().connected(),
         Row::IsOpen(open) => client.is_open() == open,
         Row::Kept(count) => client.core().kept() == count,
         Row::Accepted(count) => client.core().accepted().len() == count,

@@ -2,7 +2,7 @@ use Rattle.std.proofs.Common.{◌∙◌, sym, ap, refl, arith}
 use Rattle.mailbox.proofs.AllLanesByIndex.{all_by_index, as_many, placed_of_all}
 use Rattle.mailbox.proofs.PassNumbers.{not_false}
 use Rattle.mailbox.proofs.receiver.Receiver.has_all.Goals as goal
-use Rattle.mailbox.proofs.receiver.Receiver.has_all.Goals.{then-inbox_number-via-then-inbox_number, then-inbox_number-via-else-inbox_number+then-from-index}
+use Rattle.mailbox.proofs.receiver.Receiver.has_all.Goals.{then-number-via-then-number, then-number-via-else-number+then-from-index}
 
 pub returns-then-lanes : goal.returns-then-lanes
 returns-then-lanes g c = (
@@ -10,14 +10,14 @@ returns-then-lanes g c = (
   λ are. absurd (c.if-lanes.true (as_many c.args.self.now c.args.lanes.now are ∙ sym c.lanes.ensures)),
 )
 
-pub returns-then-inbox_number : goal.returns-then-inbox_number
-returns-then-inbox_number g c = (
+pub returns-then-number : goal.returns-then-number
+returns-then-number g c = (
   (λ t. absurd (not_false t)),
   λ are.
       let is = placed_of_all c.args.self.now c.args.lanes.now c.loop-index.index are (omega arith) c.index-lanes-index.result in
-      absurd (elim c.then-inbox_number.branch [
-        | then-inbox_number-via-then-inbox_number w ↦ omega (arith, is.0, w.if-inbox_number.true, ap (λ s. s.inbox) c.index-lanes-index.is)
-        | then-inbox_number-via-else-inbox_number+then-from-index w ↦ omega (arith, is.1, w.if-from-index.true, ap (λ s. s.lane) c.index-lanes-index.is)
+      absurd (elim c.then-number.branch [
+        | then-number-via-then-number w ↦ omega (arith, is.0, w.if-number.true, ap (λ s. s.inbox) c.index-lanes-index.is)
+        | then-number-via-else-number+then-from-index w ↦ omega (arith, is.1, w.if-from-index.true, ap (λ s. s.lane) c.index-lanes-index.is)
       ]),
 )
 

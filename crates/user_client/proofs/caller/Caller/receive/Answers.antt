@@ -14,7 +14,7 @@ returns-clause-trace c =
     let online = is_online c.on_bytes.new.self.state.stage in
     let now : c.if-self.self ≡ (c.self.inside.was_accepted || online) = elim c.if-self.branch [
       | then-self w ↦ w.self-is ∙ w.if-self.true ∙ sym (ap (λ (was : Bool). was || online) w.if-self.true)
-      | else-self w ↦ w.self-is ∙ c.is_connected-is_connected.ensures ∙ sym (ap (λ (was : Bool). was || online) w.if-self.false)
+      | else-self w ↦ w.self-is ∙ c.connected-is_connected.ensures ∙ sym (ap (λ (was : Bool). was || online) w.if-self.false)
     ] in
     heard c.self.inside.core c.self.inside.was_accepted c.if-self.self c.args.piece.now c.on_bytes.result c.on_bytes.new.self
     c.self.view_is c.on_bytes.ensures c.in_ok-is_open.ensures.ok c.in_ok-check_first_session.ensures.ok now

@@ -3,4 +3,4 @@ use Rattle.world_pipes.proofs.Pairs.{losing_follows}
 use Rattle.world_pipes.proofs.piped_client.PipedClient.abandon.Goals as goal
 
 pub returns-clause-goes : goal.returns-clause-goes
-returns-clause-goes c = rw (← c.self.view_is, c.lose_connection.ensures) (losing_follows (piped c.self.inside.core c.self.inside.pairs.items))
+returns-clause-goes c = rw (← c.self.view_is, c.lost.ensures) (losing_follows (piped c.self.inside.core c.self.inside.pairs.items))

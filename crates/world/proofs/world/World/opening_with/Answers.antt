@@ -3,7 +3,7 @@ use Rattle.headline.specs.node_group.Group.{opening_group}
 use Rattle.headline.specs.node_group.Steps.GroupTrace.{opened}
 use Rattle.world.proofs.StaysReached.{are_reached}
 use Rattle.world.proofs.OpensReached.{housed_none, opens_reached}
-use Rattle.world.proofs.world.World.opening.Goals as goal
+use Rattle.world.proofs.world.World.opening_with.Goals as goal
 
 pub returns-clause-reached : goal.returns-clause-reached
 returns-clause-reached c =

@@ -7,7 +7,7 @@ use Rattle.master.specs.Group.{GroupState}
 use Rattle.master.proofs.Groups.{group_opens}
 use Rattle.master.proofs.LossesCounted.{counts_opened}
 use Rattle.master.proofs.StepsOfNodes.{opened_moment, opened_more}
-use Rattle.master.proofs.group.Group.opening.Goals as goal
+use Rattle.master.proofs.group.Group.opening_with.Goals as goal
 
 pub loop-at-preserved : goal.loop-at-preserved
 loop-at-preserved g c =

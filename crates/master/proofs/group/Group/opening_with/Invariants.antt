@@ -2,7 +2,7 @@ use Rattle.std.proofs.Common.{◌≡◌, map}
 use Rattle.ballot_base.specs.Replica.{CountedReplica}
 use Rattle.agreement.specs.cut_logs.Moments.{opening_nodes}
 use Rattle.master.specs.Inside.{CountsAtMost}
-use Rattle.master.proofs.group.Group.opening.Given as goal
+use Rattle.master.proofs.group.Group.opening_with.Given as goal
 
 abbrev pub invariant-loop-at : goal.invariant-loop-at
 invariant-loop-at g l =
