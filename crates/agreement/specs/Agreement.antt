@@ -1,4 +1,12 @@
 -- What it means that nodes agree on a list.
+--
+-- No field of any node keeps the past: agreement is a statement about every trace of moments
+-- (`Moments`) that leads to the value in hand. The theorems rest on four invariants. A ballot has
+-- one primary, the one that the master assigned. While a node holds its log in one ballot the log
+-- only grows, so an acknowledged length names a prefix. A ballot becomes active only when all its
+-- members hold its log. And that log came from a member of the ballot that was active before, which
+-- has everything chosen there. So the list chosen in a ballot is a prefix of the list of each later
+-- one.
 use Rattle.std.specs.Prelude.{ℕ, ◌+◌, ◌≡◌, ◌⊎◌, List, take, slice_get, Some}
 use Rattle.machine.specs.Machine.{Rules}
 use Rattle.agreement.specs.whole_logs.Replica.{ReplicaState}

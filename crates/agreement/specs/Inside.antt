@@ -1,4 +1,4 @@
--- What proofs say about groups; no law cites it.
+-- Definitions for the proofs about groups; no theorem cites them.
 pub mod Ballots
 pub mod BallotsStand
 pub mod Begun

@@ -1,4 +1,4 @@
--- What left a group, and in which order.
+-- Which outputs left a group, and in which order.
 use Rattle.std.specs.Prelude.{ℕ, ◌<◌, ◌≤◌, ◌≡◌, ◌⊎◌, List, length, slice_get, Some}
 use Rattle.std.specs.List.{flat_map}
 use Rattle.machine.specs.Machine.{Rules}
@@ -7,7 +7,7 @@ use Rattle.agreement.specs.whole_logs.Application.{outputs_between}
 use Rattle.agreement.specs.Moments.{Moment, WasActive}
 use Rattle.agreement.specs.World.{GroupWorld, outputs}
 
--- the places whose outputs one commit gave: by which ballot's primary, from where to where
+-- the places whose outputs one commit returned: in which ballot, from which place to which
 pub record Segment : Type 0 where
   pub ballot : ℕ
   pub first : ℕ

@@ -37,13 +37,14 @@ activating master ballot (Some (waiting, config)) =
     then record master { active = ballot; members = config.members; waiting = None }
     else master
 
--- whether a ballot is active then: it waited, or was active before. Any other was superseded.
+-- whether Activate is answered with Activated: the ballot waited, or is active already. Any other
+-- was superseded.
 abbrev pub is_granted : MasterState → ℕ → Option (ℕ × Config) → Bool
 is_granted master ballot None = ballot == master.active
 is_granted master ballot (Some (waiting, config)) =
     if ballot == waiting then true else ballot == master.active
 
--- Assign: a message to the primary with the ballot
+-- Assign: NewBallot goes to the primary of the configuration
 abbrev pub assigned : (C : Type 0) → MasterState → Config → MasterOutcome C
 assigned C master config =
     record {

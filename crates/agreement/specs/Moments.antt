@@ -1,4 +1,4 @@
--- The moments of a group from its opening on, and what its members acknowledged in each ballot.
+-- The moments of a group since it opened, and what its members acknowledged in each ballot.
 use Rattle.std.specs.Prelude.{ℕ, true, false, ◌+◌, ◌≤◌, ◌≡◌, ◌⊎◌, List, [], ◌∷◌, length, slice_get}
 use Rattle.std.specs.Prelude.{take, Some}
 use Rattle.lists.specs.Lists.{In, IsPrefixOf}
@@ -23,8 +23,8 @@ opening_moment rules nodes config =
     record { master = opening_master config; world = opening_world rules nodes config }
 
 -- A node that is no active primary applies places of its log that some node had applied at an
--- earlier moment, and has no output for them. At that moment the other node was in no higher ballot
--- than this node is in now. To take over a snapshot in place of the commands is such a step.
+-- earlier moment, without an output. At that moment the other node was in no higher ballot than
+-- this node is in now. Taking over a snapshot in place of the commands is such a step.
 pub record Learns {S C O : Type 0} (rules : Rules S C O) (moments : List (Moment S C O))
     (moment next : Moment S C O) : Type 0 where
   pub node : ℕ
@@ -64,8 +64,8 @@ pub data Moments {S C O : Type 0} (rules : Rules S C O) (config : Config) :
       Moments rules config (moment ∷ moments) → Learns rules (moment ∷ moments) moment next →
       Moments rules config (next ∷ moment ∷ moments)
 
--- the configuration of a ballot: that of the opening for ballot 1, and otherwise the one with which
--- the master let the ballot wait
+-- the configuration of a ballot: that of the opening for ballot 1, otherwise the one with which the
+-- master assigned the ballot
 pub data HasConfig {S C O : Type 0} (config : Config) (moments : List (Moment S C O)) (ballot : ℕ)
     (configuration : Config) : Type 0 where
   -- ballot 1 has the first configuration
@@ -87,9 +87,9 @@ AcknowledgedLength world member ballot held =
     × (In (receiver, record { from = member; body = Held ballot held }) world.sent
     ⊎ In (receiver, record { from = member; body = Installed ballot held }) world.sent)
 
--- The node at this index has acknowledged a list in a ballot: the primary by holding it as its log
+-- The node at this index has acknowledged a list in a ballot: the primary by having it as its log
 -- there, another member by a message with its length, from a log of which it is a prefix. While a
--- node holds its log in one ballot the log only grows, so it had that prefix when it sent that.
+-- node is in one ballot its log only grows, so it had that prefix when it sent the message.
 pub data HasAcknowledged {S C O : Type 0} (config : Config) (moments : List (Moment S C O))
     (ballot node : ℕ) (list : List C) : Type 0 where
   -- the primary holds the list as its log
@@ -98,7 +98,7 @@ pub data HasAcknowledged {S C O : Type 0} (config : Config) (moments : List (Mom
       replica.held_in ≡ ballot → HasConfig config moments ballot configuration →
       configuration.primary ≡ node + 1 → replica.log ≡ list →
       HasAcknowledged config moments ballot node list
-  -- a member said how much of its log it holds
+  -- a member acknowledged a length of its log
   told_by_message : (moment : Moment S C O) (replica : ReplicaState S C) → In moment moments →
       slice_get moment.world.nodes node ≡ Some replica → replica.held_in ≡ ballot →
       AcknowledgedLength moment.world (node + 1) ballot (length list) →

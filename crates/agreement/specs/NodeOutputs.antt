@@ -27,7 +27,7 @@ given_in node (master_hears from ballot sent) = []
 given_in node (assignment_lost config) = []
 given_in node (answer_lost from ballot sent) = []
 
--- all that it gave up to the last of some moments, in order
+-- all that it output up to the last of some moments, in order
 abbrev pub given_of : {S C O : Type 0} {rules : Rules S C O} {config : Config}
     {moments : List (Moment S C O)} → ℕ → Moments rules config moments → List (ℕ × O)
 given_of node (began nodes lawful is) = []
@@ -39,8 +39,8 @@ given_of node (learned came learns) = given_of node came
 abbrev pub gives_from : {S C : Type 0} → ReplicaState S C → ℕ
 gives_from replica = if is_active replica.role then replica.committed else length replica.log
 
--- what a node gave while it became another: nothing if it is no active primary, and otherwise the
--- machine's answers at the places of the list from there on to where it has applied it now
+-- what a node outputs while its state changes: nothing if it is no active primary, otherwise the
+-- machine's answers at the places of the list between the old applied length and the new one
 pub record GivesNext {S C O : Type 0} (rules : Rules S C O) (old new : ReplicaState S C)
     (list : List C) (given : List (ℕ × O)) : Type 0 where
   pub idle : is_active new.role ≡ false → given ≡ []
@@ -56,16 +56,16 @@ pub data LeadsOn {S C O : Type 0} {rules : Rules S C O} {config : Config} (node 
     (came : Moments rules config (moment ∷ moments)) :
     (last : Moment S C O) (later : List (Moment S C O)) → Moments rules config (last ∷ later) →
     Type 0 where
-  -- it is so at the moment itself
+  -- it leads at the moment itself
   leads_there : IsPrimary moment.world node ballot → LeadsOn node ballot came moment moments came
-  -- it is so after one more step
+  -- it still leads after one more step
   leads_still : {previous next : Moment S C O} {later : List (Moment S C O)}
       {more : Moments rules config (previous ∷ later)} →
       LeadsOn node ballot came previous later more →
       (step : MayHappen rules previous.master previous.world next.master next.world) →
       IsPrimary next.world node ballot →
       LeadsOn node ballot came next (previous ∷ later) (went_on more step)
-  -- it is so after a node learned something
+  -- it still leads after a node learned something
   leads_beside : {previous next : Moment S C O} {later : List (Moment S C O)}
       {more : Moments rules config (previous ∷ later)} →
       LeadsOn node ballot came previous later more →

@@ -83,12 +83,12 @@ taken_at node (began nodes lawful is) = []
 taken_at node (went_on came step) = taken_at node came ++ takes_at node step
 taken_at node (learned came learns) = taken_at node came
 
--- the rows of one ballot
+-- the proposals of one ballot
 abbrev pub rows_in : {C : Type 0} → ℕ → List (ℕ × C) → List (ℕ × C)
 rows_in {C} ballot rows = filter (λ (row : ℕ × C). row.0 == ballot) rows
 
--- the node at this index took a proposal in a step: it ran, and was the active primary of the
--- ballot that the row names; after the step its log is what it was, with the command at its end
+-- the node at this index took a proposal in a step: it ran, was the active primary of the ballot
+-- that the proposal names, and appended the command at the end of its log
 pub record IsTaken {S C O : Type 0} (world next_world : GroupWorld S C O) (node : ℕ)
     (row : ℕ × C) : Type 0 where
   pub primary : IsPrimary world node row.0
@@ -97,7 +97,7 @@ pub record IsTaken {S C O : Type 0} (world next_world : GroupWorld S C O) (node 
   pub stands : slice_get next_world.nodes node ≡ Some after
   pub log : after.log ≡ primary.replica.log ++ row.1 ∷ []
 
--- some of a list, in order
+-- a sublist, in order
 pub data IsPartOf {X : Type 0} : List X → List X → Type 0 where
   -- both lists are empty
   nothing_left : IsPartOf [] []

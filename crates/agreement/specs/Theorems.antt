@@ -1,4 +1,4 @@
--- What holds for all moments of a group whose master answers each Assign.
+-- The theorems about all moments of a group whose master answers each Assign.
 use Rattle.std.specs.Prelude.{ℕ, Bool, ◌≤◌, ◌≡◌, List, [], ◌∷◌, ◌++◌, filter, length}
 use Rattle.std.specs.Prelude.{slice_get, Some}
 use Rattle.machine.specs.Machine.{Rules}
@@ -34,7 +34,7 @@ NodesAgree {S} {C} {O} rules =
     Agrees rules moment.master moment.world agreed × Holds moment.master moment.world agreed
     × LeftInOrder rules (moment ∷ moments) moment.world agreed
 
--- what is agreed begins what is agreed at the next moment
+-- the agreed list is a prefix of the agreed list at the next moment
 abbrev pub AgreedGrows : {S C O : Type 0} → Rules S C O → Type 0
 AgreedGrows {S} {C} {O} rules =
     (config : Config) (moment : Moment S C O) (moments : List (Moment S C O))

@@ -1,5 +1,5 @@
-//! Groups whose nodes cut their logs, and the proof that they agree. No code runs here; the laws
-//! are contracts of calls that do nothing.
+//! Groups whose nodes cut their logs, and the proof that they agree. No code runs here: the
+//! theorems are the contracts of functions with an empty body.
 
 mod theorems;
 

@@ -1,5 +1,5 @@
 //! Nodes with changes of configuration: what may happen to them, and the proof that they agree. No
-//! code runs here; the laws are contracts of calls that do nothing.
+//! code runs here: the theorems are the contracts of functions with an empty body.
 #![tactic(auto)]
 
 pub mod cut_logs;

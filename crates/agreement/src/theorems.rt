@@ -1,4 +1,5 @@
-// Laws of groups with changes of configuration. The calls do nothing; their contracts are the laws.
+// Theorems about groups with changes of configuration: the contracts of functions with an empty
+// body.
 
 ghost use Rattle.agreement.specs.Theorems.{
   AgreedGrows,

@@ -38,7 +38,7 @@ abbrev pub PlainStepOrLost : {S C O : Type 0} → Rules S C O → CountedReplica
 PlainStepOrLost rules old outcome new before after =
     ReadingStepOrLost rules old outcome false new before after
 
--- what is left by a proposal for which there was no memory
+-- what a proposal leaves behind if there was no memory for it
 abbrev pub Lacks : {S C O : Type 0} →
     Rules S C O → ProposeError → CountedReplica S C → CountedReplica S C → Type 0
 Lacks rules NotActive old new = ⊥
@@ -47,8 +47,8 @@ Lacks rules Memory old new = new ≡ record old { losses = one_more old.losses }
 Lacks rules Halted old new =
     new ≡ record { state = halted rules old.state; losses = one_more old.losses }
 
--- a primary that has become active sends the others the last place of its log, and commits what all
--- hold; messages that were lost are counted
+-- an active primary sends the others the start of its ballot, and commits what all hold; lost
+-- messages are counted
 pub record ActivationOrLost {S C O : Type 0} (rules : Rules S C O) (old new : CountedReplica S C)
     (before after : List (Effect C O)) : Type 0 where
   pub whole : Bool

@@ -1,4 +1,4 @@
--- When a message or a tick has an effect, by the rows of the protocol.
+-- When a message or a tick has an effect, by the protocol.
 use Rattle.std.specs.Prelude.{ℕ, Bool, true, false, List, length, ◌==◌, ◌&&◌, ◌||◌, nat_lt, nat_le}
 use Rattle.std.specs.List.{list_any}
 use Rattle.ballot_base.specs.declared.message.Body.{Body}
@@ -14,7 +14,7 @@ use Rattle.ballot_base.specs.Logs.{places}
 use Rattle.ballot_base.specs.Replica.{ReplicaState}
 use Rattle.ballot_base.specs.Service.{least, raised, follows, leads}
 
--- whether a member is known to hold less than this
+-- whether a member is known to hold less than `held`
 abbrev pub rises : ℕ → ℕ → List Progress → Bool
 rises member held progress =
     list_any (λ reached. reached.member == member && nat_lt reached.held held) progress

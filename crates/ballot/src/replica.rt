@@ -1,4 +1,17 @@
-// One replica.
+// One replica: a log, the machine that applies it, and a role in a ballot.
+//
+// Invariants: `log.base <= committed <= log.places()`, and at base 0 the snapshot is empty. Places
+// are applied in order. Only an active primary returns outputs, and none twice: `committed` never
+// falls while it runs. A primary commits a place only once every member is known to hold it, so any
+// one surviving member has all that was committed.
+//
+// A call takes the step of `ballot_base` exactly, or counts a loss. What memory cannot be found for
+// is lost at the edges alone: a message, a refused proposal. If a command cannot be applied, the
+// machine may have done part of it; the replica then stops for good, and its view shows the
+// machine's opening state, since the real one is no longer meaningful.
+//
+// That the machine is the replay of the applied places is not an invariant of this type: a replica
+// alone may be sent any log. `agreement` proves it for every replica of a group.
 
 ghost use Rattle.std.specs.Prelude.{◌≡◌, ◌≤◌, ◌<◌, ◌↔◌, ◌⊎◌, true, false, IfOk, OnOk, OnErr};
 ghost use Rattle.std.specs.Prelude.{IsErrOf, MatchResult};
@@ -30,10 +43,9 @@ mod relevance;
 mod ticks;
 mod transfer;
 
-/// A log, the machine that it drives and a role in a ballot. It reaches other nodes only by the
-/// messages that its calls return. Its calls also return the machine's outputs, with their places.
+/// A log, the machine that applies it, and a role in a ballot. It reaches other nodes only by the
+/// messages that its calls return, beside the machine's outputs and their places.
 pub struct Replica<M: Machine> {
-    // Gives memory for lists and messages.
     alloc: Global,
     // The number of the node, from 1 to `MAX_NODE`.
     id: u8,
@@ -41,28 +53,25 @@ pub struct Replica<M: Machine> {
     joined: u64,
     // The ballot in which its log was last installed; 0 before the first.
     held_in: u64,
-    // What it does in the ballot that it joined.
+    // Its role in the ballot that it joined.
     role: Role,
-    // The members of the ballot that it leads.
+    // The members of the ballot that it leads, the earlier ballot, and the members of that one.
     members: Members,
-    // The earlier ballot, which that one follows.
     previous: u64,
-    // The members of that earlier ballot.
     previous_members: Members,
-    // The other members that lack the log that is being installed.
+    // The other members that still lack the log that is being installed.
     lacking: Vec<u8>,
-    // What each member is known to hold.
+    // How much each other member is known to hold.
     progress: Vec<Progress>,
-    // Its commands, those below its base as a snapshot.
+    // Its commands; those below the base are in the snapshot.
     log: Log<M::Command>,
     // How many places are applied.
     committed: u64,
     // The machine after these places.
     machine: M,
-    // Whether it does nothing any more.
+    // True once it does nothing any more.
     stopped: bool,
-    // How many of its calls lost something, for want of memory or since a snapshot was not read; up
-    // to 2^64 - 1.
+    // How many of its calls lost something (saturates at 2^64 - 1).
     losses: u64,
 }
 
@@ -122,7 +131,7 @@ impl<M: Machine> Model for Replica<M> {
 }
 
 impl<M: Machine> Replica<M> {
-    /// Opens node `id` in ballot 1: its members begin with an empty log, its primary is active.
+    /// Opens node `id` in ballot 1: members start with an empty log, and the primary is active.
     pub fn new(alloc: Global, id: u8, config: &Config) -> Result<Replica<M>, OpeningError>
         requires low { 1 ≤ id }
         requires high { id ≤ MAX_NODE }
@@ -145,8 +154,7 @@ impl<M: Machine> Replica<M> {
         Ok(replica)
     }
 
-    // Returns node `id` in ballot 1 with a new machine, as a backup. A node that is no member has
-    // joined no ballot.
+    // Returns node `id` as a backup of ballot 1. A node that is no member has joined no ballot.
     fn new_backup(alloc: Global, id: u8, config: &Config, machine: M) -> Replica<M>
         requires { machine ≡ M.rules.opening }
         ensures { result ≡ record {
@@ -175,7 +183,7 @@ impl<M: Machine> Replica<M> {
         }
     }
 
-    // Makes this node the active primary of these members, none of which holds a place.
+    // Makes this node the active primary of ballot 1, in which no member holds a place yet.
     fn lead_first_ballot(&mut self, config: &Config) -> Result<(), Memory>
         ensures { OnOk result (self.new ≡ record self.old {
           state = record self.old.state {
@@ -192,7 +200,7 @@ impl<M: Machine> Replica<M> {
         Ok(())
     }
 
-    /// Returns what the replica shows of itself.
+    /// Returns the status of the replica.
     pub fn status(&self) -> Status
         ensures { result ≡ status_of self.now.state }
     {
@@ -205,8 +213,8 @@ impl<M: Machine> Replica<M> {
         }
     }
 
-    /// Returns the commands of the log from its base on. [`Replica::snapshot`] returns the base.
-    /// What is applied lies within the log.
+    /// Returns the commands of the log from its base on, which [`Replica::snapshot`] returns.
+    /// Everything applied is within the log.
     pub fn rest(&self) -> &[M::Command]
         ensures rest { result.now ≡ self.now.state.log.rest }
         ensures within { self.now.state.committed ≤ places self.now.state.log }
@@ -214,15 +222,15 @@ impl<M: Machine> Replica<M> {
         self.log.rest()
     }
 
-    /// Returns how many calls lost something, for want of memory or since a snapshot was not read
-    /// (saturates at 2^64 - 1).
+    /// Returns how many calls lost something, because memory ran out or a snapshot could not be
+    /// read (saturates at 2^64 - 1).
     pub fn losses(&self) -> u64
         ensures { result ≡ self.now.losses }
     {
         self.losses
     }
 
-    /// Stops for good, as a crash of its node does. After it the replica shows everything except
+    /// Stops for good, as a crash of the node does. Afterwards the replica shows everything except
     /// its machine.
     pub fn stop(&mut self)
         ensures { self.new ≡ record self.old {
@@ -232,9 +240,9 @@ impl<M: Machine> Replica<M> {
         self.stopped = true;
     }
 
-    /// Adds a command to the log of an active primary. Its outputs are returned, with its place,
-    /// once every member is known to hold it: for a sole member in this call, otherwise in a later
-    /// one. If memory runs out for a message, that message is lost.
+    /// Proposes a command: appends it to the log of an active primary. Its outputs are returned,
+    /// with its place, once every member is known to hold it: by this call for a sole member,
+    /// otherwise by a later one. A message for which memory runs out is lost.
     pub fn propose(
         &mut self,
         command: M::Command,
@@ -248,7 +256,7 @@ impl<M: Machine> Replica<M> {
             (StepMessagesOrLost self.old (added M.rules self.old.state command)
             self.new out.old.items out.new.items) }
 
-        // When each refusal comes; only running out of memory may happen at any time.
+        // When each refusal comes. Only running out of memory may happen at any time.
         ensures halted { IsErrOf result ProposeError.Halted ↔ (self.new.state.stopped ≡ true) }
         ensures not_active { IsErrOf result ProposeError.NotActive
             ↔ ((self.old.state.stopped ≡ false) × (is_active self.old.state.role ≡ false)) }
@@ -278,7 +286,7 @@ impl<M: Machine> Replica<M> {
     }
 
     // Appends a command to the log, sends it to the other members and commits what all hold. A call
-    // that fails takes back the command and what it sent; after `Halted` the replica has stopped.
+    // that fails takes back the command and its messages; after `Halted` the replica has stopped.
     fn add(
         &mut self,
         command: M::Command,
@@ -313,8 +321,8 @@ impl<M: Machine> Replica<M> {
         }
     }
 
-    // Sends the command of the next place to the other members. Returns whether there was memory
-    // for all messages.
+    // Sends Append with the command of the next place to the other members. Returns true if no
+    // message was lost.
     fn send_next(&self, command: &M::Command, out: &mut Vec<Effect<M::Command, M::Output>>) -> bool
         ensures { Sends out.old.items out.new.items
             (message_to_followed M.Output self.now.state.id
@@ -333,10 +341,9 @@ impl<M: Machine> Replica<M> {
         )
     }
 
-    // Commits the places below `held`: applies those that are not yet applied, returns their
-    // outputs and sends Commit to the other members. Returns whether there was memory for all
-    // messages. On an error the replica has stopped, and some outputs may have been appended to
-    // `out`.
+    // Commits the places below `held`: applies those not yet applied, returns their outputs and
+    // sends Commit to the other members. Returns true if no message was lost. On an error the
+    // replica has stopped, and some outputs may have been appended to `out`.
     fn commit_at(
         &mut self,
         held: u64,

@@ -1,5 +1,5 @@
--- The rows of the protocol from the last Installed to Activated, or to Superseded. A message that a
--- row's condition does not cover changes nothing.
+-- The transitions of the protocol from the last Installed to Activated or Superseded. A message
+-- whose condition does not hold changes nothing.
 use Rattle.std.specs.Prelude.{ℕ, Bool, List, [], ◌∷◌, length, ◌==◌, ◌&&◌, nat_lt, nat_le}
 use Rattle.std.specs.Prelude.{if◌then◌else◌}
 use Rattle.std.specs.List.{list_any}
@@ -18,12 +18,12 @@ abbrev pub activates : {S C : Type 0} (O : Type 0) → ReplicaState S C → List
 activates O replica [] = message_to O replica.id (Activate replica.joined) master ∷ []
 activates O replica (member ∷ members) = []
 
--- whether a replica is the new primary of the ballot that sends its log
+-- whether this is the new primary of the ballot, and installs its log
 abbrev pub is_installing_in : {S C : Type 0} → ReplicaState S C → ℕ → Bool
 is_installing_in replica ballot = replica.joined == ballot && is_installing replica.role
 
--- Installed(ballot, ..): a member that lacked the log of this ballot has it now; with the last one
--- the master may activate the ballot
+-- Installed(ballot, ..): a member of this ballot now has the log; with the last one the master may
+-- activate the ballot
 unfoldable pub on_installed : {S C : Type 0} (O : Type 0) → ReplicaState S C → ℕ → ℕ → Outcome S C O
 on_installed O replica from ballot =
     let fewer = record replica { lacking = others from replica.lacking } in

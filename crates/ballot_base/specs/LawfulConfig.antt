@@ -7,7 +7,7 @@ use Rattle.ballot_base.specs.declared.config.TheConstants.{MAX_MEMBERS, MAX_NODE
 abbrev pub max_node : ℕ
 max_node = MAX_NODE
 
--- how many members a ballot has at most
+-- the most members a ballot has
 abbrev pub max_members : ℕ
 max_members = MAX_MEMBERS
 

@@ -1,5 +1,5 @@
--- A step in which something was lost, for want of memory or since a snapshot was not read, and how
--- such steps are counted.
+-- Steps with losses, because memory ran out or a snapshot could not be read, and how they are
+-- counted.
 use Rattle.std.specs.Prelude.{ℕ, ◌+◌, ◌-◌, ◌^◌, ◌≡◌, ◌⊎◌, true, List, [], ◌∷◌, ◌++◌, min}
 use Rattle.machine.specs.Machine.{Rules}
 use Rattle.ballot_base.specs.declared.message.Message.{Message}

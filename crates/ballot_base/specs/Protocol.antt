@@ -1,4 +1,11 @@
 -- The step of a replica on a message, a proposal or a tick.
+--
+-- The step is a total function, and a message whose condition does not hold changes nothing: so
+-- late, repeated and foreign messages need no case of their own. An Append is taken only at the
+-- next place, by a backup of that very ballot; Held and Commit count only at its primary and its
+-- backups. Join and Install never lower the joined ballot, and no log is taken that lacks an
+-- applied place. A tick changes no log and no role: it only retransmits, so nothing depends on when
+-- it comes.
 use Rattle.std.specs.Prelude.{ℕ}
 use Rattle.machine.specs.Machine.{Rules}
 use Rattle.ballot_base.specs.declared.message.Message.{Message}

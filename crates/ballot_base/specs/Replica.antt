@@ -31,7 +31,7 @@ pub record ReplicaState (S C : Type 0) : Type 0 where
   pub progress : List Progress
   pub stopped : Bool
 
--- a replica with the number of its calls in which something was lost, up to 2^64 - 1
+-- a replica with the number of its calls in which something was lost (saturates at 2^64 - 1)
 pub record CountedReplica (S C : Type 0) : Type 0 where
   pub state : ReplicaState S C
   pub losses : ℕ

@@ -1,5 +1,5 @@
--- The rows of the protocol inside a ballot: Append, Held, Commit, proposals, ticks. Receivers are
--- in rising order. A message that no row's condition covers changes nothing.
+-- The transitions of the protocol within a ballot: Append, Held, Commit, proposals, ticks. Messages
+-- go to members in rising order. A message whose condition does not hold changes nothing.
 use Rattle.std.specs.Prelude.{ℕ, Bool, List, [], ◌∷◌, ◌++◌, map, min, max, Option, Some, None, ◌==◌, ◌&&◌, nat_lt, nat_le, if◌then◌else◌}
 use Rattle.std.specs.List.{flat_map}
 use Rattle.machine.specs.Machine.{Rules}
@@ -18,16 +18,16 @@ abbrev pub least : ℕ → List Progress → ℕ
 least held [] = held
 least held (reached ∷ progress) = least (min held reached.held) progress
 
--- the progress of a member becomes the greater of it and what the member now holds
+-- raises the progress of a member to what it now holds, if it was lower
 abbrev pub raised_progress : ℕ → ℕ → Progress → Progress
 raised_progress member held reached =
     if reached.member == member then record reached { held = max reached.held held } else reached
 
--- the progress in a list, of which that of this member is raised
+-- the progress list, with that of one member raised
 abbrev pub raised : ℕ → ℕ → List Progress → List Progress
 raised member held progress = map (raised_progress member held) progress
 
--- places below `held` are applied, their outputs returned, and the other members sent a Commit
+-- places below `held` are applied, their outputs returned, and Commit is sent to the other members
 unfoldable pub commit_at : {S C O : Type 0} → Rules S C O → ReplicaState S C → ℕ → Outcome S C O
 commit_at {O = O} rules replica held =
     if nat_lt replica.committed held

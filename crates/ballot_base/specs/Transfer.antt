@@ -1,5 +1,5 @@
--- The rows of the protocol between ballots, from NewBallot to Install, and the ticks of a new
--- primary. A message that a row's condition does not cover changes nothing.
+-- The transitions of the protocol between ballots, from NewBallot to Install, and the ticks of a
+-- new primary. A message whose condition does not hold changes nothing.
 use Rattle.std.specs.Prelude.{ℕ, Bool, Option, Some, None, List, [], ◌∷◌, ◌==◌, ◌&&◌, ◌||◌, nat_lt}
 use Rattle.std.specs.Prelude.{nat_le, if◌then◌else◌}
 use Rattle.machine.specs.Machine.{Rules}
@@ -12,7 +12,7 @@ use Rattle.ballot_base.specs.Logs.{Log, places}
 use Rattle.ballot_base.specs.TakenLog.{taken}
 use Rattle.ballot_base.specs.Replica.{ReplicaState, is_fetching, others}
 
--- a new primary asks the earlier ballot's members, including itself if it is one, for their logs
+-- NewBallot: a new primary asks the members of the earlier ballot, also itself, for their logs
 unfoldable pub on_new_ballot : {S C : Type 0} (O : Type 0) →
     ReplicaState S C → ℕ → List ℕ → ℕ → List ℕ → Outcome S C O
 on_new_ballot O replica ballot members previous previous_members =
@@ -47,7 +47,7 @@ install_effects O replica [] = message_to O replica.id (Activate replica.joined)
 install_effects O replica (member ∷ members) =
     message_to_each O replica.id (Install replica.joined replica.log) (member ∷ members)
 
--- whether a State is awaited: its ballot is the one joined, no log came yet, and this one lacks no
+-- whether a State is awaited: it is of the joined ballot, no log came yet, and this log lacks no
 -- applied place
 abbrev pub waits_for : {S C : Type 0} → ReplicaState S C → ℕ → ℕ → Bool
 waits_for replica ballot held =
@@ -105,7 +105,7 @@ on_install {O = O} rules replica from ballot log =
     }
     else nothing_done O replica
 
--- a new primary repeats what it waits for
+-- a new primary that fetches a log sends its Joins again
 abbrev pub on_tick_fetching : {S C : Type 0} (O : Type 0) → ReplicaState S C → Outcome S C O
 on_tick_fetching O replica =
     record {
@@ -114,7 +114,7 @@ on_tick_fetching O replica =
           replica.previous_members;
     }
 
--- a primary that installs its log sends it at a tick to those that lack it
+-- a new primary that installs its log sends it again to the members that lack it
 abbrev pub on_tick_installing : {S C : Type 0} (O : Type 0) → ReplicaState S C → Outcome S C O
 on_tick_installing O replica =
     record { state = replica; effects = install_effects O replica replica.lacking }

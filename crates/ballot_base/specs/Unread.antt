@@ -1,4 +1,4 @@
--- Messages whose snapshot has to be read and does not thaw. They count as lost.
+-- Messages whose snapshot has to be read but does not thaw. They count as lost.
 use Rattle.std.specs.Prelude.{Bool, true, false, Option, Some, None, ◌&&◌, nat_lt}
 use Rattle.machine.specs.Machine.{Rules}
 use Rattle.ballot_base.specs.declared.message.Body.{Body}
@@ -9,7 +9,7 @@ use Rattle.ballot_base.specs.Transfer.{waits_for, lacks}
 use Rattle.ballot_base.specs.Logs.{Log, places}
 use Rattle.ballot_base.specs.Replica.{ReplicaState}
 
--- whether bytes stand for no machine
+-- whether bytes thaw to no machine
 abbrev pub stands_for_none : {S : Type 0} → Option S → Bool
 stands_for_none None = true
 stands_for_none (Some machine) = false

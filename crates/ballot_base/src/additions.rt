@@ -1,4 +1,4 @@
-// Commands from elsewhere that are added to a log, and the count of losses.
+// Appending commands that came from elsewhere, and the count of losses.
 
 ghost use Rattle.std.specs.Prelude.{◌≡◌, if◌then◌else◌};
 ghost use Rattle.std.specs.Bool.{OnTrue, OnFalse};
@@ -8,8 +8,8 @@ ghost use Rattle.ballot_base.specs.Service.{extended};
 
 use crate::Log;
 
-/// Appends a command if its place is the next one of the log. Returns whether there was memory, if
-/// it was needed; if there was none, the log is unchanged.
+/// Appends a command if its place is the next one of the log. Returns false if it would have been
+/// appended and memory ran out; the log is then unchanged.
 pub fn append_next<C: Drop>(log: &mut Log<C>, place: u64, command: C) -> bool
     ensures taken { OnTrue result (log.new ≡ extended place command log.old) }
     ensures lost { OnFalse result ((log.new ≡ log.old) × (place ≡ places log.old)) }
@@ -23,7 +23,8 @@ pub fn append_next<C: Drop>(log: &mut Log<C>, place: u64, command: C) -> bool
     }
 }
 
-/// Returns the count of losses after a call that was whole, or in which something was lost.
+/// Returns the count of losses after a call; it rises by one unless the call was `whole` (saturates
+/// at 2^64 - 1).
 pub fn counted(losses: u64, whole: bool) -> u64
     ensures { result ≡ (if whole then losses else one_more losses) }
 {

@@ -1,4 +1,4 @@
-// Commands that the machine does, place by place.
+// Applying places of a log to the machine.
 
 ghost use Rattle.std.specs.Prelude.{◌≡◌, ◌≤◌, ◌++◌, map, OnOk, OnErr};
 ghost use Rattle.machine.specs.Machine.{replay_from};
@@ -25,8 +25,8 @@ fn append_outputs<C: Drop, O: Drop>(
     Ok(())
 }
 
-/// Applies the places from one length of the log up to another, and drops their outputs. On an
-/// error the machine is somewhere in between.
+/// Applies the places between two lengths of the log and drops their outputs. On an error the
+/// machine is in an intermediate state.
 pub fn apply_dropping<M: Machine>(
     alloc: Global,
     machine: &mut M,
@@ -49,8 +49,8 @@ pub fn apply_dropping<M: Machine>(
     Ok(())
 }
 
-/// Applies the places from one length of the log up to another, and appends their outputs. On an
-/// error the machine is somewhere in between, and some outputs may have been appended to `out`.
+/// Applies the places between two lengths of the log and appends their outputs. On an error the
+/// machine is in an intermediate state, and some outputs may have been appended to `out`.
 pub fn apply_places<M: Machine>(
     alloc: Global,
     machine: &mut M,

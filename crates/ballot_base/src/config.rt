@@ -1,4 +1,4 @@
-// The members and the primary of a ballot.
+// The configuration of a ballot: its members and its primary.
 
 ghost use Rattle.std.specs.Prelude.{◌≡◌, [], IfOk, length};
 ghost use Rattle.ballot_base.specs.LawfulConfig.{is_lawful};
@@ -7,10 +7,10 @@ use machine::Memory;
 use std::alloc::Global;
 use std::marker::Model;
 
-/// The greatest number of a node.
+/// The greatest node number.
 pub const MAX_NODE: u8 = 15;
 
-/// How many members a ballot has at most.
+/// The most members a ballot has.
 pub const MAX_MEMBERS: usize = 7;
 
 /// The numbers of nodes, in the order in which they were given.
@@ -43,7 +43,7 @@ impl Members {
         }
     }
 
-    /// Returns a copy of the numbers. The only error is that memory ran out.
+    /// Returns a copy of the numbers. Fails only if memory runs out.
     pub fn from_slice(alloc: Global, numbers: &[u8]) -> Result<Members, Memory>
         ensures { IfOk result (λ members. members ≡ numbers.now) }
     {
@@ -69,7 +69,7 @@ pub struct Config {
 }
 
 impl Config {
-    /// Returns true if these may be the members and the primary of a ballot.
+    /// Returns true if a ballot may have these members and this primary.
     pub fn is_lawful(&self) -> bool
         ensures { result ≡ is_lawful self.now.members self.now.primary }
     {

@@ -1,4 +1,4 @@
-// Copies of logs, to be sent.
+// Copies of logs for messages.
 
 ghost use Rattle.std.specs.Prelude.{◌≡◌, IfOk};
 
@@ -6,7 +6,7 @@ use crate::Log;
 use machine::{Machine, Memory};
 use std::alloc::Global;
 
-/// Returns a copy of a log. The only error is that memory ran out.
+/// Returns a copy of a log. Fails only if memory runs out.
 pub fn copy_log<M: Machine>(alloc: Global, log: &Log<M::Command>) -> Result<Log<M::Command>, Memory>
     ensures { IfOk result (λ copied. copied ≡ log.now) }
 {
@@ -15,7 +15,7 @@ pub fn copy_log<M: Machine>(alloc: Global, log: &Log<M::Command>) -> Result<Log<
     Ok(Log::from_parts(log.base(), snapshot, rest))
 }
 
-// Returns a copy of some commands. The only error is that memory ran out.
+// Returns a copy of `commands`. Fails only if memory runs out.
 fn copy_commands<M: Machine>(
     alloc: Global,
     commands: &[M::Command],

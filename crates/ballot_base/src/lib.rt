@@ -1,6 +1,5 @@
-//! The messages between replicas, the effects of their calls, and the parts of a replica that need
-//! no role. The protocol's step stands here as definitions that the replica above is proved to
-//! follow.
+//! The messages between replicas, the effects of a replica's calls, and the parts of a replica that
+//! do not depend on its role. `specs/` defines the step of the protocol, which `ballot` implements.
 #![tactic(auto)]
 
 mod additions;

@@ -1,4 +1,12 @@
-// A log as replicas keep it and as messages carry it.
+// A log as replicas keep it and as messages carry it: a snapshot, and the commands after it.
+//
+// Invariants: places count from 0 as if nothing had been cut, and `base` plus the length of `rest`
+// is below 2^64, so a length never overflows. At base 0 there is no snapshot (the replica keeps
+// that, not the log). `cut` raises the base, `take_rest` replaces everything after it, and
+// otherwise commands are only added and removed at the end.
+//
+// The snapshot is bytes, not a machine: a message carries it as it is, and the receiver thaws it
+// before it changes anything.
 
 ghost use Rattle.std.specs.Prelude.{◌≡◌, [], ◌≤◌, ◌<◌, ◌+◌, ◌-◌, ◌^◌, length, drop, OnOk, OnErr};
 ghost use Rattle.ballot_base.specs.Logs.{empty_log, places, popped, pushed};
@@ -7,14 +15,13 @@ use machine::Memory;
 use std::alloc::Global;
 use std::marker::Model;
 
-/// Commands from a place on, the base, and the frozen machine in place of the places below it.
-/// Places count from 0. At base 0 there is no snapshot.
+/// A log: the commands from `base` on, and the frozen machine in place of those below it. Places
+/// count from 0. At base 0 there is no snapshot.
 pub struct Log<C> {
-    // How many places the snapshot stands for. With those of `rest` they are fewer than 2^64.
+    // How many places the snapshot stands for. `base` plus the length of `rest` is below 2^64.
     base: u64,
     // The frozen machine after these places.
     snapshot: Vec<u8>,
-    // The commands from the base on.
     rest: Vec<C>,
 }
 
@@ -52,7 +59,7 @@ impl<C: Drop> Log<C> {
         }
     }
 
-    /// Returns the log with these parts. Its places are below 2^64.
+    /// Returns a log of these parts. Its length, with the base, is below 2^64.
     pub fn from_parts(base: u64, snapshot: Vec<u8>, rest: Vec<C>) -> Self
         requires { base + length rest.items < 2 ^ 64 }
         ensures { result ≡ record { base = base; snapshot = snapshot.items; rest = rest.items } }
@@ -64,7 +71,7 @@ impl<C: Drop> Log<C> {
         }
     }
 
-    /// Returns the place from which on the commands are kept. All places are below 2^64.
+    /// Returns the first place whose command is kept, which is below 2^64.
     pub fn base(&self) -> u64
         ensures base { result ≡ self.now.base }
         ensures fits { places self.now < 2 ^ 64 }
@@ -79,8 +86,8 @@ impl<C: Drop> Log<C> {
         self.snapshot.as_slice()
     }
 
-    /// Returns an empty vector with capacity for as many bytes as the snapshot has, and an eighth
-    /// more. If there is no memory for it, it has no capacity yet. No clause speaks of capacity.
+    /// Returns an empty vector with room for the bytes of the snapshot and an eighth more. Without
+    /// memory its capacity is 0. No clause speaks of capacity.
     pub fn snapshot_buffer(&self, alloc: Global) -> Vec<u8>
         ensures { result.items ≡ [] }
     {
@@ -98,7 +105,7 @@ impl<C: Drop> Log<C> {
         self.rest.as_slice()
     }
 
-    /// Returns how many places it has, counted from 0.
+    /// Returns the length of the log, counted from place 0.
     pub fn places(&self) -> u64
         ensures { result ≡ places self.now }
     {
@@ -124,7 +131,7 @@ impl<C: Drop> Log<C> {
         self.rest.pop();
     }
 
-    /// Drops the commands below a place; this snapshot replaces them.
+    /// Drops the commands below `base` and puts `snapshot` in their place.
     pub fn cut(&mut self, base: u64, snapshot: Vec<u8>)
         requires above { self.old.base ≤ base }
         requires within { base ≤ places self.old }
@@ -139,7 +146,7 @@ impl<C: Drop> Log<C> {
         self.snapshot = snapshot;
     }
 
-    /// Replaces the commands from its own base on by those of another log.
+    /// Replaces the commands from its own base on by those of `other`.
     pub fn take_rest(&mut self, other: Log<C>)
         requires above { other.base ≤ self.old.base }
         requires within { self.old.base ≤ places other }
@@ -151,7 +158,6 @@ impl<C: Drop> Log<C> {
         drop_front(&mut self.rest, count);
     }
 
-    // Returns the commands from the base on.
     fn into_rest(self) -> Vec<C>
         ensures { result.items ≡ self.rest }
     {
@@ -164,7 +170,7 @@ impl<C: Drop> Log<C> {
     }
 }
 
-// Drops the first items. Nothing is moved if all are dropped, which is the usual case.
+// Drops the first `count` items. Nothing is moved if all are dropped, which is the usual case.
 fn drop_front<C: Drop>(items: &mut Vec<C>, count: usize)
     requires { count ≤ length items.old.items }
     ensures { items.new.items ≡ drop count items.old.items }

@@ -1,4 +1,4 @@
-// The other members, and what a primary knows about them.
+// The other members of a ballot, and the progress of each that a primary tracks.
 
 ghost use Rattle.std.specs.Prelude.{◌≡◌, IfOk};
 ghost use Rattle.ballot_base.specs.Replica.{others, progress_at};
@@ -49,7 +49,7 @@ pub fn progress_of_others(
     Ok(progress)
 }
 
-/// Raises a member's progress to the greater of it and what the member now holds.
+/// Raises a member's progress to `held`, if it is lower.
 pub fn raise(member: u8, held: u64, progress: &mut [Progress])
     ensures { progress.new ≡ raised member held progress.old }
 {
@@ -58,7 +58,7 @@ pub fn raise(member: u8, held: u64, progress: &mut [Progress])
     }
 }
 
-// Returns the progress of any member, raised if it is that of the one that now holds more.
+// Returns a progress, raised to `held` if it is that of `member` and lower.
 fn raised_progress(member: u8, held: u64, reached: Progress) -> Progress
     ensures { result ≡ raised_progress member held reached }
 {
@@ -71,7 +71,7 @@ fn raised_progress(member: u8, held: u64, reached: Progress) -> Progress
     }
 }
 
-/// Returns how many places all will hold once a member's progress is raised.
+/// Returns how many places all members will hold once `member` is known to hold `held`.
 pub fn least_raised(length: u64, member: u8, held: u64, progress: &[Progress]) -> u64
     ensures { result ≡ least length (raised member held progress.now) }
 {
@@ -82,7 +82,7 @@ pub fn least_raised(length: u64, member: u8, held: u64, progress: &[Progress]) -
     least
 }
 
-/// Returns how many places all hold: the smallest of a length and all progress.
+/// Returns how many places all members hold: the minimum of `held` and all progress.
 pub fn least_held(held: u64, progress: &[Progress]) -> u64
     ensures { result ≡ least held progress.now }
 {

@@ -8,11 +8,11 @@ use crate::log::Log;
 pub struct Message<C> {
     /// The sender.
     pub from: u8,
-    /// Its content.
+    /// What the message says.
     pub body: Body<C>,
 }
 
-/// The kinds of message. The first number of each is the ballot that it is about.
+/// The kinds of message. The first number of each is its ballot.
 #[derive(Drop)]
 pub enum Body<C> {
     /// The master assigns a ballot: its members, the ballot that was active then, and the members

@@ -1,4 +1,4 @@
-// Messages that a call sends. A message for which there is no memory is lost.
+// Sending messages. A message for which there is no memory is lost.
 
 ghost use Rattle.std.specs.Prelude.{◌≡◌, [], ◌∷◌, IfOk};
 ghost use Rattle.ballot_base.specs.Logs.{command_at};
@@ -11,10 +11,10 @@ use crate::{Body, Effect, Log, Message, Progress};
 use machine::{Machine, Memory};
 use std::alloc::Global;
 
-/// The number of the master as a node.
+/// The node number of the master.
 pub const MASTER: u8 = 0;
 
-/// Appends a message to a node. Returns whether there was memory for it.
+/// Appends a message to a node. Returns false if memory ran out, and the message is lost.
 pub fn send<C: Drop, O: Drop>(
     out: &mut Vec<Effect<C, O>>,
     receiver: u8,
@@ -25,8 +25,7 @@ pub fn send<C: Drop, O: Drop>(
     out.push(Effect::To(receiver, message)).is_ok()
 }
 
-// Sends a message whose body was made, if there was memory for that. Returns whether there was,
-// and for the message too.
+// Sends a message with this body. Returns false if memory ran out, for the body or for the message.
 fn send_made<C: Drop, O: Drop>(
     out: &mut Vec<Effect<C, O>>,
     from: u8,
@@ -42,7 +41,7 @@ fn send_made<C: Drop, O: Drop>(
     }
 }
 
-// Sends a copy of the command at a place to a node. Returns whether there was memory for it.
+// Sends Append with a copy of the command at `place` to a node. Returns false if memory ran out.
 fn send_append<M: Machine>(
     alloc: Global,
     from: u8,
@@ -59,7 +58,6 @@ fn send_append<M: Machine>(
     send_made(out, from, receiver, made)
 }
 
-// Returns an Append with a copy of the command at a place.
 fn append_of<M: Machine>(
     alloc: Global,
     ballot: u64,
@@ -71,7 +69,7 @@ fn append_of<M: Machine>(
     Ok(Body::Append(ballot, place, M::copy(alloc, command)?))
 }
 
-/// Sends the command at a place to each node with a progress. Returns whether no message was lost.
+/// Sends Append(place) to every tracked member. Returns true if no message was lost.
 pub fn send_appends<M: Machine>(
     alloc: Global,
     from: u8,
@@ -93,8 +91,8 @@ pub fn send_appends<M: Machine>(
     whole
 }
 
-/// Sends the command at its progress to each node whose progress is below the length of the log.
-/// Returns whether no message was lost.
+/// Sends each tracked member that lags the command at its progress, which it lacks first. Returns
+/// true if no message was lost.
 pub fn send_after<M: Machine>(
     alloc: Global,
     from: u8,
@@ -114,7 +112,8 @@ pub fn send_after<M: Machine>(
     whole
 }
 
-// Sends the place at a progress, if the log keeps it. Returns whether no message was lost.
+// Sends a member the command at its progress, if the log still keeps it. Returns true if no message
+// was lost.
 fn send_at_reached<M: Machine>(
     alloc: Global,
     from: u8,
@@ -145,8 +144,7 @@ fn send_at_reached<M: Machine>(
     }
 }
 
-/// Sends to each node with a progress how many places are committed. Returns whether no message was
-/// lost.
+/// Sends Commit(held) to every tracked member. Returns true if no message was lost.
 pub fn send_commits<C: Drop, O: Drop>(
     from: u8,
     ballot: u64,
@@ -166,7 +164,7 @@ pub fn send_commits<C: Drop, O: Drop>(
     whole
 }
 
-/// Asks each of some nodes for its log. Returns whether no message was lost.
+/// Sends Join to each of some nodes, to ask for their logs. Returns true if no message was lost.
 pub fn send_joins<C: Drop, O: Drop>(
     from: u8,
     ballot: u64,
@@ -186,7 +184,8 @@ pub fn send_joins<C: Drop, O: Drop>(
     whole
 }
 
-/// Sends a copy of a log to the primary that asked for it. Returns whether there was memory for it.
+/// Sends State, with a copy of the log, to the primary that asked for it. Returns false if memory
+/// ran out.
 pub fn send_state<M: Machine>(
     alloc: Global,
     from: u8,
@@ -202,7 +201,6 @@ pub fn send_state<M: Machine>(
     send_made(out, from, receiver, made)
 }
 
-// Returns a State with a copy of a log, for the primary that asked for it.
 fn state_of<M: Machine>(
     alloc: Global,
     ballot: u64,
@@ -213,7 +211,6 @@ fn state_of<M: Machine>(
     Ok(Body::State(ballot, copy_log::<M>(alloc, log)?))
 }
 
-// Returns an Install with a copy of a log, for a member.
 fn install_of<M: Machine>(
     alloc: Global,
     ballot: u64,
@@ -224,7 +221,8 @@ fn install_of<M: Machine>(
     Ok(Body::Install(ballot, copy_log::<M>(alloc, log)?))
 }
 
-/// Sends a copy of a log to each of some members. Returns whether no message was lost.
+/// Sends Install, with a copy of the log, to each of some members. Returns true if no message was
+/// lost.
 pub fn send_installs<M: Machine>(
     alloc: Global,
     from: u8,

@@ -3,7 +3,7 @@
 ghost use Rattle.std.specs.Prelude.{◌≡◌};
 ghost use Rattle.ballot_base.specs.Service.{max_places};
 
-/// Shows how many places a log has at most, 2^40.
+/// Shows the maximum length of a log, 2^40 places.
 pub fn a_log_ends_at_its_limit()
     ensures { max_places ≡ 1099511627776 }
 {}

@@ -1,16 +1,16 @@
-// What a replica shows of itself.
+// What a replica reports about itself.
 
 ghost use Rattle.std.specs.Prelude.{◌≡◌};
 ghost use Rattle.ballot_base.specs.Replica.{is_active, is_backup, is_fetching, is_installing, serves_in_role};
 
-/// What a replica does in the ballot that it joined.
+/// The role of a replica in the ballot that it joined.
 #[derive(Clone, Copy, Debug, PartialEq, Eq)]
 pub enum Role {
-    /// Takes what its primary sends.
+    /// Follows the primary of its ballot.
     Backup,
-    /// A new primary that asks for the earlier ballot's log.
+    /// A new primary that fetches the log of the earlier ballot.
     Fetching,
-    /// A new primary that sends its log to the members.
+    /// A new primary that installs its log at the members.
     Installing,
     /// The primary that takes proposals.
     Active,
@@ -27,7 +27,7 @@ impl Role {
         }
     }
 
-    /// Returns true if this is a new primary that asks for a log.
+    /// Returns true if this is a new primary that fetches a log.
     pub fn is_fetching(self) -> bool
         ensures { result ≡ is_fetching self }
     {
@@ -37,7 +37,7 @@ impl Role {
         }
     }
 
-    /// Returns true if this is a new primary that sends its log to the members.
+    /// Returns true if this is a new primary that installs its log at the members.
     pub fn is_installing(self) -> bool
         ensures { result ≡ is_installing self }
     {
@@ -58,7 +58,7 @@ impl Role {
     }
 }
 
-/// What an active primary knows about another member.
+/// What an active primary tracks of another member.
 #[derive(Clone, Copy, Debug, PartialEq, Eq)]
 pub struct Progress {
     /// The member.
@@ -67,24 +67,23 @@ pub struct Progress {
     pub held: u64,
 }
 
-/// What a replica shows of itself.
+/// The status of a replica.
 #[derive(Clone, Copy, Debug, PartialEq, Eq)]
 pub struct Status {
     /// The ballot that it joined; 0 before the first.
     pub ballot: u64,
     /// Its role there.
     pub role: Role,
-    /// How many places its log has.
+    /// The length of its log.
     pub held: u64,
     /// How many of them are applied.
     pub committed: u64,
-    /// Whether it stopped: its node crashed, or memory ran out.
+    /// True once it has stopped: its node crashed, or memory ran out.
     pub stopped: bool,
 }
 
 impl Status {
-    /// Returns true if it serves clients: it is the active primary of its ballot, and has not
-    /// stopped.
+    /// Returns true if it serves clients: it is the active primary of its ballot and runs.
     pub fn serves(self) -> bool
         ensures { result ≡ serves_in_role self.role self.stopped }
     {

@@ -1,5 +1,5 @@
--- Which publication of a client a place carries, by position: the j-th command of a connection is
--- its j-th written packet.
+-- Which publication of a client a place carries. It is found by position: the j-th command of a
+-- connection is its j-th written packet.
 use Rattle.std.specs.Prelude.{ℕ, Bool, true, false, ◌==◌, if◌then◌else◌, List, [], ◌∷◌, ◌++◌, map, Option, Some, None, slice_get}
 use Rattle.packet_base.specs.declared.qos.QoS.{QoS}
 use Rattle.packet_base.specs.declared.qos.QoS.TheVariants as qos_levels
@@ -21,7 +21,7 @@ connection_named name (connection ∷ connections) =
     else connection_named name connections
 connection_named name [] = None
 
--- whether it is this number
+-- whether the number is this one
 abbrev pub is_this : ℕ → Option ℕ → Bool
 is_this number (Some other) = other == number
 is_this number None = false
@@ -42,7 +42,7 @@ carries connections (commands.Packet name (packets.Publish publish)) past =
     written_number_at (packet_count name past) (connection_named name connections)
 carries connections _ past = None
 
--- the number, if the publication is new at its place
+-- the number, if the publication is new
 abbrev pub more_by : Bool → Option ℕ → List ℕ
 more_by true (Some number) = number ∷ []
 more_by _ _ = []

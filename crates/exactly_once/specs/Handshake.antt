@@ -1,4 +1,12 @@
--- The handshake of QoS 2 between two sides, over connections that come and go (MQTT 4.3.3, 4.4).
+-- The QoS 2 handshake of a sender and a receiver, over connections that come and go (MQTT 4.3.3,
+-- 4.4).
+--
+-- It is the whole argument for exactly once, without broker or network. The sender keeps each
+-- publication until PUBCOMP, and keeps its identifier in use that long. The receiver keeps an
+-- identifier from PUBLISH to PUBREL. So a PUBLISH under a known identifier is a retransmission, and
+-- is answered without being accepted; one under an unknown identifier is new. A packet may be lost
+-- with its connection but never overtakes another, and on a new connection the sender first
+-- retransmits what is in flight.
 use Rattle.std.specs.Prelude.{ℕ, Bool, true, false, not, ◌&&◌, ◌||◌, ◌==◌, List, [], ◌∷◌, ◌++◌, map}
 use Rattle.exactly_once.specs.Items.{SenderItem, sent, item_released, finishing}
 
@@ -35,7 +43,7 @@ abbrev pub reply : {V : Type 0} → Backward → List (Forward V)
 reply (Backward.Pubrec id) = Forward.Pubrel id ∷ []
 reply (Backward.Pubcomp id) = []
 
--- the receiver accepts
+-- the receiver accepts a publication unless it knows the identifier
 abbrev pub receiver_accepts : {V : Type 0} → ℕ → V → Bool → Handshake V → Transit V → Handshake V
 receiver_accepts id value true handshake transit =
     record {

@@ -1,4 +1,4 @@
--- What every run of a handshake keeps: the two sides, and what is in transit between them.
+-- The invariant of the handshake: the two sides, and what is in transit between them.
 use Rattle.std.specs.Prelude.{◌≡◌, ℕ, Bool, true, false, List, [], ◌∷◌, ◌++◌, map}
 use Rattle.lists.specs.Lists.{In, has_id, IsDistinct, Each}
 use Rattle.exactly_once.specs.Items.{SenderItem, value_of, busy, sent, has_sent, has_released}
@@ -11,19 +11,19 @@ IsOld received (SenderItem.Sent value id) = received id ≡ true
 IsOld received (SenderItem.Released value id) = Unit {0}
 IsOld received (SenderItem.Done value) = Unit {0}
 
--- any other waits, or is sent with an identifier that the receiver does not know
+-- any other item is queued, or sent with an identifier that the receiver does not know
 abbrev pub IsNew : {V : Type 0} → (ℕ → Bool) → SenderItem V → Type 0
 IsNew received (SenderItem.Queued value) = Unit {0}
 IsNew received (SenderItem.Sent value id) = received id ≡ false
 IsNew received (SenderItem.Released value id) = ⊥
 IsNew received (SenderItem.Done value) = ⊥
 
--- the item was not sent yet
+-- the item is queued
 abbrev pub IsQueued : {V : Type 0} → SenderItem V → Type 0
 IsQueued (SenderItem.Queued value) = Unit {0}
 IsQueued _ = ⊥
 
--- after one that waits, all wait
+-- after a queued item all are queued
 abbrev pub QueuedAreLast : {V : Type 0} → List (SenderItem V) → Type 0
 QueuedAreLast (SenderItem.Queued value ∷ items) = Each IsQueued items
 QueuedAreLast (_ ∷ items) = QueuedAreLast items
@@ -58,12 +58,12 @@ abbrev pub IsDue : {V : Type 0} → (ℕ → Bool) → List (SenderItem V) → B
 IsDue received old (Backward.Pubrec id) = has_sent id old ≡ true
 IsDue received old (Backward.Pubcomp id) = (has_released id old ≡ true) × (received id ≡ false)
 
--- an item that is sent, with the identifier and the value of this row
+-- an item that is in state sent, with this identifier and value
 abbrev pub IsSent : {V : Type 0} → List (SenderItem V) → ℕ × V → Type 0
 IsSent items row = In row (sent items)
 
--- what comes to the receiver: some that it has already, each with the value that was first sent,
--- and then exactly these
+-- what is in transit to the receiver: first retransmissions of accepted items, with their values,
+-- then exactly these new ones
 pub record ComesToReceiver {V : Type 0} (old : List (SenderItem V)) (forward : List (Forward V))
     (next : List (ℕ × V)) : Type 0 where
   pub again : List (ℕ × V)
@@ -111,7 +111,7 @@ pub record AreSides {V : Type 0} (items : List (SenderItem V)) (accepted : List 
   pub apart : IsDistinct (busy (old ++ new))
   pub known : (id : ℕ) → received id ≡ true → has_id id (busy old) ≡ true
 
--- the items are accepted ones, then new ones, and what is in transit fits them
+-- the items are accepted ones, then new ones, and the transit fits them
 pub record IsGood {V : Type 0} (handshake : Handshake V) : Type 0 where
   pub old : List (SenderItem V)
   pub new : List (SenderItem V)

@@ -33,7 +33,7 @@ IsFirstSession past client =
     ⊎ ((start : ℕ)
     × (starts_of past client ≡ start ∷ []) × (session_start past client ≡ Some start))
 
--- whether one began
+-- whether a session began
 abbrev pub has_begun : Past → Client → Bool
 has_begun (place ∷ past) client = begins place past client || has_begun past client
 has_begun [] client = false
@@ -43,7 +43,7 @@ abbrev pub opens_on : ConnectionName → Option (ConnectionName × Bool) → Boo
 opens_on connection (Some opened) = same_connection connection opened.0
 opens_on connection None = false
 
--- whether a Connect on this connection began a session of the client that is not its first
+-- whether a Connect on this connection began a session of the client other than its first
 abbrev pub began_again : Past → Client → ConnectionName → Bool
 began_again (place ∷ past) client connection =
     (opens_on connection (accepts place.command place.mark client)
@@ -76,12 +76,12 @@ accepted_in past client start [] = []
 
 -- ---- in step
 
--- if a connection's Connect began a session that is not the first, its CONNACK was received
+-- if a connection's Connect began a session other than the first, its CONNACK was received
 abbrev pub WasWelcome : Past → Client → ClientConnection → Type 0
 WasWelcome past client connection =
     began_again past client connection.name ≡ true → connection.confirmed ≡ true
 
--- on each connection except the newest, the CONNACK of a session that is not the first was received
+-- on each connection except the newest, the CONNACK of a session other than the first was received
 abbrev pub AreWelcome : Past → Client → List ClientConnection → Type 0
 AreWelcome past client (connection ∷ connections) = Each (WasWelcome past client) connections
 AreWelcome past client [] = Unit {0}

@@ -24,43 +24,43 @@ busy (SenderItem.Released value id ∷ items) = id ∷ busy items
 busy (_ ∷ items) = busy items
 busy [] = []
 
--- the items that were sent and not released, each as its identifier and value
+-- the items in state sent, each as its identifier and value
 abbrev pub sent : {V : Type 0} → List (SenderItem V) → List (ℕ × V)
 sent (SenderItem.Sent value id ∷ items) = (id, value) ∷ sent items
 sent (_ ∷ items) = sent items
 sent [] = []
 
--- whether an item with this identifier was sent and not released
+-- whether an item with this identifier is in state sent
 abbrev pub has_sent : {V : Type 0} → ℕ → List (SenderItem V) → Bool
 has_sent id (SenderItem.Sent value other ∷ items) = (id == other) || has_sent id items
 has_sent id (_ ∷ items) = has_sent id items
 has_sent id [] = false
 
--- whether an item with this identifier is released and not finished
+-- whether an item with this identifier is in state released
 abbrev pub has_released : {V : Type 0} → ℕ → List (SenderItem V) → Bool
 has_released id (SenderItem.Released value other ∷ items) = (id == other) || has_released id items
 has_released id (_ ∷ items) = has_released id items
 has_released id [] = false
 
--- PUBREC releases, PUBCOMP finishes
+-- PUBREC releases an item
 abbrev pub item_released : {V : Type 0} → ℕ → SenderItem V → SenderItem V
 item_released id (SenderItem.Sent value other) =
     if id == other then SenderItem.Released value other else SenderItem.Sent value other
 item_released id item = item
 
--- an item after a PUBCOMP with this identifier
+-- PUBCOMP makes an item done
 abbrev pub finishing : {V : Type 0} → ℕ → SenderItem V → SenderItem V
 finishing id (SenderItem.Released value other) =
     if id == other then SenderItem.Done value else SenderItem.Released value other
 finishing id item = item
 
--- the first that waits starts
+-- the first queued item is sent
 abbrev pub start_first : {V : Type 0} → ℕ → List (SenderItem V) → List (SenderItem V)
 start_first id (SenderItem.Queued value ∷ items) = SenderItem.Sent value id ∷ items
 start_first id (item ∷ items) = item ∷ start_first id items
 start_first id [] = []
 
--- the value of the first item that waits
+-- the value of the first queued item
 abbrev pub first_waiting : {V : Type 0} → List (SenderItem V) → Option V
 first_waiting (SenderItem.Queued value ∷ items) = Some value
 first_waiting (_ ∷ items) = first_waiting items

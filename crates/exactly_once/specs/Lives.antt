@@ -39,7 +39,7 @@ abbrev pub NumbersRise : List ℕ → Type 0
 NumbersRise (number ∷ numbers) = Each (λ later. number < later) numbers × NumbersRise numbers
 NumbersRise [] = Unit {0}
 
--- the publisher's, over all its sessions
+-- the guarantees for the publisher, over all its sessions
 pub record PublishedOverSessions (limits : Limits) (story : Story) : Type 0 where
   pub each : EachPublished limits story
   -- those at QoS 2 are new in the list in the order of the calls, each at most once

@@ -1,4 +1,4 @@
--- What a client is promised over all its sessions.
+-- What a client is promised over all of its sessions.
 use Rattle.std.specs.Prelude.{◌≡◌, ℕ}
 use Rattle.std.specs.List.{flat_map}
 use Rattle.broker_spec.specs.Place.{Client, Limits}

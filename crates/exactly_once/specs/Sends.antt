@@ -1,4 +1,4 @@
--- What a connection is sent of the answers to a list of commands.
+-- What the answers to a list of commands send on a connection.
 use Rattle.std.specs.Prelude.{if◌then◌else◌, List, [], ◌∷◌, ◌++◌}
 use Rattle.packet.specs.declared.packet.Packet.{Packet}
 use Rattle.broker_spec.specs.Connection.{ConnectionName, same_connection}

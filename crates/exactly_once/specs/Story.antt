@@ -1,5 +1,10 @@
--- One client's story: the list of commands, its connections as packets, what it keeps; and what may
--- happen.
+-- The story of one client: the list of commands, its connections as packets, what it keeps; and its
+-- events.
+--
+-- A story is what remains of a world for one client. Nodes, messages and crashes are hidden in one
+-- event: another command comes next in the list. The list only grows, and has each connection's
+-- packets in the order of writing; what is sent on a connection are the broker's answers to the
+-- list. So what holds for every story holds in each world whose nodes agree on such a list.
 use Rattle.std.specs.Prelude.{◌≡◌, ℕ, true, false, if◌then◌else◌, List, [], ◌∷◌, ◌++◌, Some, slice_get}
 use Rattle.packet.specs.declared.subscribe.Subscribe.{Subscribe}
 use Rattle.packet.specs.declared.unsubscribe.Unsubscribe.{Unsubscribe}
@@ -23,7 +28,7 @@ use Rattle.client_base.specs.Connected.{new_connection}
 use Rattle.client_base.specs.Written.{writes_first}
 use Rattle.exactly_once.specs.StoryCommands.{command_of, with_one_counted, names_client, is_packet_of, packet_count, any_named}
 
--- the connections, the newest first: the client holds the first one while it is open
+-- the connections are newest first; the client holds the first one while it is open
 pub record Story : Type 0 where
   pub past : Past
   pub connections : List ClientConnection

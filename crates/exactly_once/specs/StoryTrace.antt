@@ -20,8 +20,8 @@ AreQueued next _ = ⊥
 abbrev pub unserved : Client → List Own → List Own → Keeper
 unserved client earlier own = record (new_keeper client) { earlier = earlier; own = own }
 
--- A story of one session begins with the list, or when the client has no session: then nothing is
--- left of what it had.
+-- A story of one session begins with the list, or when the client has no session: nothing is then
+-- left of an earlier one.
 pub data StoryTrace (limits : Limits) (client : Client) : Story → Type 0 where
   -- the client did nothing yet, and the list is empty
   begins : StoryTrace limits client (no_story client)

@@ -1,5 +1,6 @@
-//! One client's story, and what holds for each: the list of commands, the client's connections as
-//! packets, and what the client keeps. Its functions do nothing; their contracts are the laws.
+//! The story of one client and the theorems about it: the list of commands, the client's
+//! connections as packets, and what the client keeps. No code runs here: the theorems are the
+//! contracts of functions with an empty body.
 #![tactic(auto)]
 
 mod handshake_theorems;

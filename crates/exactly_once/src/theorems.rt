@@ -1,12 +1,13 @@
-// Laws of every story of a client. The calls do nothing; their contracts are the laws.
+// Theorems about every story of a client: the contracts of functions with an empty body.
 
 ghost use Rattle.exactly_once.specs.Unexpelled.{UnexpelledLivesAreInStep};
 ghost use Rattle.exactly_once.specs.Theorems.{SteadyLivesAccept, SteadyLivesAreExact, SteadyStoriesAcceptInOrder, SteadyStoriesAreExact, SteadyStoriesPublishOnce, StoriesAcceptInOrder, StoriesEnter, StoriesPublishOnce, UsualLivesAccept, UsualLivesAreExact, UsualStoriesAreExact};
 
 /// States that, whatever happens to its connections and to the nodes, a client's QoS 2 publications
 /// become new in the list of commands in the order of its calls, each at most once. Each that was
-/// answered with PUBREC is there, and over all its repeats each enters each session at most once.
-/// One at QoS 1 that was answered with PUBACK is taken (MQTT 4.3.2, 4.3.3).
+/// answered with PUBREC is in the list, and each enters each session at most once, all
+/// retransmissions included. One at QoS 1 that was answered with PUBACK is taken (MQTT 4.3.2,
+/// 4.3.3).
 pub fn stories_publish_once()
     ensures usual { StoriesPublishOnce }
     ensures steady { SteadyStoriesPublishOnce }
@@ -43,8 +44,8 @@ pub fn lives_accept_in_each_session()
 
 /// States that a client whose sessions an Expel ends, and that is in step, has its QoS 2
 /// publications new in the list in the order of its calls, each at most once. Each that was
-/// answered is there, and each enters each session at most once. In each of its own sessions it
-/// accepts a prefix of the entries (MQTT 4.3.2, 4.3.3, 4.6).
+/// answered is in the list, and each enters each session at most once. In each of its own sessions
+/// it accepts a prefix of the entries (MQTT 4.3.2, 4.3.3, 4.6).
 pub fn lives_are_exact()
     ensures usual { UsualLivesAreExact }
     ensures steady { SteadyLivesAreExact }

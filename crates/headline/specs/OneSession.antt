@@ -14,7 +14,7 @@ use Rattle.headline.specs.Promise.{PromiseInStep}
 use Rattle.headline.specs.Shown.{at_qos2, new_of, unacknowledged_of}
 use Rattle.headline.specs.byte_world.Accepted.{accepted_at_qos2}
 
--- for this client, by the places of the list
+-- the promise to this client, by the places of the list
 pub record PromiseOfOne (client : Client) (published : List Publication) (past : Past)
     (state : ClientState) : Type 0 where
   -- its QoS 2 publications are new in the order in which it was asked for them, each once; those

@@ -1,5 +1,11 @@
--- What is promised for one client, by the publications that it was asked for, the list on which the
--- nodes agree, and what it shows.
+-- The promise to one client, by the publications that it was asked for, the list on which the nodes
+-- agree, and what it shows.
+--
+-- It names no node, message or pipe: a user can check it by the list, the calls that the client was
+-- given and what it reports. It is stated place by place, since only places tell two publications
+-- with equal content apart. It holds at every time and not only at the end: what is new is in
+-- order, what is accepted is a prefix, and what is answered is already there. Being in step is the
+-- one condition on a client with several sessions; a client that no Expel names is always in step.
 use Rattle.std.specs.Prelude.{◌≡◌, ◌≤◌, ℕ, if◌then◌else◌, List, ◌∷◌, ◌++◌, filter, length, map}
 use Rattle.lists.specs.Lists.{In, IsPrefixOf}
 use Rattle.packet.specs.declared.packet.Packet.TheVariants as packets
@@ -22,7 +28,7 @@ use Rattle.exactly_once.specs.InStep.{AreWelcome, IsFirstSession, sessions_begun
 use Rattle.exactly_once.specs.Sides.{ClientConnection}
 use Rattle.headline.specs.Shown.{AcceptsInSessionOrder, AreNewInOrder, AreUnacknowledged, IsAnswered, at_qos2, new_of, unacknowledged_of}
 
--- for a client, as long as it is in step, by the places of the list
+-- the promise to a client that is in step, by the places of the list
 pub record PromiseInStep (client : Client) (published : List Publication) (past : Past)
     (state : ClientState) : Type 0 where
   -- its QoS 2 publications are new in the order in which it was asked for them, each once
@@ -45,14 +51,14 @@ pub record PromiseInStep (client : Client) (published : List Publication) (past 
   -- every one that is released
   pub accepts : AcceptsInSessionOrder client past state
 
--- for each client, with its connections, the newest first
+-- the promise to a client, with its connections, the newest first
 pub record PromiseBy (client : Client) (connections : List ClientConnection)
     (published : List Publication) (past : Past) (state : ClientState) : Type 0 where
   -- in step: a connection that began a session after the first was confirmed before it opened
   -- another one
   pub in_step : AreWelcome past client connections → PromiseInStep client published past state
-  -- when one of its publications is taken, it enters just the sessions with an effective QoS over
-  -- 0, once, as it was published
+  -- when one of its publications is taken, it enters exactly the sessions with an effective QoS
+  -- over 0, once, as it was published
   pub enters : (place : Place) (below : Past) (connection : ConnectionName) (publish : Publish)
       (receiver : Client) → StandsAt past place below →
       place.command ≡ commands.Packet connection (packets.Publish publish) →

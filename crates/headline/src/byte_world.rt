@@ -1,5 +1,5 @@
-//! Clients and a group of nodes, with a pipe of bytes each way on every connection: what may
-//! happen, as definitions, and laws about it.
+//! Clients and a group of nodes, with a pipe of bytes in each direction of every connection: the
+//! definitions of what may happen, and theorems about it.
 
 mod kept_theorems;
 mod node_theorems;

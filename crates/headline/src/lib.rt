@@ -1,5 +1,5 @@
-//! What is proved for every world of clients and a group of nodes: it is exact, by the list on
-//! which the nodes agree; and runs of such a world, computed to their ends.
+//! The theorem of the headline: every world of clients and a group of nodes is exact, by the list
+//! on which the nodes agree. Beside it stand runs of such a world, computed to their ends.
 #![tactic(auto)]
 
 pub mod byte_world;

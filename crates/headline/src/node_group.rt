@@ -1,5 +1,5 @@
-//! A group of nodes, as definitions and laws: nodes with their clients' connections, the messages
-//! between them, and one master. It connects what one node does with the agreement of all.
+//! A group of nodes, as definitions and theorems: nodes with their clients' connections, the
+//! messages between them, and one master. It joins the steps of one node to the agreement of all.
 
 mod connection_theorems;
 mod theorems;

@@ -1,6 +1,5 @@
-//! What a node does, in the terms of the model of clients and nodes: all it does as moves, and what
-//! these do to one of its connections, with the pipe of its bytes. Its functions do nothing; their
-//! contracts are the laws.
+//! The steps of a node as moves, and what each move does to one connection and the pipes of its
+//! bytes. No code runs here: the theorems are the contracts of functions with an empty body.
 
 mod pipe_theorems;
 mod theorems;

@@ -1,5 +1,6 @@
 //! Clients and nodes as the two ends of their connections, over one list of commands that only
-//! grows: what holds for every such world. Its functions do nothing; their contracts are the laws.
+//! grows, and theorems about every such world. No code runs here: the theorems are the contracts of
+//! functions with an empty body.
 
 mod rows;
 mod theorems;

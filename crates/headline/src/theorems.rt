@@ -1,5 +1,5 @@
-// Laws of worlds of clients and a group of nodes. The calls do nothing; their contracts are the
-// laws.
+// The theorems about worlds of clients and a group of nodes: the contracts of functions with an
+// empty body.
 
 ghost use Rattle.headline.specs.Exact.{WorldsAreExact};
 ghost use Rattle.headline.specs.OneSession.{OneSessionIsPromised};

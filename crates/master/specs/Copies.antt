@@ -1,4 +1,4 @@
--- Which messages are copied without memory.
+-- Which messages are copied without taking memory.
 use Rattle.std.specs.Prelude.{Bool, true, false}
 use Rattle.ballot_base.specs.declared.message.Body.{Body}
 use Rattle.ballot_base.specs.declared.message.Body.TheVariants.{NewBallot, Join, State, Install, Installed, Activate}

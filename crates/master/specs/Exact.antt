@@ -23,7 +23,7 @@ abbrev pub takes : {S C O : Type 0} →
     Rules S C O → CutGroupWorld S C O → ℕ → Input C → Option (EventOutcome S C O)
 takes rules world node input = outcome_of_taking rules (node - 1) (running world.nodes node) input
 
--- the master answers an Activate, and ignores every other message
+-- the master answers an Activate and ignores every other message
 abbrev pub hears : {S C O : Type 0} → Rules S C O → MasterState → ℕ → Body C → EventOutcome S C O
 hears {C = C} rules master from (Activate ballot) =
     by_master (activated C master ballot from master.waiting)
@@ -41,7 +41,7 @@ abbrev pub comes : {S C O : Type 0} →
 comes rules moment None = None
 comes rules moment (Some (receiver, message)) = comes_to rules moment receiver message
 
--- the master gives a ballot, unless it refuses
+-- the master assigns a ballot, unless it refuses
 abbrev pub gives : {S C O : Type 0} →
     Rules S C O → MasterState → Config → Option AssignRefusal → Option (EventOutcome S C O)
 gives rules master config (Some why) = None

@@ -1,4 +1,4 @@
--- What the helpers of a group ensure about nodes, its moment and counters.
+-- Definitions for the private functions of a group: nodes, its moment and its counters.
 pub mod Losses
 use Rattle.std.specs.Prelude.{ℕ, false, ◌-◌, ◌<◌, ◌≤◌, ◌≡◌, List, [], ◌∷◌, length, map, min, get_or}
 use Rattle.std.specs.Prelude.{slice_get, Option, Some, None, nat_lt, if◌then◌else◌}
@@ -77,7 +77,7 @@ pub record AcknowledgedIn : Type 0 where
   pub ballot : ℕ
   pub held : List ℕ
 
--- these are the numbers that the messages say
+-- the counters agree with the messages
 abbrev pub HasCounted : {C : Type 0} → List (ℕ × Message C) → AcknowledgedIn → Type 0
 HasCounted sent told =
     (member : ℕ) → member < 16 →

@@ -28,7 +28,7 @@ pub data GroupEventLosing {S C O : Type 0} (rules : Rules S C O) :
       Loses rules step.before step.outcome new given →
       GroupEventLosing rules moment event
       (record moment { world = moved moment.world step.index new given })
-  -- the master goes on, and its message is lost
+  -- the master does its step, and its message is lost
   master_goes : {moment : Moment S C O} {event : Event C} (answer : MasterOutcome C) →
       event_outcome rules moment event ≡ Some (by_master answer) →
       GroupEventLosing rules moment event (record moment { master = answer.state })

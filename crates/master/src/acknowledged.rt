@@ -1,4 +1,4 @@
-// How many places the nodes acknowledged in a ballot, counted at each message.
+// Counters of how many places each node acknowledged in one ballot.
 
 ghost use Rattle.std.specs.Prelude.{ℕ, ◌^◌, ◌≡◌, ◌<◌, ◌≤◌, IfOk, take, length, max, get_or};
 ghost use Rattle.ballot_base.specs.Losses.{greatest_count};
@@ -12,16 +12,16 @@ use std::alloc::Global;
 use std::marker::Model;
 use std::mem::swap;
 
-/// How many numbers there are up to the greatest of a node, with 0.
+/// The number of node numbers, 0 included.
 const NUMBERS: usize = MAX_NODE as usize + 1;
 
-/// How many places the node of each number acknowledged in one ballot: the greatest number in a
-/// Held or an Installed of the node. Its calls take no memory, except `new`.
+/// How many places each node acknowledged in one ballot: the greatest number in any Held or
+/// Installed that it sent. No call takes memory except `new`.
 #[derive(Drop)]
 pub struct Acknowledged {
-    // The ballot. What is acknowledged in others is not counted.
+    // The ballot; acknowledgements in others are not counted.
     ballot: u64,
-    // How many places, at the index of each number. So there are always `NUMBERS`.
+    // The count of node n is at index n, so there are always `NUMBERS`.
     held: Vec<u64>,
 }
 
@@ -41,8 +41,7 @@ impl Model for Acknowledged {
 }
 
 impl Acknowledged {
-    /// Returns counters for a ballot in which nothing was acknowledged. The only error is that
-    /// memory ran out.
+    /// Returns zeroed counters for a ballot. Fails only if memory runs out.
     pub fn new(alloc: Global, ballot: u64) -> Result<Acknowledged, Memory>
         ensures ballot { IfOk result (λ told. told.ballot ≡ ballot) }
         ensures counted { IfOk result (λ told. (member : ℕ) → get_or told.held member 0 ≡ 0) }
@@ -51,7 +50,7 @@ impl Acknowledged {
         Ok(Acknowledged { ballot, held })
     }
 
-    /// Resets the counters for a ballot in which nothing was acknowledged.
+    /// Resets the counters for another ballot.
     pub fn begin(&mut self, ballot: u64)
         ensures ballot { self.new.ballot ≡ ballot }
         ensures counted { (member : ℕ) → get_or self.new.held member 0 ≡ 0 }
@@ -60,7 +59,7 @@ impl Acknowledged {
         self.held.as_mut_slice().fill(0);
     }
 
-    /// Counts what a message acknowledges.
+    /// Counts what a message acknowledges, if it does.
     pub fn count_message<C>(&mut self, message: &Message<C>)
         ensures ballot { self.new.ballot ≡ self.old.ballot }
         ensures counted { (member : ℕ) → member < 16 →
@@ -77,7 +76,7 @@ impl Acknowledged {
         }
     }
 
-    /// Counts what the messages from an index on acknowledge.
+    /// Counts what the messages from index `from` on acknowledge.
     pub fn count_from<C>(&mut self, sent: &[(u8, Message<C>)], from: usize)
         requires { from ≤ length sent.now }
         ensures ballot { self.new.ballot ≡ self.old.ballot }
@@ -88,7 +87,7 @@ impl Acknowledged {
         }
     }
 
-    /// Returns the second smallest of the numbers that these nodes acknowledged.
+    /// Returns the second smallest count of these nodes.
     pub fn least_but_one(&self, members: &[u8]) -> u64
         requires { (member : ℕ) → In member members.now → member < 16 }
         ensures least { result
@@ -99,7 +98,7 @@ impl Acknowledged {
     }
 }
 
-// Returns the second smallest of the numbers at some indices.
+// Returns the second smallest of the numbers at these indices.
 fn second_least(told: &[u64], slots: &[u8]) -> u64
     requires { (index : ℕ) → In index slots.now → index < length told.now }
     ensures least { result ≡ least_but_one told.now greatest_count greatest_count slots.now }
@@ -112,8 +111,7 @@ fn second_least(told: &[u64], slots: &[u8]) -> u64
     pair.1
 }
 
-/// Exchanges the counters of the active ballot with those of the ballot that waited, if another
-/// ballot has become active.
+/// Swaps the counters of the active and of the waiting ballot, if the active ballot has changed.
 pub fn follow_ballot(told: &mut Acknowledged, next: &mut Acknowledged, before: u64, after: u64)
     ensures stays { before ≡ after → (told.new ≡ told.old) × (next.new ≡ next.old) }
     ensures swaps { (before ≡ after → ⊥) → (told.new ≡ next.old) × (next.new ≡ told.old) }

@@ -1,6 +1,6 @@
-// What a master answers to the primary of a ballot.
+// The master's answer to a primary that asks it to activate a ballot.
 
-/// Whether a ballot is active.
+/// Whether a ballot was activated.
 #[derive(Clone, Copy, Debug, PartialEq, Eq)]
 pub enum Activation {
     /// The ballot is the active one.

@@ -1,4 +1,4 @@
-// Copies of messages that were sent, to be delivered once more.
+// Copies of messages, so that one that was sent can be delivered again.
 
 ghost use Rattle.std.specs.Prelude.{◌≡◌, true, IfOk, IsOk};
 ghost use Rattle.master.specs.Copies.{has_numbers_alone};
@@ -7,8 +7,8 @@ use ballot_base::{Body, Config, Members, Message, copy_log};
 use machine::{Machine, Memory};
 use std::alloc::Global;
 
-/// Returns a copy of a message. The only error is that memory ran out; a message that has only
-/// numbers takes none.
+/// Returns a copy of a message. Fails only if memory runs out, which a message of numbers alone
+/// never does.
 pub fn copy_of<M: Machine>(
     alloc: Global,
     message: &Message<M::Command>,
@@ -37,7 +37,6 @@ pub fn copy_of<M: Machine>(
     Ok(Message { from, body })
 }
 
-// Returns a copy of a NewBallot.
 fn new_ballot_of<C>(
     alloc: Global,
     ballot: u64,
@@ -53,7 +52,7 @@ fn new_ballot_of<C>(
     Ok(Body::NewBallot(ballot, members, previous, previous_members))
 }
 
-/// Returns a copy of a configuration. The only error is that memory ran out.
+/// Returns a copy of a configuration. Fails only if memory runs out.
 pub fn config_of(alloc: Global, config: &Config) -> Result<Config, Memory>
     ensures { IfOk result (λ copied. copied ≡ config.now) }
 {

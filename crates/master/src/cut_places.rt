@@ -1,4 +1,4 @@
-// The record of the places that nodes of a group cut from their logs.
+// The record of the places that nodes cut from their logs.
 
 ghost use Rattle.std.specs.Prelude.{◌≡◌, ◌≤◌, ◌-◌, ◌++◌, length, take, drop, OnOk, OnErr};
 ghost use Rattle.lists.specs.Lists.{IsPrefixOf};
@@ -6,8 +6,8 @@ ghost use Rattle.lists.specs.Lists.{IsPrefixOf};
 use machine::{Machine, Memory};
 use std::alloc::Global;
 
-/// Adds to the record the places of a log below `committed` that are not yet there. The log is kept
-/// from its base on. If memory runs out, some of the places may have been appended to the record.
+/// Appends to the record the places of a log below `committed` that it does not have yet. If memory
+/// runs out, some of them may have been appended.
 pub fn record<M: Machine>(
     alloc: Global,
     archive: &mut Vec<M::Command>,

@@ -1,4 +1,4 @@
-// Why a master gives no ballot.
+// Why a master refuses to assign a ballot.
 
 ghost use Rattle.std.specs.Prelude.{◌≡◌};
 ghost use Rattle.master.specs.Refusals.{assign_number};
@@ -6,13 +6,13 @@ ghost use Rattle.master.specs.Refusals.{assign_number};
 use std::error::Error;
 use std::fmt;
 
-/// Why no ballot was given.
+/// Why a ballot was not assigned.
 #[derive(Clone, Copy, Debug, PartialEq, Eq)]
 pub enum AssignError {
     /// No member, more than 7, not strictly rising, one outside 1 to 15, or a primary that is no
     /// member.
     BadMembers,
-    /// Ballot 2^32, the last one, was given.
+    /// Ballot 2^32, the last one, was already assigned.
     BallotsSpent,
 }
 

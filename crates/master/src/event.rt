@@ -6,13 +6,13 @@ use ballot_base::Config;
 use std::error::Error;
 use std::fmt;
 
-/// One thing that happens in a group of replicas.
+/// An event of a group of replicas.
 #[derive(Drop)]
 pub enum Event<C> {
     /// A command is proposed to a node. Idle if that node is no running active primary, or its log
     /// is full.
     Propose(u8, C),
-    /// The master gives the next ballot to a configuration. Idle if it refuses: for members or a
+    /// The master assigns the next ballot to a configuration. Idle if it refuses: for members or a
     /// primary that no ballot may have, and after ballot 2^32.
     Assign(Config),
     /// The message of this number, counted from 0 in the order of sending, reaches its receiver.
@@ -27,7 +27,7 @@ pub enum Event<C> {
     Crash(u8),
 }
 
-/// An event that cannot happen now. Nothing was changed.
+/// The answer for an event that cannot happen now. Nothing was changed.
 #[derive(Clone, Copy, Debug, PartialEq, Eq)]
 pub struct Idle;
 

@@ -1,4 +1,13 @@
-// A group of replicas and their master.
+// A group of replicas and their master, with every message ever sent.
+//
+// A message is never altered and never removed from `sent`, so any event list may deliver it late,
+// again or never: that is all that is assumed of a network. What is agreed is therefore a statement
+// about traces, and the invariant of this type says that one led here.
+//
+// Invariants: a trace of moments leads to this group; `left` has outputs alone; `losses` is no less
+// than that of any node. `archive` has the places below every base, so that a whole log can be
+// named after a cut; no node reads it. `told` and `next` count what was acknowledged in the active
+// and in the waiting ballot, so that `agreed` need not search the messages.
 
 ghost use Rattle.std.specs.Prelude.{ℕ, ◌-◌, ◌≡◌, ◌<◌, ◌↔◌, true, false, None, Some, [], length};
 ghost use Rattle.std.specs.Prelude.{slice_get, map, List, ◌∷◌, ◌++◌, IfOk, IfSome, OnErr};
@@ -34,12 +43,11 @@ use std::marker::Model;
 
 mod event_steps;
 
-/// A master and replicas of a machine that communicate only by their messages. All messages ever
-/// sent may arrive at any time, again and in any order, or never.
+/// A master and replicas of a machine that communicate only by messages. A message once sent may
+/// arrive at any time, again and in any order, or never.
 pub struct Group<M: Machine> {
-    // The allocator of copies of messages and commands.
     alloc: Global,
-    // Gives ballots their configurations.
+    // Assigns ballots to configurations.
     master: Master,
     // Node n + 1 is at index n.
     nodes: Vec<Replica<M>>,
@@ -53,7 +61,7 @@ pub struct Group<M: Machine> {
     told: Acknowledged,
     // What was acknowledged in the ballot that waits, if one does.
     next: Acknowledged,
-    // How many steps lost something, up to 2^64 - 1. No node has counted more.
+    // How many steps lost something (saturates at 2^64 - 1). No node has counted more.
     losses: u64,
 }
 
@@ -88,7 +96,7 @@ impl<M: Machine> Model for Group<M> {
           losses = group.losses;
         } };
 
-    // Moments led to this group, and each loss of a replica was counted.
+    // A trace of moments leads to this group, and it has counted each loss of a replica.
     ghost invariant = { λ group.
         (messages group.left.items ≡ []) ×
         IsGroup M.rules (moment_of group.archive.items group.master group.nodes.items
@@ -158,8 +166,9 @@ impl<M: Machine> Group<M> {
         })
     }
 
-    /// Lets one event happen. [`Idle`] comes for what cannot happen now, and changes nothing. If
-    /// memory runs out, messages are lost, nothing happens, or the node stops.
+    /// Performs one event. Fails with [`Idle`], and changes nothing, if the event cannot happen
+    /// now. If memory runs out, messages are lost, nothing happens, or the node stops; that is
+    /// counted.
     pub fn step(&mut self, event: &Event<M::Command>) -> Result<(), Idle>
         ensures step { GroupEventOrLost M.rules self.old event.now self.new }
         ensures exact { GroupLosesNothing self.old self.new →
@@ -185,7 +194,7 @@ impl<M: Machine> Group<M> {
         }
     }
 
-    /// Lets events happen one after another. Idle ones are skipped.
+    /// Performs events in order, and skips idle ones.
     pub fn run(&mut self, events: &[Event<M::Command>])
         // Each event is done exactly, or with losses that are counted for it.
         ensures run { GroupTraceOrLost M.rules self.old events.now self.new }
@@ -225,8 +234,8 @@ impl<M: Machine> Group<M> {
         )
     }
 
-    /// Returns the length of the agreed list. It takes no longer, however much was sent, which no
-    /// clause says.
+    /// Returns the length of the agreed list. Its time does not depend on how much was sent, which
+    /// no clause says.
     pub fn agreed_len(&self) -> u64
         ensures { (config : Config) (moments : List (Moment M M.Command M.Output))
             (agreed : List M.Command) →
@@ -240,7 +249,7 @@ impl<M: Machine> Group<M> {
         self.told.least_but_one(members)
     }
 
-    /// Returns the messages that were sent, each with its receiver: message number n is at index n.
+    /// Returns all messages that were sent, each with its receiver: message number n is at index n.
     /// Node 0 is the master.
     pub fn sent(&self) -> &[(u8, Message<M::Command>)]
         ensures { result.now ≡ self.now.moment.world.sent }
@@ -248,7 +257,7 @@ impl<M: Machine> Group<M> {
         self.sent.as_slice()
     }
 
-    /// Returns the outputs that left, in order: each is an [`Effect::Out`] with its place.
+    /// Returns the outputs that left, in order. Each is an [`Effect::Out`] with its place.
     pub fn left(&self) -> &[Effect<M::Command, M::Output>]
         ensures { result.now ≡ map (λ left. Effect.Out left.0 left.1) self.now.moment.world.left }
     {
@@ -263,14 +272,14 @@ impl<M: Machine> Group<M> {
         self.master.active()
     }
 
-    /// Returns how many steps lost something for want of memory (saturates at 2^64 - 1).
+    /// Returns how many steps lost something because memory ran out (saturates at 2^64 - 1).
     pub fn losses(&self) -> u64
         ensures { result ≡ self.now.losses }
     {
         self.losses
     }
 
-    // Returns the index of a node that exists and has not stopped.
+    // Returns the index of a node that exists and runs.
     fn running(&self, node: u8) -> Option<usize>
         ensures some { IfSome result (λ at. RunsAt self.now.moment.world.nodes node at) }
         ensures none { result ≡ None → running self.now.moment.world.nodes node ≡ None }
@@ -285,8 +294,8 @@ impl<M: Machine> Group<M> {
         Some(at)
     }
 
-    // Returns true if a message that was sent would have an effect at a node. A message that would,
-    // and has more than numbers, makes the node send something or add to its log.
+    // Returns true if a message would have an effect at a node. One that would, and is more than
+    // numbers, makes the node send something or add to its log.
     fn heeds(&self, at: usize, message: &Message<M::Command>) -> bool
         requires at { at < length self.now.moment.world.nodes }
         requires sent { (to : ℕ) × In (to, message.now) self.now.moment.world.sent }
@@ -302,7 +311,7 @@ impl<M: Machine> Group<M> {
         self.nodes[at].heeds(message)
     }
 
-    // Lets a node that runs take an input.
+    // Feeds an input to a node that runs.
     fn take_input(&mut self, at: usize, input: Input<M::Command>)
         requires runs { (replica : ReplicaState M M.Command) ×
             (slice_get self.old.moment.world.nodes at ≡ Some replica) ×
@@ -326,7 +335,7 @@ impl<M: Machine> Group<M> {
         self.losses = counted(self.losses, whole, kept);
     }
 
-    // Returns how long the log of a node is; 0 if the node is unknown.
+    // Returns the length of a node's log; 0 if the node is unknown.
     fn held(&self, node: u8) -> u64
         ensures { result ≡ held_by (slice_get self.now.moment.world.nodes (node - 1)) }
     {
@@ -336,7 +345,7 @@ impl<M: Machine> Group<M> {
         }
     }
 
-    // Returns the index of a member of the active ballot whose log has at least this many places.
+    // Returns the index of a member of the active ballot whose log has at least `held` places.
     fn holder(&self, held: u64) -> Option<usize>
         ensures some { IfSome result (λ at.
             HoldsAt self.now.moment.world.nodes self.now.moment.master.members held at) }
@@ -354,7 +363,7 @@ impl<M: Machine> Group<M> {
         None
     }
 
-    // Counts a loss: nothing happens, because memory ran out.
+    // Counts a loss: memory ran out, and nothing happened.
     fn count_loss(&mut self)
         ensures { self.new ≡ record self.old { losses = one_more self.old.losses } }
     {

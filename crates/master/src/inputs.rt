@@ -1,4 +1,4 @@
-// The step of one replica, and what happens to its effects.
+// The step of one replica, and where its effects go.
 
 ghost use Rattle.std.specs.Prelude.{◌≡◌, ◌≤◌, false, [], ◌∷◌, ◌++◌, length, take, drop};
 ghost use Rattle.std.specs.Prelude.{◌&&◌, if◌then◌else◌};
@@ -23,7 +23,7 @@ pub enum Input<C> {
     Ticked,
 }
 
-/// Lets a replica that runs take an input. Returns whether nothing was lost.
+/// Feeds an input to a replica that runs. Returns true if nothing was lost.
 pub fn step_replica<M: Machine>(
     replica: &mut Replica<M>,
     input: Input<M::Command>,
@@ -46,14 +46,13 @@ pub fn step_replica<M: Machine>(
     replica.losses() == before && before < u64::MAX
 }
 
-// Returns true if an effect is a message.
 fn is_message<C, O>(effect: &Effect<C, O>) -> bool
     ensures { result ≡ is_message effect.now }
 {
     matches!(effect, Effect::To(_, _))
 }
 
-// Appends a message to those that were sent. Returns whether there was memory for it.
+// Appends a message to those that were sent. Returns false if memory ran out.
 fn keep<C: Drop, O: Drop>(effect: Effect<C, O>, sent: &mut Vec<(u8, Message<C>)>) -> bool
     ensures kept { OnTrue result (sent.new.items ≡ sent.old.items ++ messages (effect ∷ [])) }
     ensures lost { OnFalse result (sent.new.items ≡ sent.old.items) }
@@ -64,8 +63,8 @@ fn keep<C: Drop, O: Drop>(effect: Effect<C, O>, sent: &mut Vec<(u8, Message<C>)>
     }
 }
 
-/// Moves the messages among effects, from an index on, after those that were sent. A message for
-/// which there is no memory is lost; returns whether none was lost.
+/// Moves the messages among the effects from index `from` on to those that were sent. A message for
+/// which memory runs out is lost. Returns true if none was lost.
 pub fn part<C: Drop, O: Drop>(
     effects: &mut Vec<Effect<C, O>>,
     sent: &mut Vec<(u8, Message<C>)>,
@@ -88,8 +87,8 @@ pub fn part<C: Drop, O: Drop>(
     whole
 }
 
-/// Returns the count of losses after a step of two parts, each of which was whole or not. It
-/// saturates at 2^64 - 1.
+/// Returns the count of losses after a step of two parts, each of which was whole or not (saturates
+/// at 2^64 - 1).
 pub fn counted(losses: u64, first: bool, second: bool) -> u64
     ensures { result ≡ (if first && second then losses else one_more losses) }
 {

@@ -1,4 +1,4 @@
-//! A group of replicas with all messages that they ever sent, and the proof that they agree.
+//! A group of replicas with every message ever sent, and the proof that they agree.
 #![tactic(auto)]
 
 mod acknowledged;

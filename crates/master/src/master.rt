@@ -1,4 +1,15 @@
-// The master: it gives ballots their configurations, and makes them active.
+// The master: it assigns ballots to configurations and activates them.
+//
+// Ballots are numbered without gaps, and at most one waits. Assigning the next one supersedes the
+// waiting one for good, so ballots become active in rising order, and two primaries never lead one
+// ballot. A ballot becomes active only when its primary asks for it, which it does once every
+// member holds its log: so the active configuration always has the agreed list. An assignment that
+// never completes loses nothing that was agreed, but members that joined it no longer serve in the
+// active ballot.
+//
+// The invariant is `given <= MAX_BALLOT`. The master does not know which nodes exist or run;
+// whoever assigns a ballot has to. No call takes memory: a `Config` is moved in, so what was
+// decided stands even if there is no memory for the message about it.
 
 ghost use Rattle.std.specs.Prelude.{◌≡◌, ◌+◌, ◌↔◌, true, false, None, Some, IfOk};
 ghost use Rattle.std.specs.Prelude.{IsErrOf, if◌then◌else◌};
@@ -13,16 +24,15 @@ use ballot_base::{Config, Members};
 use machine::MAX_BALLOT;
 use std::marker::Model;
 
-/// The active ballot with its members, and at most one ballot that waits to be activated. None of
-/// its calls takes memory.
+/// The active ballot with its members, and at most one ballot that waits to be activated. No call
+/// takes memory.
 pub struct Master {
-    // The active ballot, at first 1.
+    // The active ballot; 1 at first.
     active: u64,
-    // Its members.
     members: Members,
-    // The ballot that waits to be activated, with its configuration.
+    // The ballot that waits, with its configuration.
     waiting: Option<(u64, Config)>,
-    // How many ballots were given, at most `MAX_BALLOT`. The last one has this number.
+    // How many ballots were assigned, at most `MAX_BALLOT`; also the number of the last one.
     given: u64,
 }
 
@@ -77,7 +87,7 @@ impl Master {
         })
     }
 
-    /// Returns true if [`Master::assign`] accepts a configuration.
+    /// Returns true if [`Master::assign`] would accept the configuration.
     pub fn can_assign(&self, config: &Config) -> bool
         ensures { (result ≡ true) ↔ (refusal self.now config.now ≡ None) }
     {
@@ -111,8 +121,7 @@ impl Master {
         Ok(self.give(config))
     }
 
-    /// Gives the next ballot to a configuration that is not refused, and lets it wait. Returns the
-    /// ballot.
+    /// Assigns the next ballot to a configuration that is not refused, and returns its number.
     pub(crate) fn give(&mut self, config: Config) -> u64
         requires { refusal self.old config ≡ None }
         ensures ballot { result ≡ self.old.given + 1 }
@@ -123,9 +132,9 @@ impl Master {
         self.given
     }
 
-    /// Makes the ballot that waits the active one. For the active ballot the answer is
-    /// [`Activation::Activated`] again; for every other it is [`Activation::Superseded`], and
-    /// nothing changes.
+    /// Activates the ballot that waits. Returns [`Activation::Activated`] for it, and again for the
+    /// active ballot; for any other ballot nothing changes, and it returns
+    /// [`Activation::Superseded`].
     pub fn activate(&mut self, ballot: u64) -> Activation
         ensures state { self.new ≡ activating self.old ballot self.old.waiting }
         ensures answer { result ≡ (if is_granted self.old ballot self.old.waiting

@@ -1,4 +1,4 @@
-// The messages of the master.
+// The messages that the master sends and receives.
 
 ghost use Rattle.std.specs.Prelude.{◌≡◌, ◌++◌, ◌∷◌, []};
 ghost use Rattle.std.specs.Bool.{OnTrue, OnFalse};
@@ -8,8 +8,7 @@ ghost use Rattle.master.specs.Inside.{activation_answer, asks_for};
 use crate::activation::Activation;
 use ballot_base::{Body, MASTER, Message};
 
-/// Appends a message of the master to those that were sent. Returns whether there was memory for
-/// it.
+/// Appends a message of the master to those that were sent. Returns false if memory ran out.
 pub fn send<C: Drop>(sent: &mut Vec<(u8, Message<C>)>, receiver: u8, body: Body<C>) -> bool
     ensures kept { OnTrue result
         (sent.new.items ≡ sent.old.items ++ (receiver, record { from = master; body = body })
@@ -20,7 +19,7 @@ pub fn send<C: Drop>(sent: &mut Vec<(u8, Message<C>)>, receiver: u8, body: Body<
         .is_ok()
 }
 
-/// Returns what the master answers about a ballot.
+/// Returns the message that answers an Activate.
 pub fn activation_answer<C>(activation: Activation, ballot: u64) -> Body<C>
     ensures { result ≡ activation_answer activation ballot }
 {
@@ -30,7 +29,7 @@ pub fn activation_answer<C>(activation: Activation, ballot: u64) -> Body<C>
     }
 }
 
-/// Returns the ballot that a message asks the master to activate, if it does.
+/// Returns the ballot of an Activate, and `None` for any other message.
 pub fn asks_for<C>(message: &Message<C>) -> Option<u64>
     ensures { result ≡ asks_for message.now.body }
 {

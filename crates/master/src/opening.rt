@@ -1,4 +1,4 @@
-// The members with which a group may open.
+// Which configurations a group may open with.
 
 ghost use Rattle.std.specs.Prelude.{◌≡◌, nat_le};
 ghost use Rattle.std.specs.List.{list_all};
@@ -13,7 +13,7 @@ pub fn can_open(nodes: u8, config: &Config) -> bool
     nodes <= MAX_NODE && (config.is_lawful() && are_nodes(config.members.as_slice(), nodes))
 }
 
-// Returns true if members are among the nodes.
+// Returns true if all members are among nodes 1 to `nodes`.
 fn are_nodes(members: &[u8], nodes: u8) -> bool
     ensures { result ≡ list_all (λ member. nat_le member nodes) members.now }
 {

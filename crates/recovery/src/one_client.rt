@@ -1,5 +1,5 @@
-//! What the CONNACK at the end of a way out does to a client. No code runs here; the law is the
-//! contract of a call that does nothing.
+//! What the CONNACK at the end of a recovery does to a client. No code runs here: the theorem is
+//! the contract of a function with an empty body.
 
 mod theorems;
 

@@ -1,6 +1,6 @@
-//! What the steps of a way out do to one node with connections, and what its broker answers to a
-//! client that comes back there. No code runs here; the laws are contracts of calls that do
-//! nothing.
+//! What the steps of a recovery do to one node with connections, and what its broker answers to a
+//! client that reconnects. No code runs here: the theorems are the contracts of functions with an
+//! empty body.
 
 mod theorems;
 

@@ -1,6 +1,6 @@
 //! A recovery from every state of a group: the messages that lead a new ballot to its start.
-//! `recovery_messages` and `answers` compute their numbers. Every other call is a theorem, which
-//! does nothing.
+//! `recovery_messages` and `answers` compute their numbers. Every other function is a theorem, with
+//! an empty body.
 
 mod cut_theorems;
 mod length_theorems;

@@ -21,7 +21,7 @@ use Rattle.world_pipes.specs.clients.ClientCalls.{LosesConnection}
 use Rattle.world_pipes.specs.clients.Transport.{CarriesDownWhere}
 use Rattle.world.specs.Opening.{OpensNone, OpensWhere}
 
--- the master gives a ballot, exactly or perhaps with losses
+-- the master assigns a ballot, exactly or perhaps with losses
 abbrev pub Assigns : Bool → Config → NodesState → NodesState → Type 0
 Assigns true config old new = new ≡ after_giving config old
 Assigns false config old new = NewBallotOrLost config old new

@@ -40,7 +40,7 @@ with_piped at client piped world =
 
 -- ---- a connection
 
--- connections are numbered from 1
+-- the slot of a connection, numbered from 1
 abbrev pub slot_numbered : ℕ → List ConnectionSlot → Option ConnectionSlot
 slot_numbered number connections = if number == 0 then None else slice_get connections (number - 1)
 
@@ -58,7 +58,7 @@ pair_at (Some slot) clients = pair_in (slice_get clients slot.client) slot.at
 abbrev pub pair_of : ℕ → WorldState → Option PipePair
 pair_of number world = pair_at (slot_numbered number world.connections) world.clients
 
--- the port by which its node knows it
+-- the node's port for the connection of this number
 abbrev pub port_at_node : ℕ → Port
 port_at_node number = record { 0 = number }
 

@@ -1,4 +1,4 @@
--- What a node queued goes down on its connections, also after it took an item: exactly, or, if
+-- Pending output of a node goes into the pipes, also after the node took an item: exactly, or, if
 -- losses are allowed (`whole` is false), perhaps with losses.
 use Rattle.std.specs.Prelude.{◌≡◌, ◌⊎◌, ℕ, zero, suc, ◌-◌, ◌==◌, ◌&&◌, Bool, true, false, ◌++◌, Option, Some, None, length, set}
 use Rattle.headline.specs.node_moves.Moves.NodeCall.{hands_out}
@@ -16,8 +16,8 @@ use Rattle.world_pipes.specs.clients.NodeOutput.{bytes_put_out, is_reported_open
 
 -- ---- one connection
 
--- What a connection's node queued for it is in transit down, after what was, and its end there
--- counts as open exactly if the node says that it is.
+-- The pending output of a connection's node is in its pipe, after what was there, and its end at
+-- the node counts as open exactly if the node says that it is.
 pub record IsGathered (number : ℕ) (old new : WorldState) : Type 0 where
   pub connected : Connected number old
   pub node : Option CountedCore
@@ -38,22 +38,23 @@ abbrev pub leads_open_to : ℕ → Option ConnectionSlot → Bool
 leads_open_to node None = false
 leads_open_to node (Some slot) = (slot.node == node) && slot.is_open
 
--- what a connection's node queued for it is gathered; if losses are allowed, the node may run out
--- of memory instead: nothing goes down, its end stays as it was, and that is counted
+-- the pending output of a connection's node goes into its pipe; if losses are allowed, the node may
+-- run out of memory instead: nothing goes down, its end stays as it was, and that is counted
 abbrev pub MayBeGathered : Bool → ℕ → WorldState → WorldState → Type 0
 MayBeGathered true number old new = IsGathered number old new
 MayBeGathered false number old new =
     IsGathered number old new ⊎ (new ≡ record old { nodes = nodes_with_loss old.nodes })
 
--- what a connection's node queued for it is gathered if the second value is true; otherwise nothing
--- changes
+-- the pending output of a connection's node goes into its pipe if the second value is true;
+-- otherwise nothing changes
 abbrev pub GatheredWhere : Bool → Bool → ℕ → WorldState → WorldState → Type 0
 GatheredWhere whole true number old new = MayBeGathered whole number old new
 GatheredWhere whole false number old new = new ≡ old
 
 -- ---- the connections of a node
 
--- of this many connections, from the newest to the oldest, those open at the node are gathered from
+-- among this many connections, from the newest to the oldest, the open ones of the node are
+-- gathered
 abbrev pub GathersAmong : Bool → ℕ → ℕ → WorldState → WorldState → Type 0
 GathersAmong whole zero node old new = new ≡ old
 GathersAmong whole (suc before) node old new =
@@ -67,12 +68,12 @@ abbrev pub Gathers : Bool → ℕ → WorldState → WorldState → Type 0
 Gathers whole zero old new = new ≡ old
 Gathers whole (suc at) old new = GathersAmong whole (length old.connections) (suc at) old new
 
--- a node takes just this item; if losses are allowed, perhaps with losses
+-- a node takes exactly this item; if losses are allowed, perhaps with losses
 abbrev pub TakesWhere : Bool → ℕ → Item → NodesState → NodesState → Type 0
 TakesWhere true node item old new = TakesExactly node item old new
 TakesWhere false node item old new = NodeItemOrLost node item old new
 
--- a node takes just this item, and what it queued then goes down
+-- a node takes exactly this item, and what it queued then goes down
 abbrev pub TakesItem : Bool → ℕ → Item → WorldState → WorldState → Type 0
 TakesItem whole node item old new =
     (between : NodesState) × TakesWhere whole node item old.nodes between

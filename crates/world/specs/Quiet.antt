@@ -15,7 +15,7 @@ use Rattle.world.specs.Found.{slot_numbered, port_at_node}
 use Rattle.world.specs.World.{WorldState}
 use Rattle.world_pipes.specs.clients.NodeOutput.{HasNothingToHandOver}
 
--- an item takes no memory at a node, which has nothing to hand over
+-- an item takes no memory at a node, which has no pending output
 abbrev pub IsQuietAt : ℕ → Item → NodesState → Type 0
 IsQuietAt node item state = RestsAt node item state × HasNothingToHandOver node state
 
@@ -32,8 +32,8 @@ EndsQuietly number (Some slot) state = IsQuietAt slot.node (items.Ended (port_at
 
 -- An event takes no memory if a client only loses its connection, if an Open finds no name left, if
 -- a message reaches the master that it ignores, and in one case more. In it a message, a tick, the
--- end of a connection or a crash reaches a node that then sends nothing and has nothing to hand
--- over. Such a node adds nothing to its log, takes no log and applies nothing.
+-- end of a connection or a crash reaches a node that then sends nothing and has no pending output.
+-- Such a node adds nothing to its log, takes no log and applies nothing.
 abbrev pub EventTakesNoMemory : Event → WorldState → Type 0
 EventTakesNoMemory (events.Deliver number) world =
     ComesQuietly (slice_get world.nodes.sent number) world.nodes

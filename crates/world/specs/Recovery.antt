@@ -1,4 +1,4 @@
--- A way out of a world: when there is one, and what it leads to.
+-- The recovery of a world: when there is one, and what it leads to.
 use Rattle.std.specs.Prelude.{◌≡◌, ◌≤◌, ℕ, ◌+◌, true, false, List, [], ◌∷◌, Option, Some, None, slice_get}
 use Rattle.std.specs.List.{list_all, position}
 use Rattle.lists.specs.Lists.{IsPrefixOf}
@@ -35,9 +35,9 @@ abbrev pub log_length_of : Option CountedCore → ℕ
 log_length_of None = 0
 log_length_of (Some node) = places node.core.replica.state.log
 
--- The master gives the next ballot to these members, and each of them runs. The first member of the
--- active configuration that runs, given by its index, has room for two more commands. The client
--- has a session that is not clean after the whole log of that member, agreed or not.
+-- The master assigns the next ballot to these members, and each of them runs. The first running
+-- member of the active configuration, given by its index, has two places left in its log. The
+-- client has a session that is not clean after the whole log of that member, agreed or not.
 pub record CanEscape (members : List ℕ) (name : Client) (world : WorldState) : Type 0 where
   pub granted : refusal world.nodes.master (configuration_of members) ≡ None
   pub live : list_all (is_running world.nodes.nodes) members ≡ true
@@ -54,7 +54,7 @@ pub record CanEscape (members : List ℕ) (name : Client) (world : WorldState) :
 
 -- ---- what it leads to
 
--- The ballot that was to be given next is active. What was agreed before is a prefix of what is
+-- The ballot that was to be assigned next is active. What was agreed before is a prefix of what is
 -- agreed now. The client is online, and its last CONNACK said that its session is present.
 pub record HasEscaped (name : Client) (old new : WorldState) : Type 0 where
   pub active : new.nodes.master.active ≡ old.nodes.master.given + 1

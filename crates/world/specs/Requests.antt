@@ -1,4 +1,4 @@
--- What clients are asked to publish: the Publish events that were done, in order.
+-- What clients were asked to publish: the Publish events that were done, in order.
 use Rattle.std.specs.Prelude.{◌≡◌, ◌⊎◌, ℕ, false, List, [], ◌∷◌, ◌++◌, Result, Ok, Err}
 use Rattle.ballot_base.specs.Losses.{one_more}
 use Rattle.client_base.specs.Steps.{Call}

@@ -1,4 +1,4 @@
--- Which worlds of the model a world in code corresponds to, and how these move.
+-- Which worlds of the model correspond to a world in code, and how these move.
 use Rattle.std.specs.Prelude.{◌≡◌, ℕ, List, [], ◌++◌, Option, Some, None, slice_get}
 use Rattle.ballot_base.specs.declared.config.Config.{Config}
 use Rattle.broker_spec.specs.Place.{Client}

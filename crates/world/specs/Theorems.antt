@@ -1,4 +1,4 @@
--- Laws about what events do. The calls of `laws.rt` prove them.
+-- Theorems about what events do. The functions of `theorems.rt` prove them.
 use Rattle.std.specs.Prelude.{◌≡◌, ◌<◌, ◌≤◌, ℕ, false, List, Some, Ok}
 use Rattle.ballot_base.specs.Losses.{greatest_count}
 use Rattle.machine.specs.Ballots.{max_ballot}

@@ -6,7 +6,7 @@ use Rattle.world_nodes.specs.Nodes.{NodesState}
 
 -- The nodes with their master; the clients, each with its identifier and all its connections; the
 -- state of each connection, the first opened first; and the count of steps in which something was
--- lost, up to 2^64 - 1.
+-- lost (saturates at 2^64 - 1).
 pub record WorldState : Type 0 where
   pub nodes : NodesState
   pub clients : List WorldClient

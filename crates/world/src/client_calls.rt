@@ -1,4 +1,4 @@
-// What clients do in a world.
+// The clients' events of a world.
 
 ghost use Rattle.std.specs.Prelude.{◌≡◌, ◌<◌, true, false, length, slice_get, IfSome};
 ghost use Rattle.world_nodes.specs.RunningNodes.{numbered_node};
@@ -26,9 +26,9 @@ use world_pipes::clients::{
 use world_pipes::events::Event;
 
 impl World {
-    /// Opens a connection of a client to a node. `Idle` comes if there is no such client, if it has
-    /// a connection, and if the node is no running active primary. An open past the last connection
-    /// of a ballot changes nothing.
+    /// Opens a connection of a client to a node. Fails with `Idle` if there is no such client, if
+    /// it has a connection, and if the node is no running active primary. An open past the last
+    /// connection of a ballot changes nothing.
     pub(crate) fn open(&mut self, client: &ClientId, node: u8) -> Result<(), Idle>
         ensures goes { IsTrace self.old self.new }
         ensures meets { EventResultOrLost (Event.Open client.now node) self.old result self.new }
@@ -45,7 +45,7 @@ impl World {
         if !self.serves(node) {
             return Err(Idle);
         }
-        // Closed at once, without a byte.
+        // The connection is closed at once, without a byte.
         if self.has_no_name_left(node) {
             return Ok(());
         }
@@ -53,8 +53,8 @@ impl World {
         Ok(())
     }
 
-    // Lets a client that holds no connection open one to a node that serves clients. If it then has
-    // none, because memory ran out, that is counted, unless the nodes have counted it already.
+    // Opens a connection for a client that holds none, to a node that serves clients. If it then
+    // has none because memory ran out, counts that, unless the nodes did.
     fn open_to(&mut self, client: usize, node: u8)
         requires some { client < length self.old.clients }
         requires free { IfSome (slice_get self.old.clients client)
@@ -72,8 +72,8 @@ impl World {
         }
     }
 
-    // Gives a client a connection to a node, with its CONNECT in transit. Returns whether it has
-    // one.
+    // Opens a connection with its CONNECT in transit, and adds its slot. Returns true if the client
+    // then has it.
     fn open_slot(&mut self, client: usize, node: u8) -> bool
         requires some { client < length self.old.clients }
         requires free { IfSome (slice_get self.old.clients client)
@@ -106,7 +106,7 @@ impl World {
         true
     }
 
-    /// Lets a client lose its connection. `Idle` comes if there is no such client, or it has none.
+    /// Drops a client's connection. Fails with `Idle` if there is no such client, or it has none.
     pub(crate) fn abandon(&mut self, client: &ClientId) -> Result<(), Idle>
         ensures goes { IsTrace self.old self.new }
         ensures meets { EventResultOrLost (Event.Abandon client.now)
@@ -124,7 +124,7 @@ impl World {
         Ok(())
     }
 
-    /// Lets a client disconnect. `Idle` comes if there is no such client, or it has no connection.
+    /// Disconnects a client. Fails with `Idle` if there is no such client, or it has no connection.
     pub(crate) fn disconnect(&mut self, client: &ClientId) -> Result<(), Idle>
         ensures goes { IsTrace self.old self.new }
         ensures meets { EventResultOrLost (Event.Disconnect client.now)
@@ -141,7 +141,7 @@ impl World {
         self.called(done)
     }
 
-    /// Lets a client publish. `Idle` comes if there is no such client, and if it refuses.
+    /// Publishes as a client. Fails with `Idle` if there is no such client, and if it refuses.
     pub(crate) fn publish(
         &mut self,
         client: &ClientId,
@@ -163,7 +163,7 @@ impl World {
         self.called(done)
     }
 
-    /// Lets a client subscribe to a filter, at most at this QoS. `Idle` comes as for `publish`.
+    /// Subscribes a client to a filter, at most at this QoS. Fails with `Idle` as `publish` does.
     pub(crate) fn subscribe(
         &mut self,
         client: &ClientId,
@@ -185,7 +185,7 @@ impl World {
         self.called(done)
     }
 
-    /// Lets a client unsubscribe from a filter. `Idle` comes as for `publish`.
+    /// Unsubscribes a client from a filter. Fails with `Idle` as `publish` does.
     pub(crate) fn unsubscribe(&mut self, client: &ClientId, filter: &Filter) -> Result<(), Idle>
         ensures goes { IsTrace self.old self.new }
         ensures meets { EventResultOrLost (Event.Unsubscribe client.now filter.now)
@@ -202,7 +202,8 @@ impl World {
         self.called(done)
     }
 
-    // Ends a call of a client: a refusal is idle, running out of memory is counted.
+    // Turns the result of a client's call into that of an event: a refusal is idle, and running out
+    // of memory is counted.
     fn called(&mut self, done: Result<Sending, ClientError>) -> Result<(), Idle>
         ensures { CountsRefusal done self.old result self.new }
     {
@@ -216,7 +217,6 @@ impl World {
         }
     }
 
-    // Returns true if a node has no name left in its ballot.
     fn has_no_name_left(&self, node: u8) -> bool
         ensures { result ≡ has_no_name_left (numbered_node self.now.nodes.nodes node) }
     {
@@ -226,7 +226,6 @@ impl World {
         }
     }
 
-    // Returns true if a node is a running active primary.
     fn serves(&self, node: u8) -> bool
         ensures { result ≡ is_serving (numbered_node self.now.nodes.nodes node) }
     {

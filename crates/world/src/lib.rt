@@ -1,4 +1,5 @@
-//! A world: nodes with their master, clients, and a pipe of bytes each way on every connection.
+//! A world: nodes with their master, clients, and a pipe of bytes in each direction of every
+//! connection.
 #![tactic(auto)]
 
 mod client_calls;

@@ -1,4 +1,4 @@
-// What nodes and their master do in a world.
+// The nodes' events of a world, and the master's.
 
 ghost use Rattle.std.specs.Prelude.{◌≡◌, ◌<◌, ◌-◌, true, Some, slice_get};
 ghost use Rattle.world.specs.EventSteps.{receiver_of};
@@ -16,7 +16,7 @@ use world_pipes::clients::ConnectionSlot;
 use world_pipes::events::Event;
 
 impl World {
-    /// Delivers the message of a number. `Idle` comes if no such message was sent, and if its
+    /// Delivers message `number`. Fails with `Idle` if no such message was sent, and if its
     /// receiver is unknown or has stopped.
     pub(crate) fn deliver(&mut self, number: u64) -> Result<(), Idle>
         ensures goes { IsTrace self.old self.new }
@@ -31,7 +31,7 @@ impl World {
         Ok(())
     }
 
-    // Returns the receiver of a message; 0 for the master, and if none was sent.
+    // Returns the receiver of a message; 0 for the master, and if no such message was sent.
     fn receiver(&self, number: u64) -> u8
         ensures { result ≡ receiver_of (slice_get self.now.nodes.sent number) }
     {
@@ -41,7 +41,7 @@ impl World {
         }
     }
 
-    /// Lets time pass at a node. `Idle` comes if it is unknown or has stopped.
+    /// Ticks a node. Fails with `Idle` if it is unknown or has stopped.
     pub(crate) fn tick(&mut self, node: u8) -> Result<(), Idle>
         ensures goes { IsTrace self.old self.new }
         ensures meets { EventResultOrLost (Event.Tick node) self.old result self.new }
@@ -54,8 +54,8 @@ impl World {
         Ok(())
     }
 
-    /// Lets a node cut its log. `Idle` comes if it is unknown or has stopped, and if it has applied
-    /// nothing since its last cut.
+    /// Cuts a node's log. Fails with `Idle` if the node is unknown or has stopped, and if it has
+    /// applied nothing since its last cut.
     pub(crate) fn cut(&mut self, node: u8) -> Result<(), Idle>
         ensures goes { IsTrace self.old self.new }
         ensures meets { EventResultOrLost (Event.Cut node) self.old result self.new }
@@ -66,8 +66,8 @@ impl World {
         Ok(())
     }
 
-    /// Lets a node propose to end the session of a client. `Idle` comes if there is no such client,
-    /// if the node is no running active primary, and if its log is full.
+    /// Proposes an Expel of a client at a node. Fails with `Idle` if there is no such client, if
+    /// the node is no running active primary, and if its log is full.
     pub(crate) fn expel(&mut self, client: &ClientId, node: u8) -> Result<(), Idle>
         ensures goes { IsTrace self.old self.new }
         ensures meets { EventResultOrLost (Event.Expel client.now node) self.old result self.new }
@@ -81,7 +81,7 @@ impl World {
         Ok(())
     }
 
-    /// Stops a node for good. `Idle` comes if it is unknown or has stopped.
+    /// Stops a node for good. Fails with `Idle` if it is unknown or has stopped.
     pub(crate) fn crash(&mut self, node: u8) -> Result<(), Idle>
         ensures goes { IsTrace self.old self.new }
         ensures meets { EventResultOrLost (Event.Crash node) self.old result self.new }
@@ -94,7 +94,8 @@ impl World {
         Ok(())
     }
 
-    /// Lets the master give the next ballot to a configuration. `Idle` comes if the master refuses.
+    /// Asks the master to assign the next ballot to a configuration. Fails with `Idle` if it
+    /// refuses.
     pub(crate) fn assign(&mut self, config: &Config) -> Result<(), Idle>
         ensures goes { IsTrace self.old self.new }
         ensures meets { EventResultOrLost (Event.Assign config.now) self.old result self.new }
@@ -103,8 +104,8 @@ impl World {
         self.nodes.assign(config)
     }
 
-    /// Lets a node notice the end of a connection. `Idle` comes if its end there is closed, and if
-    /// the node has stopped.
+    /// Ends a connection at its node. Fails with `Idle` if its end there is closed, and if the node
+    /// has stopped.
     pub(crate) fn notice(&mut self, number: u64) -> Result<(), Idle>
         ensures goes { IsTrace self.old self.new }
         ensures meets { EventResultOrLost (Event.Notice number) self.old result self.new }
@@ -118,7 +119,6 @@ impl World {
         }
     }
 
-    // Lets a node notice the end of a connection.
     fn end(&mut self, slot: ConnectionSlot, number: u64) -> Result<(), Idle>
         requires stands { slice_get self.old.connections (number - 1) ≡ Some slot }
         requires up { slot.is_open ≡ true }

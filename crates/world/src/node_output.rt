@@ -1,4 +1,4 @@
-// What a node queued goes into the pipes to its clients.
+// Pending output of nodes goes into the pipes to their clients.
 
 ghost use Rattle.std.specs.Prelude.{◌≡◌, ◌<◌, ◌-◌, true, false, Some, length, slice_get};
 ghost use Rattle.world.specs.NodeOutput.{Gathers, GathersAmong};
@@ -12,7 +12,7 @@ use world_base::node_connections::Port;
 use world_pipes::clients::{ConnectionSlot, hand_down};
 
 impl World {
-    /// Puts into the pipes what a node queued, on each connection whose end there is open. The
+    /// Moves a node's pending output into the pipes of all connections that are open there. The
     /// master, node 0, has none.
     pub(crate) fn gather(&mut self, node: u8)
         ensures goes { IsTrace self.old self.new }
@@ -25,8 +25,8 @@ impl World {
         }
     }
 
-    // Puts into the pipes what the node queued, on the connections whose end is open, at whichever
-    // node, from the newest to the oldest.
+    // Moves a node's pending output into the pipes, walking the open connections of all nodes from
+    // the newest to the oldest.
     fn gather_open(&mut self, node: u8)
         ensures goes { IsTrace self.old self.new }
         ensures gathers { GathersAmong false (length self.old.connections) node self.old self.new }
@@ -40,8 +40,8 @@ impl World {
         }
     }
 
-    // Puts into the pipe what the node queued on the connection at this index among those whose end
-    // is open, if that leads to the node.
+    // Moves the pending output of one open connection, by its index among those, into its pipe, if
+    // it leads to the node.
     fn gather_at(&mut self, node: u8, at: usize)
         requires { at < length (open_from 1 self.old.connections) }
         ensures goes { IsTrace self.old self.new }
@@ -58,15 +58,14 @@ impl World {
         }
     }
 
-    // Returns how many connections have an open end at their node.
+    // Returns how many connections are open at their node.
     fn open_len(&self) -> usize
         ensures { result ≡ length (open_from 1 self.now.connections) }
     {
         self.open_ends.len()
     }
 
-    // Returns the connection at this index among those whose end is open: its number, and its
-    // state.
+    // Returns an open connection by its index among those: its number and its slot.
     fn open_at(&self, at: usize) -> (u64, ConnectionSlot)
         requires { at < length (open_from 1 self.now.connections) }
         ensures number { slice_get (open_from 1 self.now.connections) at ≡ Some result.0 }
@@ -78,7 +77,7 @@ impl World {
         (number, self.connections[number as usize - 1])
     }
 
-    // Closes the end of the connection at this index among those whose end is open.
+    // Marks an open connection, by its index among those, as closed at its node.
     fn close(&mut self, at: usize, slot: ConnectionSlot, number: u64)
         requires number { slice_get (open_from 1 self.old.connections) at ≡ Some number }
         requires slot { slice_get self.old.connections (number - 1) ≡ Some slot }
@@ -90,8 +89,8 @@ impl World {
         self.open_ends.remove(at);
     }
 
-    // Puts into the pipe what its node queued for a connection. Returns whether its end there is
-    // open.
+    // Moves the pending output of a connection's node into its pipe. Returns true if its end there
+    // is open.
     fn gather_on(&mut self, slot: ConnectionSlot, number: u64) -> bool
         requires stands { slice_get self.old.connections (number - 1) ≡ Some slot }
         requires positive { 0 < number }

@@ -1,4 +1,4 @@
-// What can be read of the agreed list, and of a world's clients and connections.
+// What can be read of a world: the agreed list, its clients and connections.
 
 ghost use Rattle.std.specs.Prelude.{ℕ, List, ◌≡◌, ◌<◌, ◌-◌, ◌++◌, length, [], None, Some, IfSome, slice_get};
 ghost use Rattle.std.specs.List.{position};
@@ -20,14 +20,14 @@ use world_pipes::PipedClient;
 use world_pipes::clients::ConnectionSlot;
 
 impl World {
-    /// Returns the list on which the nodes agree, the longest that is chosen in a ballot that was
-    /// active, in two parts: the second continues where the first ends. The time that it takes does
-    /// not depend on how many messages were sent, which no clause says.
+    /// Returns the agreed list, the longest that is chosen in a ballot that was active, in two
+    /// parts: the second continues where the first ends. Its time does not depend on how many
+    /// messages were sent, which no clause says.
     pub fn agreed(&self) -> (&[Command], &[Command])
         ensures agreed { AgreeOn self.now.nodes (result.0.now ++ result.1.now) }
 
-        // Nodes that can be reached agree on it, and by it each client of a world that can be
-        // reached is exact.
+        // Nodes of a reachable world agree on it, and by it each client of a reachable world is
+        // exact.
         ensures reached { (nodes : ℕ) (config : Config)
             (reached : AreReached nodes config self.now.nodes) →
             result.0.now ++ result.1.now ≡ reached.list }
@@ -38,8 +38,8 @@ impl World {
         self.nodes.agreed()
     }
 
-    /// Returns the length of that list. The time that it takes does not depend on how many messages
-    /// were sent, which no clause says.
+    /// Returns the length of that list. Its time does not depend on how many messages were sent,
+    /// which no clause says.
     pub fn agreed_len(&self) -> u64
         ensures agreed { AgreeOnSoMany self.now.nodes result }
         ensures reached { (nodes : ℕ) (config : Config)
@@ -51,14 +51,14 @@ impl World {
         self.nodes.agreed_len()
     }
 
-    /// Returns the client with this identifier, if there is one.
+    /// Returns the client with this identifier; `None` if there is none.
     pub fn client(&self, client: &ClientId) -> Option<&ClientCore>
         ensures some { IfSome result
             (λ core. core_named client.now self.now.clients ≡ Some core.now) }
         ensures none { result ≡ None → core_named client.now self.now.clients ≡ None }
 
-        // What it shows is as promised, by what it was asked to publish and the list on which the
-        // nodes agree.
+        // What the client shows is as promised, by what it was asked to publish and the agreed
+        // list.
         ensures promised { (nodes : ℕ) (config : Config) (clients : List Client)
             (reached : IsReached nodes config clients self.now) (at : ℕ) →
             position (is_named client.now) self.now.clients ≡ Some at → IfSome result (λ core.
@@ -71,7 +71,7 @@ impl World {
         Some(found.piped.core())
     }
 
-    /// Returns the bytes that wait to be carried up on a connection; none for one that was never
+    /// Returns the bytes in transit on a connection to its node; none for one that was never
     /// opened.
     pub fn up(&self, connection: u64) -> &[u8]
         ensures some { IfSome (pair_of connection self.now) (λ pair. result.now ≡ pair.up) }
@@ -83,7 +83,7 @@ impl World {
         }
     }
 
-    /// Returns the bytes that wait to be carried down on a connection; none for one that was never
+    /// Returns the bytes in transit on a connection to its client; none for one that was never
     /// opened.
     pub fn down(&self, connection: u64) -> &[u8]
         ensures some { IfSome (pair_of connection self.now) (λ pair. result.now ≡ pair.down) }
@@ -95,8 +95,8 @@ impl World {
         }
     }
 
-    // Returns the client of a connection, and the index of the connection among its own; `None` for
-    // one that was never opened.
+    // Returns the client of a connection, and its index among the client's own; `None` for one that
+    // was never opened.
     fn client_of(&self, connection: u64) -> Option<(&PipedClient, usize)>
         ensures below { IfSome result (λ found. found.1 < length found.0.now.pairs) }
         ensures some { IfSome result (λ found.
@@ -111,7 +111,7 @@ impl World {
         Some((&found.piped, slot.at))
     }
 
-    /// Returns the index of a client; `None` if there is none with this identifier.
+    /// Returns the index of a client; `None` if no client has this identifier.
     pub(crate) fn index_of_client(&self, client: &ClientId) -> Option<usize>
         ensures below { IfSome result (λ at. at < length self.now.clients) }
         ensures exact { result ≡ position (is_named client.now) self.now.clients }
@@ -119,7 +119,7 @@ impl World {
         self.clients.iter().position(|found| found.is_named(client))
     }
 
-    /// Returns the state of a connection; `None` for one that was never opened.
+    /// Returns the slot of a connection; `None` for one that was never opened.
     pub(crate) fn slot(&self, number: u64) -> Option<ConnectionSlot>
         ensures stands { IfSome result (λ slot.
             (0 < number) × (slice_get self.now.connections (number - 1) ≡ Some slot)) }

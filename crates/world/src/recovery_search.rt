@@ -1,4 +1,4 @@
-// A way out of a world.
+// Finding a recovery of a world.
 
 ghost use Rattle.std.specs.Prelude.{ℕ, ◌≡◌, ◌≤◌, ◌<◌, ◌+◌, ◌*◌, ◌↔◌, true, false, None, Some, length, slice_get, IfOk, IfSome, IsErrOf, OnOk};
 ghost use Rattle.std.specs.List.{list_all, position};
@@ -25,27 +25,27 @@ use world_pipes::events::{EscapeError, Event, push_answers, push_client, push_gr
 const MAX_MESSAGES: u64 = 1 << 62;
 
 impl World {
-    /// Returns a list of events that leads out of this world, at most 6n + 5 for n members. It
-    /// leads to a ballot of these members, the first of them its primary, and to the client online
-    /// with its session present. It changes nothing.
+    /// Returns the events of a recovery of this world, at most 6n + 5 for n members. They lead to a
+    /// ballot of these members, the first of them its primary, and to the client online with its
+    /// session present. Changes nothing.
     ///
-    /// When they are given to [`World::run`], and no loss is counted, the ballot that is given next
-    /// is active. Then what was agreed before is a prefix of what is agreed.
+    /// After [`World::run`] with these events, if no loss is counted, the ballot that is assigned
+    /// next is active, and what was agreed before is a prefix of what is agreed.
     ///
-    /// [`EscapeError::Idle`] comes if there is no way out:
+    /// Fails with [`EscapeError::Idle`] if there is no recovery:
     ///
-    /// - no ballot may have these members, or the last ballot was given;
+    /// - no ballot may have these members, or the last ballot was already assigned;
     /// - one of the members has stopped, or all members of the active configuration have;
     /// - the log that is to be fetched has no two places left;
     /// - the client is unknown, or has no session after that log.
     ///
-    /// [`EscapeError::Memory`] comes if memory runs out.
+    /// Fails with [`EscapeError::Memory`] if memory runs out.
     pub fn escape(&self, members: &[u8], client: &ClientId) -> Result<Vec<Event>, EscapeError>
         ensures short { IfOk result (λ events. length events.items ≤ 6 * length members.now + 5) }
         ensures leads_out { IfOk result
             (λ events. LeadsClientOut client.now self.now events.items) }
 
-        // Unless memory runs out, `Idle` comes exactly if there is no way out.
+        // Unless memory runs out, `Idle` comes exactly if there is no recovery.
         ensures idle { IsErrOf result EscapeError.Idle → CanEscape members.now client.now self.now →
             ⊥ }
         ensures can { OnOk result (CanEscape members.now client.now self.now) }
@@ -68,7 +68,8 @@ impl World {
         Ok(self.recovery_events(config, client, index, at)?)
     }
 
-    // Returns true if the master gives the next ballot to a configuration, and all its members run.
+    // Returns true if the master would assign the next ballot to a configuration, and all its
+    // members run.
     fn can_lead(&self, config: &Config) -> bool
         ensures { (result ≡ true) ↔ ((refusal self.now.nodes.master config.now ≡ None)
             × (list_all (is_running self.now.nodes.nodes) config.now.members ≡ true)) }
@@ -76,15 +77,14 @@ impl World {
         self.nodes.can_assign(config) && self.are_running(config.members.as_slice())
     }
 
-    // Returns true if all these nodes exist and have not stopped.
     fn are_running(&self, members: &[u8]) -> bool
         ensures { result ≡ list_all (is_running self.now.nodes.nodes) members.now }
     {
         members.iter().all(|member| self.is_running(*member))
     }
 
-    // Returns the first member of the active configuration that runs, if its log has room for two
-    // more: its index, and its number.
+    // Returns the first running member of the active configuration, by index and number, if its log
+    // has two places left.
     fn fetched(&self) -> Option<(usize, u8)>
         ensures some { IfSome result (λ found. IsFetchedFrom self.now found.0 found.1) }
         ensures none { result ≡ None → (index source : ℕ) → IsFetchedFrom self.now index source →
@@ -100,7 +100,7 @@ impl World {
         }
     }
 
-    // Returns the index of the first member of the active configuration that runs.
+    // Returns the index of the first running member of the active configuration.
     fn first_running(&self) -> Option<usize>
         ensures below { IfSome result (λ index. index < length self.now.nodes.master.members) }
         ensures exact { result
@@ -110,7 +110,7 @@ impl World {
         members.iter().position(|member| self.is_running(*member))
     }
 
-    // Returns how many places the log of a node has; 0 if the node does not exist.
+    // Returns the length of a node's log; 0 if the node does not exist.
     fn held(&self, node: u8) -> u64
         ensures { result ≡ log_length_of (numbered_node self.now.nodes.nodes node) }
     {
@@ -120,7 +120,6 @@ impl World {
         }
     }
 
-    // Returns true if a node exists and has not stopped.
     fn is_running(&self, node: u8) -> bool
         ensures { result ≡ is_running self.now.nodes.nodes node }
     {
@@ -139,8 +138,8 @@ impl World {
         self.nodes.welcomes_back(node, client)
     }
 
-    // Returns the events of a way out for the client at an index, when the member at `index` of the
-    // active configuration is asked for its log.
+    // Returns the events of a recovery for the client at an index, when the member at `index` of
+    // the active configuration is asked for its log.
     fn recovery_events(
         &self,
         config: Config,
@@ -176,7 +175,7 @@ impl World {
     }
 }
 
-// Returns a configuration by its members: the first of them is its primary.
+// Returns a configuration of these members, whose primary is the first of them.
 fn configuration(alloc: Global, members: &[u8]) -> Result<Config, Memory>
     ensures { IfOk result (λ config. config ≡ configuration_of members.now) }
 {
@@ -185,7 +184,7 @@ fn configuration(alloc: Global, members: &[u8]) -> Result<Config, Memory>
     Ok(Config { members, primary })
 }
 
-// Returns the first of some members; 0 if there is none.
+// Returns the first member; 0 if there is none.
 fn primary_of(members: &[u8]) -> u8
     ensures { result ≡ (configuration_of members.now).primary }
 {

@@ -1,4 +1,4 @@
-// Bytes reach a node, or a client.
+// Carrying bytes to a node or a client.
 
 ghost use Rattle.std.specs.Prelude.{◌≡◌, ◌<◌, ◌-◌, true, Some, slice_get, if◌then◌else◌, IfOk, OnErr};
 ghost use Rattle.world.specs.Trace.{CountsOnce};
@@ -13,8 +13,8 @@ use world_pipes::clients::{ConnectionSlot, carry_down_on, carry_to_node};
 use world_pipes::events::Event;
 
 impl World {
-    /// Carries `count` bytes from the front of a connection to its node. `Idle` comes if the end at
-    /// the node is closed, if the node has stopped, for no bytes, and for more than wait.
+    /// Carries the first `count` bytes of a connection to its node. Fails with `Idle` if its end
+    /// there is closed, if the node has stopped, for no bytes, and for more than are in transit.
     pub(crate) fn carry_up(&mut self, number: u64, count: u64) -> Result<(), Idle>
         ensures goes { IsTrace self.old self.new }
         ensures meets { EventResultOrLost (Event.CarryUp number count) self.old result self.new }
@@ -26,8 +26,8 @@ impl World {
         }
     }
 
-    // Carries this many bytes from the front of a connection to its node, and what the node then
-    // queues goes down. If there is no memory for them, they keep waiting, and that is counted.
+    // Carries the first `count` bytes of a connection to its node, and moves what the node then has
+    // pending into the pipes. If memory runs out the bytes stay in transit, and that is counted.
     fn carry_up_on(&mut self, slot: ConnectionSlot, number: u64, count: u64) -> Result<(), Idle>
         requires stands { slice_get self.old.connections (number - 1) ≡ Some slot }
         requires positive { 0 < number }
@@ -45,8 +45,8 @@ impl World {
         Ok(())
     }
 
-    // Carries this many bytes from the front of a connection to its node. Returns whether there was
-    // memory for them: if not, they keep waiting.
+    // Carries the first `count` bytes of a connection to its node. Returns false if memory runs
+    // out: they stay in transit.
     fn carry_to_node(&mut self, slot: ConnectionSlot, number: u64, count: u64) -> Result<bool, Idle>
         requires stands { slice_get self.old.connections (number - 1) ≡ Some slot }
         requires positive { 0 < number }
@@ -68,8 +68,8 @@ impl World {
         )
     }
 
-    /// Carries `count` bytes from the front of a connection to its client. `Idle` comes if the
-    /// client does not hold this connection, for no bytes, and for more than wait.
+    /// Carries the first `count` bytes of a connection to its client. Fails with `Idle` if the
+    /// client does not hold this connection, for no bytes, and for more than are in transit.
     pub(crate) fn carry_down(&mut self, number: u64, count: u64) -> Result<(), Idle>
         ensures goes { IsTrace self.old self.new }
         ensures meets { EventResultOrLost (Event.CarryDown number count) self.old result self.new }
@@ -87,7 +87,6 @@ impl World {
         }
     }
 
-    // Counts a loss unless what was done was whole.
     fn count_unless(&mut self, whole: bool)
         ensures { self.new ≡ (if whole then self.old else with_one_loss self.old) }
     {

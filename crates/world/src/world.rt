@@ -1,4 +1,16 @@
-// A world.
+// A world: nodes with their master, clients, and every byte and message in transit between them.
+//
+// There is no time and no chance in a world: `step` performs the event that its caller chooses, so
+// whatever a network, a clock or a crash may do is some list of events. The theorems hold for all
+// of them.
+//
+// Invariants: connection n + 1 is at index n of `connections`, and its slot leads to the client's
+// pipes and the node's port of that number; `open_ends` has the numbers of those whose end at their
+// node is open, rising, so that output is gathered without a walk over all connections ever opened.
+//
+// The state has no history. `exact` is stated for every world of the model that corresponds to this
+// one and is reachable, so it holds whatever led here, and after steps that lost something. A step
+// counts at most one loss, whatever was lost in it; an event that takes no memory never counts.
 
 ghost use Rattle.std.specs.Prelude.{ℕ, List, [], ◌≡◌, ◌≤◌, ◌<◌, ◌↔◌, true, false, length, IfOk, IsErr, IsErrOf, OnErr};
 ghost use Rattle.session_base.specs.declared.publication.Publication.{Publication};
@@ -25,20 +37,20 @@ use world_pipes::clients::{ConnectionSlot, WorldClient, new_clients};
 use world_pipes::events::Event;
 
 /// Nodes with their master, and clients that keep their side of the handshakes, with a pipe of
-/// bytes each way on every connection. Whatever is in transit arrives late, again or never, as
-/// events say.
+/// bytes in each direction of every connection. What is in transit arrives late, again or never, as
+/// the events say.
 pub struct World {
     /// The allocator of events and of bytes.
     pub(crate) alloc: Global,
     /// The nodes, with their master and their messages.
     pub(crate) nodes: Nodes,
-    /// Each with its identifier and all its connections.
+    /// The clients, each with all its connections.
     pub(crate) clients: Vec<WorldClient>,
-    /// Connection n + 1 is at index n.
+    /// The slot of connection n + 1 is at index n.
     pub(crate) connections: Vec<ConnectionSlot>,
     /// The numbers of the connections whose end at the node is open, rising.
     pub(crate) open_ends: Vec<u64>,
-    /// How many steps lost something, up to 2^64 - 1.
+    /// How many steps lost something (saturates at 2^64 - 1).
     pub(crate) losses: u64,
 }
 
@@ -139,13 +151,13 @@ impl World {
         })
     }
 
-    /// Lets one event happen. [`Idle`] comes for what cannot happen now, and changes nothing. If
-    /// memory runs out, messages are lost, connections are closed, nothing happens, or a node
-    /// stops; that is counted.
+    /// Performs one event. Fails with [`Idle`], and changes nothing, if the event cannot happen
+    /// now. If memory runs out, messages are lost, connections are closed, nothing happens, or a
+    /// node stops; that is counted.
     pub fn step(&mut self, event: &Event) -> Result<(), Idle>
         // Whatever happened before, and even if memory ran out, each client is exact after the
         // event: the world moves by steps of the model, some of them perhaps with losses. Its
-        // clients are asked to publish just what the event asks.
+        // clients are asked to publish exactly what the event asks.
         ensures exact { (asked : List (ℕ × Publication))
             × EventAsks event.now self.old result asked self.new
             × FollowsModelAsking asked self.old self.new × KeepsReached asked self.old self.new }
@@ -178,10 +190,10 @@ impl World {
         Ok(())
     }
 
-    /// Lets events happen one after another. Idle ones are skipped.
+    /// Performs events in order, and skips idle ones.
     pub fn run(&mut self, events: &[Event])
         // Whatever happened before, and even if memory ran out, each client is exact after the
-        // events. Its clients are asked to publish just what the events ask, in order.
+        // events. Its clients are asked to publish exactly what the events ask, in order.
         ensures exact { (asked : List (ℕ × Publication))
             × RunAsks events.now self.old asked self.new
             × FollowsModelAsking asked self.old self.new × KeepsReached asked self.old self.new }
@@ -224,7 +236,7 @@ impl World {
         members
     }
 
-    /// Returns how many steps lost something for want of memory (saturates at 2^64 - 1).
+    /// Returns how many steps lost something because memory ran out (saturates at 2^64 - 1).
     pub fn losses(&self) -> u64
         ensures { result ≡ self.now.losses }
     {
@@ -239,8 +251,8 @@ impl World {
         self.losses = self.losses.saturating_add(1);
     }
 
-    // Counts a step in which the nodes lost something: they had counted `before`. Does not count it
-    // again if the world did so already: it had counted `counted`.
+    // Counts a step in which the nodes lost something, if their count has risen above `before` and
+    // the world has not counted it already: its own count is still `counted`.
     fn count(&mut self, before: u64, counted: u64)
         ensures counts { IsCounted before counted self.old self.new }
         ensures nodes { self.new.nodes ≡ self.old.nodes }
@@ -252,8 +264,8 @@ impl World {
         }
     }
 
-    /// Returns true if the nodes have counted no step in which something was lost since they had
-    /// counted `before`.
+    /// Returns true if the nodes have counted no loss since their count was `before`; false
+    /// at its maximum.
     pub(crate) fn is_whole(&self, before: u64) -> bool
         ensures yes { result ≡ true →
             (self.now.nodes.losses ≡ before) × (before < greatest_count) }
@@ -263,7 +275,6 @@ impl World {
         self.nodes.losses() == before && before < u64::MAX
     }
 
-    // Hands an event to the call for its kind.
     fn happen(&mut self, event: &Event) -> Result<(), Idle>
         ensures asked { PublishesAsked event.now self.old result self.new }
         ensures meets { EventResultOrLost event.now self.old result self.new }

@@ -1,6 +1,6 @@
-//! The step of one node, without threads, clocks or sockets. `node_connections` has the open
-//! connections of a node, `node_core` the replica of the broker with these connections: bytes of
-//! clients, messages and times go in, bytes and messages come out.
+//! The step of one node, without threads, clocks or sockets. `node_connections` has a node's open
+//! connections; `node_core` joins them to a replica of the broker: clients' bytes, messages and
+//! times go in, bytes and messages come out.
 #![tactic(auto)]
 
 pub use crate::node_connections::{Connection, ConnectionStage, Handed, Piece, Port, Standing};

@@ -1,5 +1,5 @@
-//! The open connections of a node. Each has the bytes that came and are not read yet, and those
-//! that wait to be handed over. This says what happens to it when it is read, written to or closed.
+//! The open connections of a node, each with its unread bytes and its pending output, and what
+//! happens when one is read, written or closed.
 
 mod connection;
 mod connection_list;

@@ -1,5 +1,5 @@
-//! One replica of the broker with its connections: the state of a node between two items. Its input
-//! are bytes of clients, messages of other nodes and times, its output bytes and messages.
+//! A replica of the broker with its connections: the state of a node between two items. Its input
+//! is clients' bytes, messages of other nodes and times; its output is bytes and messages.
 
 mod ignored_items;
 mod item;

@@ -9,7 +9,7 @@ use Rattle.world_base.specs.node_core.Core.{rules}
 use Rattle.headline.specs.node_group.Group.{Group, moment_of_nodes}
 use Rattle.world_nodes.specs.Nodes.{NodesState, NodesStandFor}
 
--- whatever the history of a group that corresponds to the nodes, this is its agreed list
+-- in every history of a group that corresponds to the nodes, this is the agreed list
 abbrev pub AgreeOn : NodesState → List Command → Type 0
 AgreeOn state list =
     (config : Config) (group : Group) (earlier : List (Moment State Command Output)) →

@@ -1,4 +1,4 @@
--- What nodes and their master do, exactly, and how a group that corresponds to them then moves.
+-- What nodes and their master do exactly, and how a group that corresponds to them moves with them.
 use Rattle.std.specs.Prelude.{◌≡◌, ℕ, zero, suc, ◌-◌, [], ◌∷◌, ◌++◌, List, Option, Some, None, slice_set}
 use Rattle.ballot_base.specs.declared.message.Body.{Body}
 use Rattle.ballot_base.specs.declared.message.Body.TheVariants.{Activate}
@@ -32,15 +32,15 @@ after_node_call at node node_call state =
       sent = state.sent ++ messages (done node_call node.core).messages;
     }
 
--- The node of this number runs, and took just this item: its step is the definitions' step, and all
--- its messages were sent. No other node has changed, nor has the master.
+-- The node of this number runs, and took exactly this item: its step is the definitions' step, and
+-- all its messages were sent. No other node has changed, nor has the master.
 pub record TakesExactly (node : ℕ) (item : Item) (old new : NodesState) : Type 0 where
   pub core : CountedCore
   pub runs : running old.nodes node ≡ Some core
   pub is : new ≡ after_node_call (node - 1) core (takes item) old
 
--- The node of this number had something to cut, and took just that item; what it had applied is in
--- the record.
+-- The node of this number had something to cut, and took exactly that item; what it had applied is
+-- in the record.
 pub record CutsExactly (node : ℕ) (old new : NodesState) : Type 0 where
   pub core : CountedCore
   pub cuts : cutting old.nodes node ≡ Some core
@@ -74,7 +74,7 @@ HandsOver node port state before after =
     (core : CountedCore) → numbered_node state.nodes node ≡ Some core →
     after ≡ before ++ pending_bytes (listed_at port core.core)
 
--- the answer to a handing over says whether more may come
+-- the answer to handing over says whether more may come
 abbrev pub AnswersFor : ℕ → Port → NodesState → Handed → Type 0
 AnswersFor node port state handed =
     (core : CountedCore) → numbered_node state.nodes node ≡ Some core →
@@ -106,7 +106,7 @@ abbrev pub HeardByMaster : ℕ → Body Command → NodesState → NodesState �
 HeardByMaster from (Activate ballot) old new = new ≡ after_answer from ballot old
 HeardByMaster from _ old new = new ≡ old
 
--- a message that was sent reaches the master, or a node, which takes just it
+-- a message that was sent reaches the master, or a node, which takes exactly that message
 abbrev pub MessageArrives : Option (ℕ × Message Command) → NodesState → NodesState → Type 0
 MessageArrives None old new = ⊥
 MessageArrives (Some (zero, message)) old new = HeardByMaster message.from message.body old new

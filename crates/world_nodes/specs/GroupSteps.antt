@@ -1,5 +1,4 @@
--- How each group that corresponds to the nodes goes on, even if memory runs out: it then
--- corresponds to the nodes after.
+-- How each group that corresponds to the nodes moves with them, even if memory runs out.
 use Rattle.std.specs.Prelude.{◌≡◌, ◌⊎◌, ℕ, zero, suc, Option, Some, None}
 use Rattle.ballot_base.specs.declared.message.Body.{Body}
 use Rattle.ballot_base.specs.declared.message.Body.TheVariants.{Activate}

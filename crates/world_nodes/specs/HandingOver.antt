@@ -1,4 +1,4 @@
--- What a node handed over if memory may have run out.
+-- Handing over the pending output of a port, if memory may run out.
 use Rattle.std.specs.Prelude.{◌≡◌, ◌⊎◌, ℕ, List}
 use Rattle.world_base.specs.declared.node_core.Handed.{Handed}
 use Rattle.world_base.specs.declared.node_core.Handed.TheVariants as answers
@@ -7,8 +7,8 @@ use Rattle.world_nodes.specs.ExactSteps.{AnswersFor, HandsOutExactly, HandsOver}
 use Rattle.world_nodes.specs.Nodes.{NodesState}
 use Rattle.world_nodes.specs.Steps.{nodes_with_loss}
 
--- What was queued was handed over and appended, and the answer says whether more may come. Or
--- nothing was, more may come, and that is counted.
+-- All pending output was handed over and appended, and the answer says whether more may come. Or
+-- none was, more may come, and a loss is counted.
 abbrev pub HandoverOrLost : ℕ → Port → NodesState → NodesState → List ℕ → List ℕ → Handed → Type 0
 HandoverOrLost node port old new before after handed =
     (HandsOutExactly node port old new × HandsOver node port old before after

@@ -1,4 +1,4 @@
--- What the helpers of nodes say.
+-- Definitions for the private functions of nodes.
 use Rattle.std.specs.Prelude.{◌≡◌, ◌<◌, ℕ, Bool, true, ◌-◌, ◌++◌, List, [], Some, None, length, map, slice_get}
 use Rattle.std.specs.List.{find}
 use Rattle.lists.specs.Lists.{In}
@@ -70,8 +70,8 @@ pub record TookItem (old : CountedCore) (item : Item) (new : CountedCore)
   pub rests : ItemTakesNoMemory item old.core → find has_failed old.core.connections ≡ None →
       old.losses < greatest_count → whole ≡ true
 
--- Nodes came about as a group of the model does, and count what their messages acknowledge: in the
--- active ballot, and in the one that waits.
+-- A history of the model leads to the nodes, and the counters of the active and of the waiting
+-- ballot agree with their messages.
 pub record HaveCounted (nodes : NodesState) (told next : AcknowledgedIn) : Type 0 where
   pub group : Group
   pub stands : NodesStandFor group nodes

@@ -1,4 +1,5 @@
--- Nodes with their master and all messages that were sent, and which groups of the model they are.
+-- Nodes with their master and every message ever sent, and which groups of the model correspond to
+-- them.
 use Rattle.std.specs.Prelude.{◌≡◌, ℕ, List, map}
 use Rattle.ballot_base.specs.declared.message.Message.{Message}
 use Rattle.agreement.specs.MasterState.{MasterState}
@@ -7,8 +8,8 @@ use Rattle.world_base.specs.node_core.Core.{CoreState, CountedCore}
 use Rattle.headline.specs.node_group.Group.{Group}
 
 -- Node n + 1 is at index n; all messages that were ever sent stay, each with its receiver. The
--- record has the places below the bases of all logs. Losses count the steps in which something
--- was lost, up to 2^64 - 1.
+-- record has the places below the bases of all logs. Losses count the steps in which something was
+-- lost (saturates at 2^64 - 1).
 pub record NodesState : Type 0 where
   pub master : MasterState
   pub nodes : List CountedCore

@@ -1,5 +1,5 @@
--- What is asked of nodes before they are led out: the whole log of a node, and whether a client's
--- session is found after it.
+-- Conditions of a recovery: the whole log of a node, and whether a client's session exists after
+-- it.
 use Rattle.std.specs.Prelude.{ℕ, Bool, false, List, [], ◌∷◌, ◌++◌, Option, Some, None}
 use Rattle.machine.specs.Machine.{replay}
 use Rattle.agreement.specs.cut_logs.Whole.{whole_log}

@@ -91,8 +91,8 @@ pub record NodeCutOrLost (node : ℕ) (old new : NodesState) : Type 0 where
 abbrev pub unheard : NodesState → NodesState → NodesState
 unheard after state = record state { master = after.master; losses = one_more state.losses }
 
--- The master gave a ballot, and sent it to its primary. Or it was not sent, or nothing happened:
--- both are counted.
+-- The master assigned a ballot, and sent it to its primary. Or it was not sent, or nothing
+-- happened: both are counted.
 abbrev pub NewBallotOrLost : Config → NodesState → NodesState → Type 0
 NewBallotOrLost config old new =
     (new ≡ after_giving config old) ⊎ (new ≡ unheard (after_giving config old) old)

@@ -11,8 +11,8 @@ use broker_spec::Command;
 
 impl Nodes {
     /// Returns the agreed list, the longest that is chosen in a ballot that was active, in two
-    /// parts: the second continues where the first ends. It takes no longer, however much was sent,
-    /// which no clause says.
+    /// parts: the second continues where the first ends. Its time does not depend on how much was
+    /// sent, which no clause says.
     pub fn agreed(&self) -> (&[Command], &[Command])
         ensures { AgreeOn self.now (result.0.now ++ result.1.now) }
     {
@@ -31,7 +31,7 @@ impl Nodes {
         )
     }
 
-    /// Returns the length of the agreed list. It takes no longer, however much was sent.
+    /// Returns the length of the agreed list. Its time does not depend on how much was sent.
     pub fn agreed_len(&self) -> u64
         ensures { AgreeOnSoMany self.now result }
     {
@@ -42,7 +42,7 @@ impl Nodes {
         self.counters.agreed_by(members)
     }
 
-    // Returns the index of a member of the active ballot whose log has at least as many places.
+    // Returns the index of a member of the active ballot whose log has at least `held` places.
     fn holder(&self, held: u64) -> Option<usize>
         ensures some { IfSome result (λ at.
             HoldsAt (replicas_of self.now.nodes) self.now.master.members held at) }
@@ -59,7 +59,7 @@ impl Nodes {
         None
     }
 
-    // Returns how long the log of a node is; 0 if it does not exist.
+    // Returns the length of a node's log; 0 if the node does not exist.
     fn held(&self, node: u8) -> u64
         ensures { result ≡ held_at self.now.nodes node }
     {

@@ -1,4 +1,4 @@
-// How many places nodes acknowledged in the ballots that matter.
+// Counters of what was acknowledged in the active and in the waiting ballot.
 
 ghost use Rattle.std.specs.Prelude.{ℕ, ◌≡◌, ◌≤◌, ◌<◌, ◌^◌, IfOk, get_or, length, take};
 ghost use Rattle.ballot_base.specs.Losses.{greatest_count};
@@ -11,8 +11,8 @@ use machine::Memory;
 use master::{Acknowledged, follow_ballot};
 use std::alloc::Global;
 
-/// What was acknowledged in the active ballot, and in the one that waits. Its calls take no memory,
-/// except `new`.
+/// What was acknowledged in the active and in the waiting ballot. No call takes memory except
+/// `new`.
 #[derive(Drop)]
 pub struct Counters {
     // What was acknowledged in the active ballot.
@@ -22,8 +22,7 @@ pub struct Counters {
 }
 
 impl Counters {
-    /// Returns counters for an active ballot 1 in which nothing was acknowledged. The only error is
-    /// that memory ran out.
+    /// Returns zeroed counters, with ballot 1 active. Fails only if memory runs out.
     pub fn new(alloc: Global) -> Result<Counters, Memory>
         ensures active { IfOk result (λ counters. counters.told.ballot ≡ 1) }
         ensures untold { IfOk result (λ counters.
@@ -36,7 +35,7 @@ impl Counters {
         Ok(Counters { told, next })
     }
 
-    /// Lets another ballot wait, in which nothing was acknowledged.
+    /// Resets the counters of the waiting ballot for another one.
     pub fn begin(&mut self, ballot: u64)
         ensures waits { self.new.next.ballot ≡ ballot }
         ensures untold { (member : ℕ) → get_or self.new.next.held member 0 ≡ 0 }
@@ -45,7 +44,7 @@ impl Counters {
         self.next.begin(ballot);
     }
 
-    /// Notes that the active ballot was this one, and is that one now.
+    /// Swaps the counters if the active ballot has changed from `before` to `after`.
     pub fn follow_ballot(&mut self, before: u64, after: u64)
         ensures stays { before ≡ after →
             (self.new.told ≡ self.old.told) × (self.new.next ≡ self.old.next) }
@@ -55,7 +54,7 @@ impl Counters {
         follow_ballot(&mut self.told, &mut self.next, before, after);
     }
 
-    /// Counts what the messages from an index on acknowledge.
+    /// Counts what the messages from index `from` on acknowledge.
     pub fn count_from(&mut self, sent: &[(u8, Message<Command>)], from: usize)
         requires { from ≤ length sent.now }
         ensures told { HasCounted (take from sent.now) self.old.told →
@@ -69,7 +68,7 @@ impl Counters {
         self.next.count_from(sent, from);
     }
 
-    /// Returns how many places all of several members acknowledged in the active ballot, except its
+    /// Returns how many places all of these members acknowledged in the active ballot, without its
     /// primary, which acknowledges by no message.
     pub fn agreed_by(&self, members: &[u8]) -> u64
         requires { (member : ℕ) → In member members.now → member < 16 }

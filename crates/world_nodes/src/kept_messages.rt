@@ -1,4 +1,4 @@
-// Messages are kept after those that were sent.
+// Keeping the messages among a step's effects.
 
 ghost use Rattle.std.specs.Prelude.{◌≡◌, ◌++◌, ◌∷◌, []};
 ghost use Rattle.std.specs.Bool.{OnTrue, OnFalse};
@@ -9,8 +9,8 @@ ghost use Rattle.world_nodes.specs.Inside.{KeepsMessages};
 use ballot_base::{Effect, Message};
 use broker_spec::{Command, Output};
 
-/// Puts the messages among effects after those that were sent. A message for which there is no
-/// memory is lost. Returns whether none was lost.
+/// Appends the messages among the effects to those that were sent. A message for which memory runs
+/// out is lost. Returns true if none was lost.
 pub fn keep_all(
     effects: Vec<Effect<Command, Output>>,
     sent: &mut Vec<(u8, Message<Command>)>,
@@ -24,7 +24,7 @@ pub fn keep_all(
     whole
 }
 
-// Puts a message after those that were sent. Returns whether there was memory for it.
+// Appends a message to those that were sent. Returns false if memory runs out.
 fn keep(effect: Effect<Command, Output>, sent: &mut Vec<(u8, Message<Command>)>) -> bool
     ensures kept { OnTrue result (sent.new.items ≡ sent.old.items ++ messages (effect ∷ [])) }
     ensures lost { OnFalse result (sent.new.items ≡ sent.old.items) }

@@ -1,4 +1,4 @@
-//! Nodes with the connections of their clients, their master, and all messages that they ever sent.
+//! Nodes with their clients' connections, their master, and every message ever sent.
 #![tactic(auto)]
 
 mod agreed_list;

@@ -1,4 +1,4 @@
-// What nodes and their master do in a step.
+// Steps of nodes and of their master.
 
 ghost use Rattle.std.specs.Prelude.{◌≡◌, ◌+◌, ◌-◌, ◌↔◌, ◌≤◌, true, false, None, Some, length, slice_get, IfSome, OnOk, OnErr, IsErr};
 ghost use Rattle.ballot_base.specs.declared.message.Body.TheVariants.{Activate};
@@ -25,7 +25,7 @@ use master::{Idle, activation_answer, config_of, counted, record, send};
 use world_base::node_core::Item;
 
 impl Nodes {
-    /// Lets a node that runs take an item. `Idle` comes if it is unknown or has stopped.
+    /// Feeds an item to a node. Fails with `Idle` if the node is unknown or has stopped.
     pub(crate) fn act(&mut self, node: u8, item: Item) -> Result<(), Idle>
         requires { ItemWasSent node item self.old.sent }
         ensures lossy { OnOk result (NodeItemOrLost node item self.old self.new) }
@@ -49,8 +49,8 @@ impl Nodes {
         Ok(())
     }
 
-    /// Lets the node at this index ignore the message of a number, which was sent to it, as in
-    /// `act`. No copy of the message is made.
+    /// Drops message `number` at the node at index `at`, which ignores it. The message is not
+    /// copied.
     pub(crate) fn pass_over(&mut self, at: usize, number: usize)
         requires { IsPassedOver at number self.old }
         ensures lossy { DeliveryOrLost (slice_get self.old.sent number) self.old self.new }
@@ -68,8 +68,8 @@ impl Nodes {
         self.losses = counted(self.losses, whole, true);
     }
 
-    /// Lets a node that has something to cut take that item, once the record has what it applied.
-    /// The record is cut back if the log was not cut.
+    /// Cuts the log of a node that has something to cut, after recording what it applied. If the
+    /// log was not cut, the record is as before.
     pub(crate) fn cut_at(&mut self, at: usize)
         requires { (core : CountedCore) × (slice_get self.old.nodes at ≡ Some core)
             × (can_cut core.core.replica.state ≡ true) }
@@ -103,7 +103,7 @@ impl Nodes {
         self.losses = counted(self.losses, whole, true);
     }
 
-    /// Returns the message of a number, with its receiver; `None` if it was not sent.
+    /// Returns a message with its receiver; `None` if it was not sent.
     pub(crate) fn message(&self, number: u64) -> Option<&(u8, Message<Command>)>
         ensures some { IfSome result (λ found. slice_get self.now.sent number ≡ Some found.now) }
         ensures none { result ≡ None → slice_get self.now.sent number ≡ None }
@@ -111,7 +111,7 @@ impl Nodes {
         self.sent.get(number as usize)
     }
 
-    /// Returns the index of a node that exists and has not stopped; `None` for any other.
+    /// Returns the index of a node that exists and runs; `None` for any other.
     pub(crate) fn running(&self, node: u8) -> Option<usize>
         ensures some { IfSome result (λ at. RunsAt self.now.nodes node at) }
         ensures none { result ≡ None → running self.now.nodes node ≡ None }
@@ -126,8 +126,8 @@ impl Nodes {
         Some(at)
     }
 
-    /// Lets the master give a ballot, which is sent to its primary. `Memory` comes if memory ran
-    /// out before it gave any.
+    /// Assigns a ballot, and sends NewBallot to its primary. Fails with `Memory` if memory ran out
+    /// before the ballot was assigned.
     pub(crate) fn give(&mut self, config: &Config) -> Result<(), Memory>
         requires { refusal self.old.master config.now ≡ None }
         ensures lossy { OnOk result (NewBallotOrLost config.now self.old self.new) }
@@ -149,7 +149,7 @@ impl Nodes {
         Ok(())
     }
 
-    /// Lets the master answer a node that asks it to activate a ballot.
+    /// Answers an Activate, as the master.
     pub(crate) fn answer(&mut self, from: u8, ballot: u64)
         requires { In (0, record { from = from; body = Activate ballot }) self.old.sent }
         ensures lossy { MasterAnswerOrLost from (Activate ballot) self.old self.new }
@@ -164,7 +164,7 @@ impl Nodes {
         self.losses = counted(self.losses, kept, true);
     }
 
-    /// Counts that nothing happened, because memory ran out.
+    /// Counts a loss: memory ran out, and nothing happened.
     pub(crate) fn count_loss(&mut self)
         ensures lost { self.new ≡ nodes_with_loss self.old }
         ensures rises { self.old.losses ≤ self.new.losses }

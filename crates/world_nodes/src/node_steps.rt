@@ -11,7 +11,7 @@ use broker_spec::Command;
 use std::alloc::Global;
 use world_base::node_core::{Item, NodeCore};
 
-/// Lets a node take an item; its messages are put after those that were sent. Returns whether
+/// Feeds an item to a node, and appends its messages to those that were sent. Returns true if
 /// nothing was lost.
 pub fn step_node(
     alloc: Global,
@@ -28,8 +28,8 @@ pub fn step_node(
     keep_all(effects, sent) && whole
 }
 
-/// Lets a node ignore the message of a number, as in `step_node`: no copy of it is made. Returns
-/// whether nothing was lost.
+/// Drops a message without effect at a node, as `step_node` does but without a copy. Returns true
+/// if nothing was lost.
 pub fn pass_over(
     alloc: Global,
     node: &mut NodeCore,
@@ -49,7 +49,8 @@ pub fn pass_over(
     keep_all(effects, sent) && whole
 }
 
-// Returns true if a node counted no loss in a step: its count was `before`, and is `after` then.
+// Returns true if a node counted no loss in a step; false at the maximum of the count, which can
+// no longer show one.
 fn is_whole(before: u64, after: u64) -> bool
     ensures yes { result ≡ true → (after ≡ before) × (before < greatest_count) }
     ensures whole { after ≡ before → before < greatest_count → result ≡ true }
@@ -57,7 +58,7 @@ fn is_whole(before: u64, after: u64) -> bool
     after == before && before < u64::MAX
 }
 
-/// Cuts the record back to the places that it had before, if a log was not cut.
+/// Truncates the record to its length `before`, if a log was not cut.
 pub fn cut_back(archive: &mut Vec<Command>, before: usize, was_cut: bool)
     ensures { archive.new.items
         ≡ (if was_cut then archive.old.items else take before archive.old.items) }

@@ -1,4 +1,14 @@
-// Nodes and their master.
+// Nodes and their master, with every message ever sent.
+//
+// A message is never removed from `sent`, so events may deliver it late, again or never.
+//
+// The invariant says that a history of the model leads to this state, and that `counters` agree
+// with the messages. What the replicas returned before is in no field, so a contract speaks of
+// every group of the model that corresponds to the state, and the agreed list is one that all of
+// them have. It is found by the counters, without searching messages.
+//
+// Each call is a step of that group, exact or with a loss that `losses` counts once. What needs no
+// memory is done exactly: a message that its receiver ignores is not even copied.
 
 ghost use Rattle.std.specs.Prelude.{◌≡◌, ◌≤◌, ◌-◌, ◌↔◌, ◌++◌, true, false, None, Some, length, slice_get, IfOk, IfSome, OnOk, OnErr, IsErr, IsErrOf};
 ghost use Rattle.ballot_base.specs.Losses.{one_more};
@@ -26,13 +36,12 @@ use std::marker::Model;
 use world_base::node_connections::{Handed, Piece, Port};
 use world_base::node_core::{Item, NodeCore};
 
-/// Nodes with the connections of their clients, their master, and all messages that they ever sent:
-/// any may come late, again or never. Nodes are numbered from 1, messages from 0 in the order of
-/// their sending.
+/// Nodes with their clients' connections, their master, and every message ever sent: each may
+/// arrive late, again or never. Nodes are numbered from 1, messages from 0 in the order of sending.
 pub struct Nodes {
-    /// The allocator of copies of messages, and of what calls return.
+    /// The allocator of copies of messages and of what calls return.
     pub(crate) alloc: Global,
-    /// Gives ballots their configurations.
+    /// Assigns ballots to configurations.
     pub(crate) master: Master,
     /// Node n + 1 is at index n.
     pub(crate) nodes: Vec<NodeCore>,
@@ -42,7 +51,7 @@ pub struct Nodes {
     pub(crate) archive: Vec<Command>,
     /// What these messages acknowledge.
     pub(crate) counters: Counters,
-    /// How many steps lost something, up to 2^64 - 1.
+    /// How many steps lost something (saturates at 2^64 - 1).
     pub(crate) losses: u64,
 }
 
@@ -75,7 +84,7 @@ impl Model for Nodes {
           losses = state.losses;
         } };
 
-    // Some past led up to here.
+    // A history of the model leads to this state, and the counters agree with the messages.
     ghost invariant = { λ state.
         HaveCounted (record {
           master = state.master;
@@ -87,8 +96,8 @@ impl Model for Nodes {
 }
 
 impl Nodes {
-    /// Opens nodes 1 to `nodes` in ballot 1. [`OpeningError::BadMembers`] comes for more than 15
-    /// nodes, for a configuration that no ballot may have, and for a member over `nodes`.
+    /// Opens nodes 1 to `nodes` in ballot 1. Fails with [`OpeningError::BadMembers`] for more than
+    /// 15 nodes, for a configuration that no ballot may have, and for a member above `nodes`.
     pub fn opening(alloc: Global, nodes: u8, config: Config) -> Result<Nodes, OpeningError>
         ensures opens { IfOk result (λ opened. NodesStandFor (opening_group nodes config) opened) }
         ensures losses { IfOk result (λ opened. opened.losses ≡ 0) }
@@ -117,8 +126,8 @@ impl Nodes {
         })
     }
 
-    /// Lets the master give the next ballot to a configuration. Idle if it refuses: for members or
-    /// a primary that no ballot may have, and after the last ballot.
+    /// Asks the master to assign the next ballot to a configuration. Idle if it refuses: for
+    /// members or a primary that no ballot may have, and after the last ballot.
     pub fn assign(&mut self, config: &Config) -> Result<(), Idle>
         ensures lossy { OnOk result (NewBallotOrLost config.now self.old self.new) }
         ensures exact { NodesLoseNothing self.old self.new →
@@ -137,8 +146,8 @@ impl Nodes {
         Ok(())
     }
 
-    /// Delivers the message of this number to its receiver. Idle if no such message was sent, or
-    /// its receiver is unknown or has stopped. One that its receiver ignores takes no memory.
+    /// Delivers message `number` to its receiver. Idle if no such message was sent, or its receiver
+    /// is unknown or has stopped. A message that its receiver ignores takes no memory.
     pub fn deliver(&mut self, number: u64) -> Result<(), Idle>
         ensures lossy { OnOk result
             (DeliveryOrLost (slice_get self.old.sent number) self.old self.new) }
@@ -177,8 +186,8 @@ impl Nodes {
         self.act(receiver, Item::Peer(message))
     }
 
-    /// Lets time pass at a node: it repeats what others may have missed. Idle if it is unknown or
-    /// has stopped.
+    /// Ticks a node, which retransmits what others may have missed. Idle if it is unknown or has
+    /// stopped.
     pub fn tick(&mut self, node: u8) -> Result<(), Idle>
         ensures lossy { OnOk result (NodeItemOrLost node (Item.Tick 0) self.old self.new) }
         ensures exact { NodesLoseNothing self.old self.new →
@@ -194,8 +203,8 @@ impl Nodes {
         self.act(node, Item::Tick(0))
     }
 
-    /// Lets a node cut its log. The places that it drops are recorded first. Idle if the node is
-    /// unknown or has stopped, or has applied nothing since it last cut its log.
+    /// Cuts a node's log, after recording the places that it drops. Idle if the node is unknown or
+    /// has stopped, or has applied nothing since its last cut.
     pub fn cut(&mut self, node: u8) -> Result<(), Idle>
         ensures lossy { OnOk result (NodeCutOrLost node self.old self.new) }
         ensures exact { NodesLoseNothing self.old self.new →
@@ -215,8 +224,8 @@ impl Nodes {
         Ok(())
     }
 
-    /// Lets a node propose that the session of a client ends. Idle if the node is unknown or has
-    /// stopped, if it does not serve clients, and if its log is full.
+    /// Proposes an Expel of a client at a node. Idle if the node is unknown or has stopped, does
+    /// not serve clients, or has a full log.
     pub fn expel(&mut self, node: u8, client: &ClientId) -> Result<(), Idle>
         ensures lossy { OnOk result (NodeExpelOrLost client.now node self.old self.new) }
         ensures exact { NodesLoseNothing self.old self.new →
@@ -257,7 +266,7 @@ impl Nodes {
         self.act(node, Item::Crash)
     }
 
-    /// Opens a stream at a node, at this time. Idle if the node is unknown or has stopped.
+    /// Opens a stream at a node; `now` is the time. Idle if the node is unknown or has stopped.
     pub fn open_stream(&mut self, node: u8, port: Port, now: u64) -> Result<(), Idle>
         ensures lossy { OnOk result (NodeItemOrLost node (Item.Opened port now) self.old self.new) }
         ensures exact { NodesLoseNothing self.old self.new →
@@ -273,7 +282,7 @@ impl Nodes {
         self.act(node, Item::Opened(port, now))
     }
 
-    /// Gives bytes to a stream of a node, at time 0. Idle if the node is unknown or has stopped.
+    /// Feeds bytes to a stream of a node, at time 0. Idle if the node is unknown or has stopped.
     pub fn give_bytes(&mut self, node: u8, port: Port, piece: Piece) -> Result<(), Idle>
         ensures lossy { OnOk result
             (NodeItemOrLost node (Item.Bytes port piece 0) self.old self.new) }
@@ -290,7 +299,7 @@ impl Nodes {
         self.act(node, Item::Bytes(port, piece, 0))
     }
 
-    /// Ends a stream of a node. Idle if the node is unknown or has stopped.
+    /// Ends a stream at a node. Idle if the node is unknown or has stopped.
     pub fn end_stream(&mut self, node: u8, port: Port) -> Result<(), Idle>
         ensures lossy { OnOk result (NodeItemOrLost node (Item.Ended port) self.old self.new) }
         ensures exact { NodesLoseNothing self.old self.new →
@@ -306,9 +315,9 @@ impl Nodes {
         self.act(node, Item::Ended(port))
     }
 
-    /// Appends what a node queued for a port and has not yet handed over, and says whether more may
-    /// come. Idle if the node is unknown. If memory runs out, nothing is appended, more may come,
-    /// and the step is counted; it does not run out if nothing was queued.
+    /// Appends the pending output of a node's port to `out`, and returns whether more may come.
+    /// Idle if the node is unknown. If memory runs out, nothing is appended, more may come, and the
+    /// step is counted; without pending output it never does.
     pub fn hand_over(&mut self, node: u8, port: Port, out: &mut Vec<u8>) -> Result<Handed, Idle>
         ensures exact { NodesLoseNothing self.old self.new →
             OnOk result (HandsOutExactly node port self.old self.new) }
@@ -344,7 +353,7 @@ impl Nodes {
         self.sent.len() as u64
     }
 
-    /// Returns the messages that were sent, each with its receiver: the one of number n at index n.
+    /// Returns all messages that were sent, each with its receiver: message number n is at index n.
     /// Node 0 is the master.
     pub fn sent(&self) -> &[(u8, Message<Command>)]
         ensures { result.now ≡ self.now.sent }
@@ -382,7 +391,7 @@ impl Nodes {
         }
     }
 
-    /// Returns how many steps lost something for want of memory (saturates at 2^64 - 1).
+    /// Returns how many steps lost something because memory ran out (saturates at 2^64 - 1).
     pub fn losses(&self) -> u64
         ensures { result ≡ self.now.losses }
     {

@@ -1,5 +1,6 @@
-//! What the messages of a way out do to nodes with connections: to their replicas what they do to a
-//! group of replicas. No code runs here; the laws are contracts of calls that do nothing.
+//! What the messages of a recovery do to nodes with connections: to their replicas the same as to a
+//! group of replicas. No code runs here: the theorems are the contracts of functions with an empty
+//! body.
 
 mod theorems;
 

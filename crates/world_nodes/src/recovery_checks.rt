@@ -1,4 +1,4 @@
-// What is asked of nodes before they are led out of their state.
+// Conditions of a recovery.
 
 ghost use Rattle.std.specs.Prelude.{◌≡◌, ◌<◌, ◌++◌, ◌↔◌, [], ◌∷◌, None, Some, true, false, IfOk, OnOk};
 ghost use Rattle.agreement.specs.MasterState.{refusal};
@@ -18,8 +18,7 @@ use packet_base::ClientId;
 use std::alloc::Global;
 
 impl Nodes {
-    /// Returns true if the master gives the next ballot to a configuration when [`Nodes::assign`]
-    /// asks for it.
+    /// Returns true if [`Nodes::assign`] would assign the next ballot to the configuration.
     pub fn can_assign(&self, config: &Config) -> bool
         ensures { (result ≡ true) ↔ (refusal self.now.master config.now ≡ None) }
     {
@@ -27,9 +26,9 @@ impl Nodes {
     }
 
     /// Returns true if a client's CONNECT would be answered with session present after the whole
-    /// log of a node, agreed or not, and the start of a ballot. False for an unknown node. A broker
-    /// is read from the log's snapshot, or begun afresh if there is none, and takes the rest;
-    /// [`Memory`] is the only error.
+    /// log of a node, agreed or not, and the start of a ballot; false for an unknown node. Thaws a
+    /// broker from the log's snapshot, or opens one if there is none, and applies the rest. Fails
+    /// only with [`Memory`].
     pub fn welcomes_back(&self, node: u8, client: &ClientId) -> Result<bool, Memory>
         ensures known { (core : CountedCore) → numbered_node self.now.nodes node ≡ Some core →
             IfOk result (λ welcomes. welcomes
@@ -57,12 +56,12 @@ fn machine_of(alloc: Global, base: u64, snapshot: &[u8]) -> Result<BrokerMachine
     }
     match BrokerMachine::thaw(alloc, snapshot) {
         Ok(machine) => Ok(machine),
-        // That the bytes have another form does not come: a broker froze them.
+        // The bytes always thaw: a broker froze them.
         Err(_) => Err(Memory),
     }
 }
 
-// Does commands on a machine; its outputs are dropped.
+// Applies commands to a machine, and drops their outputs.
 fn apply_all(alloc: Global, machine: &mut BrokerMachine, commands: &[Command]) -> Result<(), Memory>
     ensures { OnOk result (machine.new ≡ replay_from rules machine.old commands.now) }
 {
@@ -73,7 +72,6 @@ fn apply_all(alloc: Global, machine: &mut BrokerMachine, commands: &[Command]) -
     Ok(())
 }
 
-// Applies one command on a machine.
 fn apply(
     machine: &mut BrokerMachine,
     command: &Command,
@@ -107,7 +105,7 @@ fn welcomes(alloc: Global, machine: &mut BrokerMachine, client: &ClientId) -> Re
     Ok(is_welcome(&answers))
 }
 
-// Returns true if the first of some outputs is a CONNACK 0 with session present.
+// Returns true if the first output is a CONNACK 0 with session present.
 fn is_welcome(outputs: &[Output]) -> bool
     ensures { result ≡ is_welcome outputs.now }
 {

@@ -1,4 +1,4 @@
--- How the client of a model follows bytes that reach a node, and bytes that go down from it.
+-- How the model's client follows bytes that reach a node or leave it.
 use Rattle.std.specs.Prelude.{◌≡◌, ◌-◌, ℕ, List, ◌++◌, length, take, slice_get, IfSome, Some}
 use Rattle.exactly_once.specs.Sides.{ClientConnection}
 use Rattle.headline.specs.byte_world.World.{ClientPipes, Pipe, with_pipe}

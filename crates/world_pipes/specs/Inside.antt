@@ -1,4 +1,4 @@
--- What the calls of a `PipedClient` do, part by part.
+-- Definitions for the private functions of a `PipedClient`.
 use Rattle.std.specs.Prelude.{◌≡◌, ℕ, Bool, true, false, List, [], ◌∷◌, ◌++◌, take, Result, Ok, Err}
 use Rattle.client_base.specs.declared.error.ClientError.{ClientError}
 use Rattle.client_base.specs.declared.error.ClientError.TheVariants as errors
@@ -25,7 +25,7 @@ SendsUp true core pairs sendings.Sent holds left after =
 SendsUp true core pairs sendings.Lost holds left after =
     (holds ≡ false) × (left ≡ gone core) × (after ≡ pairs)
 
--- bytes reach a client
+-- bytes arrive at a client
 abbrev pub CarriesToClient :
     ℕ → Core → PipePair → Result (Unit {0}) ClientError → Core → PipePair → Type 0
 CarriesToClient count core pair result left after =

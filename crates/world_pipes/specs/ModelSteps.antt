@@ -1,4 +1,4 @@
--- What a `PipedClient` does is what clients of the model of worlds may do.
+-- Each call of a `PipedClient` is a run of steps of the model's client.
 use Rattle.std.specs.Prelude.{◌≡◌, ℕ, true, false, List, [], Result, Ok, Err}
 use Rattle.packet.specs.Spelling.{IsPacket}
 use Rattle.packet.specs.declared.packet.Packet.TheVariants as packets

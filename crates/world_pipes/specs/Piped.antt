@@ -25,7 +25,7 @@ piped core pairs = record { core = core; pairs = pairs }
 abbrev pub is_holding : Piped → Bool
 is_holding client = is_open client.core.state.stage
 
--- nothing is in transit yet
+-- the pipes of a new connection: nothing is in transit
 abbrev pub new_pair : ℕ → Port → PipePair
 new_pair node port = record { node = node; port = port; up = []; down = [] }
 
@@ -35,12 +35,12 @@ new_piped client = piped (new_core client 0) []
 
 -- ---- what is written goes up
 
--- what the client wrote is after what is in transit on its newest connection
+-- what the client wrote was appended to the newest connection's pipe
 abbrev pub piped_up : Core → List PipePair → PipePair → Piped
 piped_up core older pair =
     piped (record core { out = [] }) (older ++ record pair { up = pair.up ++ core.out } ∷ [])
 
--- there was no memory for what the client wrote: the connection is lost
+-- memory ran out for what the client wrote: the connection is lost
 abbrev pub broken : Core → List PipePair → Piped
 broken core pairs = piped (gone core) pairs
 
@@ -85,7 +85,7 @@ SendsConnect node port outcome old (Err cause) new =
     × ((new.core ≡ old.core)
     ⊎ ((core : Core) × OpensConnection outcome old.core (Ok tt) core × (new.core ≡ gone core)))
 
--- a connection that its node does not take is removed: nothing is left of it
+-- a connection that its node does not accept is removed: nothing is left of it
 abbrev pub taken_back : Piped → Piped
 taken_back client = piped (gone client.core) (take (length client.pairs - 1) client.pairs)
 

@@ -44,7 +44,7 @@ pub record IsHolding (client : Piped) (model : ClientPipes) : Type 0 where
   pub came : pipe.came ≡ client.core.unread
   pub sent : client.core.out ≡ []
 
--- the client's keep alive is 0, and what it keeps can be spelled when it is sent again
+-- the client's keep alive is 0, and what it keeps can be encoded when it is sent again
 pub record CanGoOut (state : ClientState) : Type 0 where
   pub keep_alive : state.keep_alive ≡ 0
   pub client : IsTrue (is_client state.client)

@@ -11,9 +11,9 @@ use std::mem;
 /// Bytes in transit in one direction, in order.
 #[derive(Drop)]
 pub struct BytesInTransit {
-    // With those at the front that have come, until they are half of all.
+    // The bytes in transit, after those that have arrived and are not yet reclaimed.
     bytes: Vec<u8>,
-    // How many bytes at the front have come.
+    // How many bytes at the front have arrived.
     come: usize,
 }
 
@@ -38,26 +38,26 @@ impl BytesInTransit {
         }
     }
 
-    /// Returns the bytes.
+    /// Returns the bytes in transit.
     pub fn as_slice(&self) -> &[u8]
         ensures { result.now ≡ self.now }
     {
         &self.bytes[self.come..]
     }
 
-    /// Takes the first `count` bytes.
+    /// Removes the first `count` bytes: they have arrived.
     pub fn take(&mut self, count: usize)
         requires { count ≤ length self.old }
         ensures { self.new ≡ drop count self.old }
     {
         self.come += count;
-        // Memory is reclaimed once half of it is free, so that a byte is moved at most twice.
+        // Memory is reclaimed once half of it is free, so a byte is moved at most twice.
         if self.come >= self.bytes.len() - self.come {
             self.close_up();
         }
     }
 
-    /// Puts these bytes in transit, in place of those that were, which it returns in `bytes`.
+    /// Exchanges the bytes in transit for `bytes`.
     pub fn swap(&mut self, bytes: &mut Vec<u8>)
         ensures left { self.new ≡ bytes.old.items }
         ensures given { bytes.new.items ≡ self.old }
@@ -67,7 +67,7 @@ impl BytesInTransit {
         mem::swap(&mut self.bytes, bytes);
     }
 
-    /// Appends what the client wrote. If memory runs out nothing changes.
+    /// Appends what the client wrote. If memory runs out, nothing changes.
     pub fn follow(&mut self, core: &mut ClientCore) -> Result<(), ClientError>
         ensures bytes { OnOk result (self.new ≡ self.old ++ core.old.out) }
         ensures ok { OnOk result (core.new ≡ record core.old { out = [] }) }
@@ -78,7 +78,7 @@ impl BytesInTransit {
         core.outgoing(&mut self.bytes)
     }
 
-    // Reclaims the memory of what has been taken.
+    // Reclaims the memory of the bytes that have arrived.
     fn close_up(&mut self)
         ensures { self.new ≡ self.old }
     {

@@ -1,4 +1,4 @@
-// Calls of a client, and what it writes.
+// A client's calls.
 
 ghost use Rattle.std.specs.Prelude.{◌≡◌, [], ◌∷◌};
 ghost use Rattle.client.specs.Core.{publication_with};
@@ -13,7 +13,7 @@ use packet_base::{Payload, QoS};
 use topics::{Filter, TopicName};
 
 impl PipedClient {
-    /// Publishes, as `ClientCore::publish`; a refusal leaves everything as it was.
+    /// Publishes, as `ClientCore::publish`. A refusal changes nothing.
     pub fn publish(
         &mut self,
         topic: TopicName,
@@ -31,7 +31,7 @@ impl PipedClient {
         Ok(send_up(&mut self.core, &mut self.pairs, &mut self.holds))
     }
 
-    /// Subscribes to a filter, as `ClientCore::subscribe`; a refusal leaves everything as it was.
+    /// Subscribes to a filter, as `ClientCore::subscribe`. A refusal changes nothing.
     pub fn subscribe(&mut self, filter: Filter, qos: QoS) -> Result<Sending, ClientError>
         ensures calls { Calls (keeper_step (Call.Subscribes filter qos) self.old.core.state)
             self.old result self.new }
@@ -42,7 +42,7 @@ impl PipedClient {
         Ok(send_up(&mut self.core, &mut self.pairs, &mut self.holds))
     }
 
-    /// Unsubscribes from a filter. It is refused as `subscribe` is.
+    /// Unsubscribes from a filter. Refused as `subscribe` is.
     pub fn unsubscribe(&mut self, filter: Filter) -> Result<Sending, ClientError>
         ensures calls { Calls (keeper_step (Call.Unsubscribes filter) self.old.core.state)
             self.old result self.new }

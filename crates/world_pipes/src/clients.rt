@@ -1,4 +1,4 @@
-//! Clients of a world, and what passes on a connection between a client and a node.
+//! The clients of a world, and the pipes between a client and a node.
 
 mod client_calls;
 mod connection_slot;

@@ -1,4 +1,4 @@
-// The beginning and the end of a client's connections.
+// Opening and ending a client's connection.
 
 ghost use Rattle.std.specs.Prelude.{◌≡◌, false, []};
 ghost use Rattle.client_base.specs.Steps.{Call, keeper_step};
@@ -12,9 +12,9 @@ use client_base::ClientError;
 use world_base::node_connections::Port;
 
 impl PipedClient {
-    /// Opens a connection to the node at this index, which is to know it by this port: CONNECT is
-    /// then in transit on it. It must not hold a connection before. `Memory` is the only error, and
-    /// then there is no new connection.
+    /// Opens a connection to the node at index `node`, under this port: a CONNECT is then in
+    /// transit. The client must hold no connection. Fails only with `Memory`, and then there is no
+    /// new one.
     pub fn open(&mut self, node: usize, port: Port) -> Result<(), ClientError>
         requires { is_holding self.old ≡ false }
         ensures opens { SendsConnect node port
@@ -42,8 +42,8 @@ impl PipedClient {
         Ok(())
     }
 
-    /// Removes the connection that was opened last, since its node does not take it: nothing is
-    /// left of it, and the client holds none.
+    /// Removes the newest connection, which its node did not accept: nothing is left of it, and the
+    /// client holds none.
     pub fn take_back(&mut self)
         ensures { self.new ≡ taken_back self.old }
     {
@@ -52,8 +52,8 @@ impl PipedClient {
         self.holds = false;
     }
 
-    /// Ends the connection, with a DISCONNECT if the server has accepted it. `NotActive` comes
-    /// exactly if there is none; a refusal, and `Memory`, leave everything as it was.
+    /// Ends the connection, with a DISCONNECT if the server has accepted it. Fails with `NotActive`
+    /// exactly if there is none; a refusal, and `Memory`, change nothing.
     pub fn disconnect(&mut self) -> Result<Sending, ClientError>
         ensures leaves { TakesLeave
             (keeper_step Call.Disconnects self.old.core.state) self.old result self.new }

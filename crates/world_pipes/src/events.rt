@@ -1,4 +1,4 @@
-//! What may happen in a world of nodes and clients, and the events of a way out of it.
+//! The events of a world of nodes and clients, and those of its recovery.
 
 mod escape_error;
 mod event;

@@ -1,5 +1,5 @@
-//! One client of a world with all its connections and a pipe of bytes each way on every one of
-//! them; it holds at most the newest.
+//! One client of a world with all its connections, and the pipes of bytes in transit on each, one
+//! in each direction. The client holds at most the newest connection.
 #![tactic(auto)]
 
 mod bytes_in_transit;

@@ -1,4 +1,4 @@
-// One connection of a client.
+// Both pipes of one connection.
 
 ghost use Rattle.std.specs.Prelude.{◌≡◌};
 ghost use Rattle.world_pipes.specs.Piped.{new_pair};
@@ -7,21 +7,21 @@ use crate::bytes_in_transit::BytesInTransit;
 use std::alloc::Global;
 use world_base::node_connections::Port;
 
-/// Where a connection leads, and the bytes in transit on it.
+/// Both pipes of one connection, and where it leads.
 #[derive(Drop)]
 pub struct PipePair {
-    /// The index of its node among the nodes, from 0.
+    /// The index of its node, from 0.
     pub node: usize,
-    /// By which the node knows it.
+    /// The port by which the node knows it.
     pub port: Port,
-    /// What the client wrote and the node did not get yet.
+    /// Bytes from the client that have not reached the node.
     pub up: BytesInTransit,
-    /// What the node handed over and the client did not get yet.
+    /// Bytes from the node that have not reached the client.
     pub down: BytesInTransit,
 }
 
 impl PipePair {
-    /// Returns a connection on which nothing is in transit.
+    /// Returns the pipes of a new connection, with nothing in transit.
     pub fn new(alloc: Global, node: usize, port: Port) -> PipePair
         ensures { result ≡ new_pair node port }
     {

@@ -1,4 +1,13 @@
-// A client with its connections.
+// A client with all of its connections and their pipes.
+//
+// A connection is never removed once its node has accepted it: bytes that the client wrote on an
+// earlier one may still reach the node, as TCP allows after a client has gone. Only the newest can
+// be held, and only it delivers bytes to the client.
+//
+// Invariant: while a connection is held there is one, and everything that the client wrote on it is
+// in its pipe or was carried up; the core has no output left. If memory runs out for that the
+// connection is lost, so a byte is never skipped. `swap_down` lends the pipe's vector to the node,
+// which appends to it without a copy.
 
 ghost use Rattle.std.specs.Prelude.{◌≡◌, ◌<◌, ◌≤◌, drop, length, set, slice_get, IfSome};
 ghost use Rattle.client.specs.Core.{gone};
@@ -15,17 +24,16 @@ use std::alloc::Global;
 use std::marker::Model;
 use world_base::node_connections::Port;
 
-/// A client with all its connections, the oldest first, and the bytes in transit on each. It holds
-/// at most the newest one; what is in transit to nodes on the others still comes up, and the client
-/// receives nothing more on them.
+/// A client with all its connections, oldest first, and the bytes in transit on each. It holds at
+/// most the newest one. On the others bytes still reach their nodes, but none reach the client.
 pub struct PipedClient {
     /// The allocator of new connections.
     pub(crate) alloc: Global,
-    /// The client. While it holds a connection, all that it wrote on that went up.
+    /// The client. While it holds a connection, all that it wrote is in the pipe.
     pub(crate) core: ClientCore,
     /// Its connections, the oldest first.
     pub(crate) pairs: Vec<PipePair>,
-    /// Whether it holds the newest connection.
+    /// True while the newest connection is held.
     pub(crate) holds: bool,
 }
 
@@ -52,7 +60,7 @@ impl Model for PipedClient {
 }
 
 impl PipedClient {
-    /// Returns a client of this identifier that was never connected. Its keep alive is 0.
+    /// Returns a client that was never connected. Its keep alive is 0.
     pub fn new(alloc: Global, client: ClientId) -> PipedClient
         ensures new { result ≡ new_piped client }
         ensures stands { ClientStandsFor result (new_client client) }
@@ -80,15 +88,14 @@ impl PipedClient {
         self.holds
     }
 
-    /// Returns how many connections it opened.
+    /// Returns how many connections the client has opened.
     pub fn len(&self) -> usize
         ensures { result ≡ length self.now.pairs }
     {
         self.pairs.len()
     }
 
-    /// Returns where a connection leads: the index of its node, and the port by which the node
-    /// knows it.
+    /// Returns where a connection leads: the index of its node, and its port there.
     pub fn leads_to(&self, at: usize) -> (usize, Port)
         requires { at < length self.now.pairs }
         ensures { IfSome (slice_get self.now.pairs at) (λ pair. result ≡ (pair.node, pair.port)) }
@@ -97,7 +104,7 @@ impl PipedClient {
         (pair.node, pair.port)
     }
 
-    /// Returns what is in transit on a connection to its node.
+    /// Returns the bytes in transit on a connection to its node.
     pub fn up(&self, at: usize) -> &[u8]
         requires { at < length self.now.pairs }
         ensures { IfSome (slice_get self.now.pairs at) (λ pair. result.now ≡ pair.up) }
@@ -105,7 +112,7 @@ impl PipedClient {
         self.pairs[at].up.as_slice()
     }
 
-    /// Returns what is in transit on a connection to the client.
+    /// Returns the bytes in transit on a connection to the client.
     pub fn down(&self, at: usize) -> &[u8]
         requires { at < length self.now.pairs }
         ensures { IfSome (slice_get self.now.pairs at) (λ pair. result.now ≡ pair.down) }
@@ -113,7 +120,7 @@ impl PipedClient {
         self.pairs[at].down.as_slice()
     }
 
-    /// Removes the first `count` bytes from those in transit to a node: they have reached it.
+    /// Removes the first `count` bytes in transit to a node: they have arrived.
     pub fn take_up(&mut self, at: usize, count: usize)
         requires at { at < length self.old.pairs }
         requires count { IfSome (slice_get self.old.pairs at) (λ pair. count ≤ length pair.up) }
@@ -127,7 +134,7 @@ impl PipedClient {
         self.come_up(at, count);
     }
 
-    // Takes the first `count` bytes that are in transit to a node from the front.
+    // Removes the first `count` bytes in transit to a node.
     fn come_up(&mut self, at: usize, count: usize)
         requires at { at < length self.old.pairs }
         requires count { IfSome (slice_get self.old.pairs at) (λ pair. count ≤ length pair.up) }
@@ -141,8 +148,8 @@ impl PipedClient {
         pair.up.take(count);
     }
 
-    /// Exchanges what is in transit on a connection to the client, so that a node may hand over
-    /// more after it.
+    /// Exchanges the bytes in transit on a connection to the client, so that a node may append to
+    /// them.
     pub fn swap_down(&mut self, at: usize, bytes: &mut Vec<u8>)
         requires { at < length self.old.pairs }
         ensures left { IfSome (slice_get self.old.pairs at) (λ pair. self.new
@@ -156,7 +163,6 @@ impl PipedClient {
         self.exchange(at, bytes);
     }
 
-    // Exchanges what is in transit on a connection to the client.
     fn exchange(&mut self, at: usize, bytes: &mut Vec<u8>)
         requires { at < length self.old.pairs }
         ensures left { IfSome (slice_get self.old.pairs at) (λ pair. self.new
@@ -170,7 +176,7 @@ impl PipedClient {
         pair.down.swap(bytes);
     }
 
-    /// Loses the connection, if it holds one. What is in transit on it stays.
+    /// Loses the connection, if one is held. Bytes in transit on it stay.
     pub fn abandon(&mut self)
         ensures lost { self.new ≡ record self.old { core = gone self.old.core } }
         ensures goes { FollowsLosing self.old self.new }

@@ -1,4 +1,4 @@
-// What happens to what a client writes.
+// Sending what a client writes.
 
 ghost use Rattle.std.specs.Prelude.{◌≡◌, ◌<◌, true, length, OnOk, OnErr, IsErrOf};
 ghost use Rattle.world_pipes.specs.Inside.{MovesUp, SendsUp};
@@ -7,7 +7,7 @@ use crate::pair::PipePair;
 use client::ClientCore;
 use client_base::ClientError;
 
-/// What happened to what a call wrote.
+/// The outcome of a call that writes.
 #[derive(Clone, Copy, Debug, PartialEq, Eq)]
 pub enum Sending {
     /// It is in transit on the newest connection.
@@ -16,7 +16,7 @@ pub enum Sending {
     Lost,
 }
 
-/// Sends what a client wrote up on its newest connection, if the client holds it. If memory runs
+/// Moves what a client wrote into the pipe of the connection that it holds, if any. If memory runs
 /// out, the connection is lost.
 pub(crate) fn send_up(core: &mut ClientCore, pairs: &mut Vec<PipePair>, holds: &mut bool) -> Sending
     requires { holds.old ≡ true → 0 < length pairs.old.items }
@@ -33,7 +33,8 @@ pub(crate) fn send_up(core: &mut ClientCore, pairs: &mut Vec<PipePair>, holds: &
     Sending::Lost
 }
 
-/// Sends what a client wrote up on its newest connection. If memory runs out nothing changes.
+/// Moves what a client wrote into the newest connection's pipe. If memory runs out, nothing
+/// changes.
 pub(crate) fn move_up(core: &mut ClientCore, pairs: &mut Vec<PipePair>) -> Result<(), ClientError>
     requires { 0 < length pairs.old.items }
     ensures ok { OnOk result (MovesUp core.old pairs.old.items core.new pairs.new.items) }

@@ -1,4 +1,4 @@
-// Laws of clients in worlds. The calls do nothing; their contracts are the laws.
+// A theorem about clients in worlds: the contract of a function with an empty body.
 
 ghost use Rattle.world_pipes.specs.Steps.{ClientsStepInWorlds};
 

@@ -1,4 +1,4 @@
-// Bytes that reach a client.
+// Carrying bytes to a client.
 
 ghost use Rattle.std.specs.Prelude.{◌≡◌, ◌≤◌, ◌<◌, ◌-◌, true, length, slice_get, IfSome};
 ghost use Rattle.world_pipes.specs.Piped.{CarriesDown, is_holding, piped};
@@ -12,11 +12,10 @@ use client::ClientCore;
 use client_base::ClientError;
 
 impl PipedClient {
-    /// Carries the first `count` bytes that are in transit on the newest connection, which the
-    /// client holds, to the client, and sends up what it answers. Returns what
-    /// `ClientCore::on_bytes` returns, and `Memory` also if memory runs out for the client's own
-    /// answers. After `Ok` and `SessionLost` the client still holds the connection; otherwise it is
-    /// lost.
+    /// Carries the first `count` bytes in transit on the newest connection, which the client holds,
+    /// to the client, and sends its answers. Returns what `ClientCore::on_bytes` returns, and
+    /// `Memory` also if memory runs out for those answers. After `Ok` and `SessionLost` the client
+    /// still holds the connection; otherwise it is lost.
     pub fn carry_down(&mut self, count: usize) -> Result<(), ClientError>
         requires open { is_holding self.old ≡ true }
         requires count { IfSome (slice_get self.old.pairs (length self.old.pairs - 1))
@@ -30,8 +29,7 @@ impl PipedClient {
     }
 }
 
-// Carries the first `count` bytes in transit on the newest connection to a client, and sends up
-// what it answers.
+// Carries the first `count` bytes of the newest connection to a client, and sends its answers.
 fn carry_down_on(
     core: &mut ClientCore,
     pairs: &mut Vec<PipePair>,
@@ -52,7 +50,6 @@ fn carry_down_on(
     read
 }
 
-// Carries the first `count` bytes in transit on a connection to a client.
 fn carry_to_client(
     core: &mut ClientCore,
     pair: &mut PipePair,
@@ -66,7 +63,7 @@ fn carry_to_client(
     read
 }
 
-// Returns true if a client still holds its connection after this answer to bytes that came on it.
+// Returns true if a client keeps its connection after this answer to bytes that arrived on it.
 fn stays_open(read: Result<(), ClientError>) -> bool
     ensures { result ≡ stays_open read }
 {

@@ -21,7 +21,7 @@ acknowledged_by ballot (Append other place command) = 0
 acknowledged_by ballot (Held other held) = if other == ballot then held else 0
 acknowledged_by ballot (Commit other held) = 0
 
--- the length that a message of a member acknowledges
+-- the length that a message from this member acknowledges
 abbrev pub acknowledged_in : {C : Type 0} → ℕ → ℕ → Message C → ℕ
 acknowledged_in node ballot message =
     if message.from == node then acknowledged_by ballot message.body else 0

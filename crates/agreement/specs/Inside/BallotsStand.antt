@@ -1,4 +1,4 @@
--- What holds of the ballots of a history, of their lists, and of the nodes in them.
+-- Invariants of the ballots of a history, of their lists, and of the nodes in them.
 use Rattle.std.specs.Prelude.{ℕ, ◌+◌, ◌<◌, ◌≤◌, ◌≡◌, ◌⊎◌, List, [], ◌∷◌, length, take, Some}
 use Rattle.agreement.specs.whole_logs.Replica.{ReplicaState}
 use Rattle.agreement.specs.World.{GroupWorld}
@@ -14,7 +14,7 @@ IsChain history (ballot ∷ (previous ∷ older)) =
     × (0 < previous) × (previous < ballot))
     × IsChain history (previous ∷ older)
 
--- the rows on ballots: the earlier ballot was active, and none was activated in between
+-- the invariants of ballots: the earlier ballot was active, and none was activated in between
 pub record AreBallots {C : Type 0} (history : History C) : Type 0 where
   pub chain : IsChain history history.activated
   pub first : (ballot : ℕ) (given : Given) → history.given ballot ≡ Some given →
@@ -30,7 +30,7 @@ pub record AreBallots {C : Type 0} (history : History C) : Type 0 where
   pub led : (ballot : ℕ) (given : Given) → history.given ballot ≡ Some given →
       In given.primary given.members
 
--- the rows on a ballot's lists
+-- the invariants of a ballot's lists
 pub record BallotListsStand {S C O : Type 0} (world : GroupWorld S C O) (history : History C) :
     Type 0 where
   pub lined : (ballot : ℕ) (line : Line C) → history.line ballot ≡ Some line →
@@ -50,7 +50,7 @@ pub record BallotListsStand {S C O : Type 0} (world : GroupWorld S C O) (history
       (line : Line C) × (history.line ballot ≡ Some line)
       × IsChosenIn world history ballot (length line.base)
 
--- the rows on a node that the lemmas below need
+-- the invariants of a node that the lemmas need
 pub record IsPlaced {S C O : Type 0} (world : GroupWorld S C O) (history : History C) (node : ℕ)
     (replica : ReplicaState S C) : Type 0 where
   pub order : replica.held_in ≤ replica.joined

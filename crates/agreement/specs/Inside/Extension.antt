@@ -1,4 +1,4 @@
--- What stays when a world goes on; no node acknowledges more than its ballot has.
+-- What stays true in a later world; no node acknowledges more than its ballot has.
 use Rattle.std.specs.Prelude.{ℕ, ◌+◌, ◌≤◌, ◌≡◌, ◌⊎◌, length, slice_get, Some}
 use Rattle.agreement.specs.whole_logs.Messages.{Message}
 use Rattle.agreement.specs.whole_logs.Replica.{ReplicaState}
@@ -6,8 +6,8 @@ use Rattle.agreement.specs.World.{GroupWorld}
 use Rattle.lists.specs.Lists.{In, IsPrefixOf}
 use Rattle.agreement.specs.Inside.Ballots.{Given, Line, History, Acknowledged}
 
--- a later world: what was output and acknowledged stays, no node goes back to a lower ballot, and
--- none acknowledges in a ballot that it has left
+-- a later world: what was output or acknowledged stays, no node returns to a lower ballot, and none
+-- acknowledges in a ballot that it has left
 pub record Extends {S C O : Type 0} (world : GroupWorld S C O) (history : History C)
     (next : GroupWorld S C O) (continued : History C) : Type 0 where
   pub sent : (row : ℕ × Message C) → In row world.sent → In row next.sent

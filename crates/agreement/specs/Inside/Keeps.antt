@@ -1,5 +1,4 @@
--- A world continues soundly, and so it does after an outcome of a node, with messages missing or
--- not.
+-- A later world is sound, also after a node's step of which some messages are lost.
 use Rattle.agreement.specs.Inside.MovesAt.{with_lines}
 use Rattle.std.specs.Prelude.{◌⊎◌, ℕ, ◌≡◌, List, [], ◌∷◌, ◌++◌, Some, None}
 use Rattle.machine.specs.Machine.{Rules}
@@ -12,7 +11,7 @@ use Rattle.agreement.specs.Inside.Ballots.{Acknowledged, TellsHere, Given, Line,
 use Rattle.agreement.specs.Inside.Extension.{Extends}
 use Rattle.agreement.specs.Inside.Sound.{IsSoundWorld}
 
--- a later world is sound, with a history that continues from the one before
+-- a later world is sound, with a history that continues the earlier one
 pub record HistoryGoesOn {S C O : Type 0} (rules : Rules S C O) (world : GroupWorld S C O)
     (earlier : History C) (next : GroupWorld S C O) : Type 0 where
   pub history : History C

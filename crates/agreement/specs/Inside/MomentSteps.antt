@@ -38,7 +38,7 @@ pub data MomentStep {S C O : Type 0} (rules : Rules S C O) : MasterState → Gro
       (replica : ReplicaState S C) →
       slice_get world.nodes node ≡ Some replica →
       MomentStep rules master world master (moved world node (halted rules replica) [])
-  -- the master gives a ballot
+  -- the master assigns a ballot
   assigns : {master : MasterState} {world : GroupWorld S C O} (config : Config) →
       In config.primary config.members →
       MomentStep rules master world (assigned C master config).state
@@ -48,7 +48,7 @@ pub data MomentStep {S C O : Type 0} (rules : Rules S C O) : MasterState → Gro
       In (0, record { from = from; body = Activate ballot }) world.sent →
       MomentStep rules master world (activated C master ballot from master.waiting).state
       (sends_from_master world (activated C master ballot from master.waiting))
-  -- the master gives a ballot, and its message is lost
+  -- the master assigns a ballot, and its message is lost
   assigns_unheard : {master : MasterState} {world : GroupWorld S C O} (config : Config) →
       In config.primary config.members →
       MomentStep rules master world (assigned C master config).state world

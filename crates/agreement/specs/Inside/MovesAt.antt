@@ -1,4 +1,4 @@
--- What is to be known about a move of one node, so that all that does not name the node is kept.
+-- What a proof needs of a move of one node, so that everything about other nodes is kept.
 use Rattle.std.specs.Prelude.{ℕ, ◌+◌, ◌≤◌, ◌≡◌, ◌⊎◌, ◌==◌, List, length, slice_get, Option, Some}
 use Rattle.std.specs.Prelude.{None, if◌then◌else◌}
 use Rattle.agreement.specs.whole_logs.Messages.{Effect}
@@ -38,8 +38,8 @@ pub record TellsNow {S C : Type 0} (line : ℕ →
   pub lined : line ballot ≡ Some told
   pub within : places ≤ length told.list
 
--- a move of the node at an index: it went back to no lower ballot, and only it acknowledged more,
--- in no ballot that it left
+-- a move of the node at an index: it returned to no lower ballot; only it acknowledged more, and in
+-- no ballot that it had left
 pub record MovesAt {S C O : Type 0} (world : GroupWorld S C O) (history : History C) (line : ℕ →
     Option (Line C)) (node : ℕ)
     (old new : ReplicaState S C) (given : List (Effect C O)) : Type 0 where

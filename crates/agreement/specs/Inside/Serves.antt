@@ -11,7 +11,7 @@ use Rattle.agreement.specs.World.{GroupWorld}
 use Rattle.agreement.specs.whole_logs.Messages.{Message}
 use Rattle.lists.specs.Lists.{In}
 
--- the number of a node that there is
+-- whether a node of this number exists
 abbrev pub IsNode : ℕ → ℕ → Type 0
 IsNode nodes number = (node : ℕ) × (number ≡ node + 1) × (node < nodes)
 

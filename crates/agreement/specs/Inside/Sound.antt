@@ -1,4 +1,4 @@
--- What holds in every world that a group comes to, of its messages, nodes and outputs.
+-- The invariant of every world that a group reaches: its messages, nodes and outputs.
 use Rattle.std.specs.Prelude.{ℕ, ◌+◌, ◌<◌, ◌≤◌, ◌≡◌, ◌⊎◌, List, length, take, slice_get, Some}
 use Rattle.std.specs.List.{flat_map}
 use Rattle.machine.specs.Machine.{Rules}
@@ -13,7 +13,7 @@ use Rattle.agreement.specs.Inside.SoundNodes.{IsSoundNode}
 use Rattle.agreement.specs.LeftOutputs.{AreInOrder, Segment}
 use Rattle.agreement.specs.Inside.MessageMeaning.{SpeaksTruth}
 
--- the outputs that left are those of segments in order, each a part of what is chosen in its ballot
+-- the outputs that left belong to segments in order, each a part of what is chosen in its ballot
 pub record LeftIs {S C O : Type 0} (rules : Rules S C O) (world : GroupWorld S C O)
     (history : History C) : Type 0 where
   pub segments : List Segment
@@ -33,7 +33,7 @@ pub record LeftIs {S C O : Type 0} (rules : Rules S C O) (world : GroupWorld S C
       segment.end ≤ replica.committed
   pub in_order : AreInOrder segments
 
--- what holds for a world
+-- a world satisfies the invariant
 pub record IsSoundWorld {S C O : Type 0} (rules : Rules S C O) (world : GroupWorld S C O)
     (history : History C) : Type 0 where
   pub ballots : AreBallots history

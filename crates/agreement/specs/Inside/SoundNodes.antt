@@ -1,4 +1,4 @@
--- What holds of every node of a group, by its role.
+-- The invariant of every node of a group, by its role.
 use Rattle.std.specs.Prelude.{ℕ, ◌+◌, ◌<◌, ◌≤◌, ◌≡◌, ◌⊎◌, [], length, Some, None}
 use Rattle.ballot_base.specs.declared.status.Progress.{Progress}
 use Rattle.ballot_base.specs.declared.status.Role.TheVariants.{Fetching, Installing, Active}
@@ -9,7 +9,7 @@ use Rattle.agreement.specs.Inside.Ballots.{Given, Line, History, Acknowledged}
 use Rattle.agreement.specs.Inside.BallotsStand.{IsPlaced, Applied}
 use Rattle.agreement.specs.Inside.MessageMeaning.{IsOf}
 
--- what a leader's fields are, by its role
+-- the invariant of a new or active primary, by its role
 abbrev pub Leads : {S C O : Type 0} → GroupWorld S C O → History C → ℕ → ReplicaState S C → Type 0
 Leads {S} {C} world history node replica =
     (given : Given) × (history.given replica.joined ≡ Some given)
@@ -63,7 +63,7 @@ pub record IsActive {S C O : Type 0} (world : GroupWorld S C O) (history : Histo
       × Acknowledged world history reached.member replica.joined reached.held
   pub others : (reached : Progress) → In reached replica.progress → reached.member ≡ node + 1 → ⊥
 
--- a node is as it should be
+-- a node satisfies the invariant
 pub record IsSoundNode {S C O : Type 0} (world : GroupWorld S C O) (history : History C) (node : ℕ)
     (replica : ReplicaState S C) :
     Type 0 where

@@ -8,7 +8,7 @@ use Rattle.agreement.specs.Primaries.{IsPrimary as IsPrimaryWhole}
 use Rattle.agreement.specs.cut_logs.Moments.{Moment, whole_moment}
 use Rattle.agreement.specs.cut_logs.World.{CutGroupWorld, whole_world}
 
--- what is applied anywhere begins the list, and each member of the active ballot holds it
+-- what is applied anywhere is a prefix of the list, and each member of the active ballot holds it
 abbrev pub Agrees : {S C O : Type 0} → Rules S C O → MasterState → CutGroupWorld S C O → List C →
     Type 0
 Agrees rules master world list = AgreesWhole rules master (whole_world world) list

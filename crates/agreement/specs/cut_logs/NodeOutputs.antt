@@ -30,7 +30,7 @@ given_in node (master_hears from ballot sent) = []
 given_in node (assignment_lost config) = []
 given_in node (answer_lost from ballot sent) = []
 
--- all that it gave up to the last of some moments, in order
+-- all that it output up to the last of some moments, in order
 abbrev pub given_of : {S C O : Type 0} {rules : Rules S C O} {config : Config}
     {moments : List (Moment S C O)} → ℕ → Moments rules config moments → List (ℕ × O)
 given_of node (began nodes lawful is) = []
@@ -43,10 +43,10 @@ pub data LeadsOn {S C O : Type 0} {rules : Rules S C O} {config : Config} (node 
     (came : Moments rules config (moment ∷ moments)) :
     (last : Moment S C O) (later : List (Moment S C O)) → Moments rules config (last ∷ later) →
     Type 0 where
-  -- it is so at the moment itself
+  -- it leads at the moment itself
   leads_there : IsPrimary (whole_world moment.world) node ballot →
       LeadsOn node ballot came moment moments came
-  -- it is so after one more step
+  -- it still leads after one more step
   leads_still : {previous next : Moment S C O} {later : List (Moment S C O)}
       {more : Moments rules config (previous ∷ later)} →
       LeadsOn node ballot came previous later more →

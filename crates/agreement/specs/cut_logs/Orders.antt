@@ -1,5 +1,5 @@
--- What holds for the order of proposals, and of what nodes give, at all moments of a group that
--- cuts its logs. What is said about logs is said about whole ones.
+-- Theorems about the order of proposals and of outputs at all moments of a group that cuts its
+-- logs. Logs are meant as whole ones.
 use Rattle.std.specs.Prelude.{ℕ, Bool, ◌≤◌, ◌≡◌, List, [], ◌∷◌, ◌++◌, filter, length, map}
 use Rattle.std.specs.Prelude.{slice_get, Some}
 use Rattle.machine.specs.Machine.{Rules}
@@ -46,7 +46,7 @@ pub record StandsAtOnce {S C O : Type 0} {rules : Rules S C O} {master : MasterS
       log_of (slice_get (whole_world next_world).nodes node)
       ≡ log_of (slice_get (whole_world world).nodes node)
 
--- what a step takes is at the end of a log at once
+-- what a step takes is at once at the end of a log
 abbrev pub TakenStandAtOnce : {S C O : Type 0} → Rules S C O → Type 0
 TakenStandAtOnce {S} {C} {O} rules =
     (config : Config) (moment next : Moment S C O) (moments : List (Moment S C O)) →
@@ -74,7 +74,7 @@ AnswersAtTheNextPlaces {S} {C} {O} rules =
     GivesNext rules (whole moment.world.archive old) (whole next.world.archive new) agreed
     (given_in node step)
 
--- Between two moments of a ballot that it leads a node gives the answers at all places of the
+-- Between two moments of a ballot that it leads a node outputs the answers at all places of the
 -- agreed list that it applied between them: none is left out, and none comes twice.
 abbrev pub AnswersWhileItLeads : {S C O : Type 0} → Rules S C O → Type 0
 AnswersWhileItLeads {S} {C} {O} rules =

@@ -1,5 +1,4 @@
--- What holds for all moments of a group whose nodes cut their logs. What is said about logs is said
--- about whole ones.
+-- What holds for all moments of a group whose nodes cut their logs. Logs are meant as whole ones.
 use Rattle.std.specs.Prelude.{ℕ, ◌<◌, ◌≤◌, ◌≡◌, false, List, ◌∷◌, length, map, take, slice_get}
 use Rattle.std.specs.Prelude.{Option, Some, None}
 use Rattle.machine.specs.Machine.{Rules, replay}

@@ -65,7 +65,7 @@ abbrev pub whole_message : {C : Type 0} → List C → Message C → WholeMessag
 whole_message archive message =
     record { from = message.from; body = whole_body archive message.body }
 
--- what a step returns
+-- the effect on whole logs
 abbrev pub whole_effect : {C O : Type 0} → List C → Effect C O → WholeEffect C O
 whole_effect archive (To receiver message) = effects.To receiver (whole_message archive message)
 whole_effect archive (Out place output) = effects.Out place output

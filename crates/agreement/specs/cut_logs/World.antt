@@ -71,7 +71,7 @@ MayTake world node (Receives message) = In (node + 1, message) world.sent
 MayTake world node (Proposes command) = Unit {0}
 MayTake world node Ticks = Unit {0}
 
--- what may happen to a node; a machine that is cut comes back from its bytes
+-- what may happen to a node; a machine that is cut is thawed from its bytes
 pub data NodeGoes {S C O : Type 0} (rules : Rules S C O)
     (world : CutGroupWorld S C O) : CutGroupWorld S C O → Type 0 where
   -- it receives a message that was sent to it, takes a proposal, or ticks, perhaps with losses

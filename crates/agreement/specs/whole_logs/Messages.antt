@@ -1,12 +1,12 @@
--- The messages of nodes if each holds its whole log, and the effects of a step.
+-- The messages between nodes that hold their whole logs, and the effects of a step.
 use Rattle.std.specs.Prelude.{ℕ, List}
 
--- what one node says to another, by its kind; the first number of each is the ballot that it speaks
--- of
+-- the kinds of message; the first number of each is its ballot
 pub data Body (C : Type 0) : Type 0 where
-  -- the master gives a ballot: its members, the ballot that was active, and the members of that one
+  -- the master assigns a ballot: its members, the ballot that was active then, and the members of
+  -- that one
   NewBallot : ℕ → List ℕ → ℕ → List ℕ → Body C
-  -- leave all lower ballots and send your log; the other number is the ballot of the log
+  -- leave all lower ballots and send your log; the other number is the earlier ballot of that log
   Join : ℕ → ℕ → Body C
   State : ℕ → List C → Body C  -- the sender's log
   Install : ℕ → List C → Body C  -- take this log
@@ -18,7 +18,7 @@ pub data Body (C : Type 0) : Type 0 where
   Held : ℕ → ℕ → Body C  -- how many places the sender holds
   Commit : ℕ → ℕ → Body C  -- how many places every member holds
 
--- a message: what is said, with its sender; node 0 is the master
+-- a message with its sender; node 0 is the master
 pub record Message (C : Type 0) : Type 0 where
   pub from : ℕ
   pub body : Body C

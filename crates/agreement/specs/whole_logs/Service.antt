@@ -1,5 +1,5 @@
--- The rows of the protocol inside a ballot: Append, Held, Commit, proposals, ticks. Receivers are
--- in rising order. A message that no row's condition covers changes nothing.
+-- The transitions of the protocol within a ballot: Append, Held, Commit, proposals, ticks. Messages
+-- go to members in rising order. A message whose condition does not hold changes nothing.
 use Rattle.std.specs.Prelude.{ℕ, Bool, List, [], ◌∷◌, ◌++◌, length, max, slice_get, Option, Some}
 use Rattle.std.specs.Prelude.{None, ◌==◌, ◌&&◌, nat_lt, nat_le, if◌then◌else◌}
 use Rattle.std.specs.List.{flat_map}
@@ -13,8 +13,7 @@ use Rattle.agreement.specs.whole_logs.Replica.{ReplicaState}
 use Rattle.ballot_base.specs.Replica.{is_active, is_backup}
 pub use Rattle.ballot_base.specs.Service.{least, raised_progress, raised, max_places}
 
--- places below `held` that are not yet applied are applied, their outputs returned, and the other
--- members sent a Commit
+-- places below `held` are applied, their outputs returned, and Commit is sent to the other members
 unfoldable pub commit_at : {S C O : Type 0} → Rules S C O → ReplicaState S C → ℕ → Outcome S C O
 commit_at {O = O} rules replica held =
     if nat_lt replica.committed held
@@ -29,7 +28,7 @@ commit_at {O = O} rules replica held =
 unfoldable pub commit : {S C O : Type 0} → Rules S C O → ReplicaState S C → Outcome S C O
 commit rules replica = commit_at rules replica (least (length replica.log) replica.progress)
 
--- a command is added after the log and sent to the other members; what all hold is committed
+-- a command is appended to the log and sent to the other members; what all hold is committed
 unfoldable pub added : {S C O : Type 0} → Rules S C O → ReplicaState S C → C → Outcome S C O
 added {O = O} rules replica command =
     sent_first
@@ -53,7 +52,7 @@ follows replica ballot =
 abbrev pub leads : {S C : Type 0} → ReplicaState S C → ℕ → Bool
 leads replica ballot = replica.joined == ballot && is_active replica.role
 
--- a log that takes a command if its place is the next one
+-- the log with a command appended, if the command's place is the next one
 abbrev pub extended : {C : Type 0} → ℕ → C → List C → List C
 extended place command log = if place == length log then log ++ command ∷ [] else log
 

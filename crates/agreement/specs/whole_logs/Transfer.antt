@@ -1,5 +1,5 @@
--- The rows of the protocol between ballots, from NewBallot to Install, and the ticks of a new
--- primary. A message that a row's condition does not cover changes nothing.
+-- The transitions of the protocol between ballots, from NewBallot to Install, and the ticks of a
+-- new primary. A message whose condition does not hold changes nothing.
 use Rattle.std.specs.Prelude.{ℕ, List, [], ◌∷◌, length, ◌==◌, ◌&&◌, ◌||◌, nat_lt}
 use Rattle.std.specs.Prelude.{nat_le, if◌then◌else◌}
 use Rattle.agreement.specs.whole_logs.Messages.Body.{Join, State, Install, Installed, Activate}
@@ -10,7 +10,8 @@ use Rattle.ballot_base.specs.StepOutcome.{master}
 use Rattle.agreement.specs.whole_logs.Replica.{ReplicaState}
 use Rattle.ballot_base.specs.Replica.{is_fetching, others}
 
--- a new primary asks the earlier ballot's members, itself included if it is one, for their logs
+-- NewBallot: a new primary asks the members of the earlier ballot, itself included if it is one,
+-- for their logs
 unfoldable pub on_new_ballot : {S C : Type 0} (O : Type 0) →
     ReplicaState S C → ℕ → List ℕ → ℕ → List ℕ → Outcome S C O
 on_new_ballot O replica ballot members previous previous_members =
@@ -79,7 +80,7 @@ on_install O replica from ballot log =
     then record { state = replica; effects = installed }
     else nothing_done O replica
 
--- a new primary repeats what it waits for
+-- a new primary that fetches a log sends its Joins again
 abbrev pub on_tick_fetching : {S C : Type 0} (O : Type 0) → ReplicaState S C → Outcome S C O
 on_tick_fetching O replica =
     record {
@@ -88,7 +89,7 @@ on_tick_fetching O replica =
           replica.previous_members;
     }
 
--- a primary that installs its log sends it at a tick to those that lack it
+-- a new primary that installs its log sends it again to the members that lack it
 abbrev pub on_tick_installing : {S C : Type 0} (O : Type 0) → ReplicaState S C → Outcome S C O
 on_tick_installing O replica =
     record { state = replica; effects = install_effects O replica replica.lacking }

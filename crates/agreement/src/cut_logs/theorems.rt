@@ -1,4 +1,4 @@
-// Laws of groups whose nodes cut their logs. The calls do nothing; their contracts are the laws.
+// Theorems about groups whose nodes cut their logs: the contracts of functions with an empty body.
 
 ghost use Rattle.agreement.specs.cut_logs.Theorems.{
   AgreedGrows,
@@ -21,8 +21,8 @@ ghost use Rattle.agreement.specs.cut_logs.Orders.{
 use machine::Machine;
 
 /// States that at each moment of a group there is an agreed list: the longest that is chosen in a
-/// ballot that was active. Logs are taken as whole ones: what a node has cut is in the record of
-/// places.
+/// ballot that was active. It is a list of whole logs: what a node has cut is taken from the
+/// record.
 pub fn has_agreed<M: Machine>()
     ensures { HasAgreed M.rules }
 {}

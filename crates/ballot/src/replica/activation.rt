@@ -1,4 +1,4 @@
-// What a replica does when its ballot becomes active.
+// Handling Activated: a new primary becomes active.
 
 ghost use Rattle.std.specs.Prelude.{◌≡◌, ◌++◌, true, false, ◌-◌, ◌<◌};
 ghost use Rattle.std.specs.Prelude.{◌≤◌, length, IfOk, OnOk, OnErr, MatchResult};
@@ -22,9 +22,9 @@ use machine::{Halted, Machine, Memory};
 use std::mem;
 
 impl<M: Machine> Replica<M> {
-    /// Handles Activated: applies the places of the log, drops their outputs, and appends the start
-    /// of the ballot. If memory runs out for the start the message is lost; if a place cannot be
-    /// applied the replica stops, and undoes what it did.
+    /// Handles Activated: applies the log, drops the outputs, and appends the start command of the
+    /// ballot. Without memory for the start the message is lost. If a place cannot be applied the
+    /// replica stops, and undoes what it did.
     pub(super) fn on_activated(
         &mut self,
         ballot: u64,
@@ -54,7 +54,7 @@ impl<M: Machine> Replica<M> {
         }
     }
 
-    // Removes the last place again, because memory ran out.
+    // Removes the start again, because memory ran out.
     fn take_back_start(&mut self)
         requires after { self.old.state.committed < places self.old.state.log }
         ensures { self.new ≡ record {
@@ -66,8 +66,8 @@ impl<M: Machine> Replica<M> {
         self.losses = counted(self.losses, false);
     }
 
-    // Appends the start of a ballot to the log, and returns the progress of the other members,
-    // which hold what was there before. On an error nothing has changed.
+    // Appends the start of a ballot to the log. Returns a progress for each other member, at the
+    // length before it. On an error nothing has changed.
     fn add_start(&mut self, ballot: u64) -> Result<Vec<Progress>, Memory>
         ensures progress { IfOk result (λ progress. progress.items ≡
             progress_at (places self.old.state.log)
@@ -86,8 +86,8 @@ impl<M: Machine> Replica<M> {
         Ok(progress)
     }
 
-    // Applies all places except the last, and becomes active with this progress of the other
-    // members. Returns the earlier progress. On an error the replica has stopped.
+    // Applies all places except the start, and becomes active with this progress. Returns the
+    // earlier progress. On an error the replica has stopped.
     fn become_active(&mut self, progress: Vec<Progress>) -> Result<Vec<Progress>, Halted>
         requires running { self.old.state.stopped ≡ false }
         requires after { self.old.state.committed < places self.old.state.log }
@@ -117,9 +117,8 @@ impl<M: Machine> Replica<M> {
         }
     }
 
-    // Sends the last place to the others, as a primary that has become active, and commits what all
-    // hold. If it stops, it is again as it was while it sent its log, with this many places applied
-    // and this progress.
+    // Sends the start to the other members, as an active primary, and commits what all hold. If the
+    // replica stops, it is Installing again, with this applied length and this progress.
     fn begin(
         &mut self,
         committed: u64,
@@ -162,9 +161,9 @@ impl<M: Machine> Replica<M> {
         }
     }
 
-    // Sends the last place to the other members, and commits what all hold. Returns whether there
-    // was memory for all messages. On an error the replica has stopped, and some outputs may have
-    // been appended to `out`.
+    // Sends the start to the other members, and commits what all hold. Returns true if no message
+    // was lost. On an error the replica has stopped, and some outputs may have been appended to
+    // `out`.
     fn send_start(&mut self, out: &mut Vec<Effect<M::Command, M::Output>>) -> Result<bool, Halted>
         requires running { self.old.state.stopped ≡ false }
         requires some { 0 < length self.old.state.log.rest }
@@ -200,8 +199,7 @@ impl<M: Machine> Replica<M> {
         Ok(sent & committed)
     }
 
-    /// Returns true if an activated ballot begins here: all members hold its log, and there is a
-    /// place left.
+    /// Returns true if an Activated takes effect: every member holds the log, and a place is left.
     pub(super) fn may_begin(&self, ballot: u64) -> bool
         ensures { result ≡ may_begin self.now.state ballot }
     {

@@ -1,4 +1,4 @@
-// How a replica cuts its log.
+// Log compaction: a snapshot replaces the applied places.
 
 ghost use Rattle.std.specs.Prelude.{◌≡◌, ◌≤◌, [], Some, true, false};
 ghost use Rattle.ballot_base.specs.Compaction.{can_cut, cut};
@@ -9,19 +9,18 @@ use ballot_base::counted;
 use machine::Machine;
 
 impl<M: Machine> Replica<M> {
-    /// Returns true if there is something to cut: the replica runs, and has applied places since it
-    /// last cut its log.
+    /// Returns true if there is something to cut: the replica runs, and has applied places since
+    /// its last cut.
     pub fn can_cut(&self) -> bool
         ensures { result ≡ can_cut self.now.state }
     {
         !self.stopped && self.log.base() < self.committed
     }
 
-    /// Drops the applied places, once the machine is frozen in their place. Its bytes go into a
-    /// vector with capacity for as many as the last snapshot has, and an eighth more, so that it
-    /// seldom grows; no clause speaks of capacity. Nothing is sent. Returns false if there is
-    /// nothing to drop, or memory ran out: then nothing is changed, except that the latter is
-    /// counted.
+    /// Cuts the log: freezes the machine, then drops the applied places. The new vector has room
+    /// for the last snapshot and an eighth more, so it seldom grows; no clause speaks of capacity.
+    /// Sends nothing. Returns false, and changes nothing, if there is nothing to cut or memory runs
+    /// out; the latter is counted as a loss.
     pub fn cut(&mut self) -> bool
         ensures done { result ≡ true → (can_cut self.old.state ≡ true)
             × (self.new ≡ record self.old { state = cut M.rules self.old.state }) }
@@ -52,8 +51,8 @@ impl<M: Machine> Replica<M> {
         }
     }
 
-    /// Returns the base of the log, and the frozen machine at it: no bytes if the base is 0. The
-    /// places below it are applied.
+    /// Returns the base of the log and the snapshot at it, which is empty at base 0. The places
+    /// below the base are applied.
     pub fn snapshot(&self) -> (u64, &[u8])
         ensures base { result.0 ≡ self.now.state.log.base }
         ensures bytes { result.1.now ≡ self.now.state.log.snapshot }

@@ -1,4 +1,4 @@
-// What a new primary does once members have taken its log, or its ballot was superseded.
+// Handling Installed and Superseded: the end of a log transfer at the new primary.
 
 ghost use Rattle.std.specs.Prelude.{◌≡◌, ◌&&◌, ◌==◌, []};
 ghost use Rattle.std.specs.List.{list_any};
@@ -10,8 +10,8 @@ use ballot_base::{Body, Effect, MASTER, Role, forget};
 use machine::Machine;
 
 impl<M: Machine> Replica<M> {
-    /// Handles Installed: a member no longer lacks the log. With the last one the master may
-    /// activate the ballot.
+    /// Handles Installed: a member has the log now. After the last one, asks the master to activate
+    /// the ballot.
     pub(super) fn on_installed(
         &mut self,
         from: u8,
@@ -33,7 +33,7 @@ impl<M: Machine> Replica<M> {
         self.send_counted(MASTER, Body::Activate(self.joined), out);
     }
 
-    /// Handles Superseded: the replica gives the ballot up, and waits for a later one.
+    /// Handles Superseded: the new primary gives the ballot up and becomes a backup.
     pub(super) fn on_superseded(&mut self, ballot: u64)
         ensures step { PlainStepOrLost M.rules self.old
             (on_superseded M.Output self.old.state ballot) self.new [] [] }
@@ -44,8 +44,7 @@ impl<M: Machine> Replica<M> {
         }
     }
 
-    /// Returns true if this new primary has not yet received a member's answer that it took the
-    /// log.
+    /// Returns true if a member's Installed for this ballot is still awaited.
     pub(super) fn waits_for_answer(&self, from: u8, ballot: u64) -> bool
         ensures { result ≡ (is_installing_in self.now.state ballot
             && list_any (λ member. member == from) self.now.state.lacking) }
@@ -53,7 +52,7 @@ impl<M: Machine> Replica<M> {
         self.installs(ballot) && self.lacking.contains(&from)
     }
 
-    /// Returns true if this is the new primary of a ballot, which sends its log.
+    /// Returns true if this is the new primary of the ballot, and installs its log.
     pub(super) fn installs(&self, ballot: u64) -> bool
         ensures { result ≡ is_installing_in self.now.state ballot }
     {

@@ -1,4 +1,4 @@
-// What a replica does with each message of another node.
+// Handling the messages of other nodes.
 
 ghost use Rattle.std.specs.Prelude.{◌≡◌, ◌<◌, ◌↔◌, true, false, [], ◌∷◌, OnOk, OnErr, IsErr};
 ghost use Rattle.ballot.specs.Inside.{MessagesOrLost, PlainStepOrLost, ReadingStepOrLost};
@@ -16,8 +16,8 @@ use ballot_base::{
 use machine::{Halted, Machine};
 
 impl<M: Machine> Replica<M> {
-    /// Takes a message of another node. A message for whose effect on the log there is no memory is
-    /// lost. `Halted` comes exactly if the replica has stopped, before or in this call.
+    /// Handles a message of another node. A message whose effect on the log finds no memory is
+    /// lost. Fails with `Halted` exactly if the replica has stopped, before or in this call.
     pub fn on(
         &mut self,
         message: Message<M::Command>,
@@ -52,7 +52,6 @@ impl<M: Machine> Replica<M> {
         self.on_body(message.from, message.body, out)
     }
 
-    // Does what a message asks, by its kind.
     fn on_body(
         &mut self,
         from: u8,
@@ -89,7 +88,7 @@ impl<M: Machine> Replica<M> {
         Ok(())
     }
 
-    // Handles Append: a backup takes the next place, and answers how many places it holds.
+    // Handles Append: a backup appends the next place, and answers with Held.
     fn on_append(
         &mut self,
         from: u8,
@@ -117,7 +116,7 @@ impl<M: Machine> Replica<M> {
         self.send_counted(from, body, out);
     }
 
-    /// Sends one message, and counts it if it was lost.
+    /// Sends one message, and counts a loss if memory runs out.
     pub(super) fn send_counted(
         &mut self,
         receiver: u8,
@@ -132,7 +131,7 @@ impl<M: Machine> Replica<M> {
         self.losses = counted(self.losses, sent);
     }
 
-    // Handles Held: the primary learns what a member holds, and commits what all hold.
+    // Handles Held: the primary raises the member's progress, and commits what all members hold.
     fn on_held(
         &mut self,
         from: u8,
@@ -167,8 +166,8 @@ impl<M: Machine> Replica<M> {
         }
     }
 
-    // Handles Commit: a backup applies what every member holds. Only the primary returns the
-    // outputs.
+    // Handles Commit: a backup applies what every member holds, and drops the outputs, which only
+    // the primary returns.
     fn on_commit(&mut self, ballot: u64, held: u64) -> Result<(), Halted>
         requires { self.old.state.stopped ≡ false }
         ensures step { PlainStepOrLost M.rules self.old
@@ -199,14 +198,14 @@ impl<M: Machine> Replica<M> {
         }
     }
 
-    /// Returns true if this is a backup that holds the log of a ballot.
+    /// Returns true if this is a backup that holds the log of the ballot.
     pub(super) fn follows(&self, ballot: u64) -> bool
         ensures { result ≡ follows self.now.state ballot }
     {
         (self.joined == ballot && self.held_in == ballot) && self.role.is_backup()
     }
 
-    /// Returns true if this is the active primary of a ballot.
+    /// Returns true if this is the active primary of the ballot.
     pub(super) fn leads(&self, ballot: u64) -> bool
         ensures { result ≡ leads self.now.state ballot }
     {

@@ -1,4 +1,4 @@
-// Which messages and ticks have an effect.
+// Which messages and ticks have an effect, so that the caller need not copy the others.
 
 ghost use Rattle.std.specs.Prelude.{◌≡◌, ◌↔◌, ◌||◌, ◌&&◌, false, nat_le, nat_lt};
 ghost use Rattle.ballot_base.specs.Logs.{places};
@@ -14,8 +14,8 @@ use ballot_base::{Body, Message, Progress, Role, least_raised};
 use machine::Machine;
 
 impl<M: Machine> Replica<M> {
-    /// Returns true if a message would have an effect: change the replica, send something, or bring
-    /// a snapshot that has to be read.
+    /// Returns true if the message would have an effect: change the replica, send something, or
+    /// bring a snapshot that has to be read.
     pub fn heeds(&self, message: &Message<M::Command>) -> bool
         ensures { (result ≡ false) ↔
             ((replica_step M.rules self.now.state (Receives message.now)
@@ -25,7 +25,6 @@ impl<M: Machine> Replica<M> {
         self.is_moved_by(message.from, &message.body)
     }
 
-    // Returns true if a message would have an effect, by its kind.
     fn is_moved_by(&self, from: u8, body: &Body<M::Command>) -> bool
         ensures { result ≡ is_heeded self.now.state from body.now }
     {
@@ -48,7 +47,7 @@ impl<M: Machine> Replica<M> {
         }
     }
 
-    // Returns true if a primary learns something new of a member, or has something to commit then.
+    // Returns true if a Held would raise the member's progress, or let something be committed.
     fn learns(&self, from: u8, held: u64) -> bool
         ensures { result ≡ (rises from held self.now.state.progress
             || nat_lt self.now.state.committed
@@ -58,7 +57,7 @@ impl<M: Machine> Replica<M> {
             || self.committed < least_raised(self.log.places(), from, held, &self.progress)
     }
 
-    // Returns true if the log has this many places, some of which are not applied.
+    // Returns true if the log has `held` places and not all of them are applied.
     fn may_apply(&self, held: u64) -> bool
         ensures { result ≡ (nat_le held (places self.now.state.log)
             && nat_lt self.now.state.committed held) }
@@ -74,7 +73,6 @@ impl<M: Machine> Replica<M> {
         self.would_repeat()
     }
 
-    // Returns true if a tick would send anything, by the role.
     fn would_repeat(&self) -> bool
         ensures { result ≡ repeats self.now.state self.now.state.role }
     {
@@ -87,7 +85,7 @@ impl<M: Machine> Replica<M> {
     }
 }
 
-// Returns true if a member is known to hold less than this.
+// Returns true if a member is known to hold less than `held`.
 fn would_rise(member: u8, held: u64, progress: &[Progress]) -> bool
     ensures { result ≡ rises member held progress.now }
 {

@@ -1,4 +1,4 @@
-// What a replica does as time passes.
+// Retransmission, as time passes.
 
 ghost use Rattle.std.specs.Prelude.{◌≡◌, ◌++◌, true, false};
 ghost use Rattle.ballot_base.specs.Sends.{Sends};
@@ -17,8 +17,8 @@ use ballot_base::{
 use machine::Machine;
 
 impl<M: Machine> Replica<M> {
-    /// Repeats what others may have missed: a new primary what it waits for, an active one what the
-    /// others may lack. It takes no step of its own, and never halts.
+    /// Retransmits what others may have missed: a new primary its request or its log, an active one
+    /// what members lack. Changes no log or role, and never halts.
     pub fn tick(&mut self, out: &mut Vec<Effect<M::Command, M::Output>>)
         ensures step { self.old.state.stopped ≡ false →
             AppendedStepOrLost M.rules self.old (replica_step M.rules self.old.state Ticks)
@@ -38,7 +38,7 @@ impl<M: Machine> Replica<M> {
         self.losses = counted(self.losses, whole);
     }
 
-    // Sends what a tick repeats, by the role. Returns whether no message was lost.
+    // Sends the retransmissions of the replica's role. Returns true if no message was lost.
     fn send_repeats(&self, out: &mut Vec<Effect<M::Command, M::Output>>) -> bool
         ensures { Sends out.old.items out.new.items
             (ticked M.Output self.now.state self.now.state.role).effects result }
@@ -54,8 +54,8 @@ impl<M: Machine> Replica<M> {
         }
     }
 
-    // Sends what the other members of an active primary may lack, and what is committed. Returns
-    // whether no message was lost.
+    // Sends each lagging member the command that it lacks next, and Commit to all. Returns true if
+    // no message was lost.
     fn send_missing(&self, out: &mut Vec<Effect<M::Command, M::Output>>) -> bool
         ensures { Sends out.old.items out.new.items
             (appends_after M.Output self.now.state.id self.now.state.joined self.now.state.log
@@ -75,8 +75,8 @@ impl<M: Machine> Replica<M> {
         after & commits
     }
 
-    /// Sends the log to the members that lack it; if there is none, the master may activate the
-    /// ballot. Returns whether no message was lost.
+    /// Sends Install to the members that lack the log or, if there is none, Activate to the master.
+    /// Returns true if no message was lost.
     pub(super) fn send_log(&self, out: &mut Vec<Effect<M::Command, M::Output>>) -> bool
         ensures { Sends out.old.items out.new.items
             (install_effects M.Output self.now.state self.now.state.lacking) result }

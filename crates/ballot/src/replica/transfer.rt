@@ -1,4 +1,4 @@
-// What a replica does with the messages by which a log is transferred to a new ballot.
+// Transferring a log to a new ballot: NewBallot, Join, State, Install.
 
 ghost use Rattle.std.specs.Prelude.{◌≡◌, ◌≤◌, ◌<◌, ◌&&◌, ◌==◌, Some, true, false, nat_lt};
 ghost use Rattle.std.specs.Prelude.{nat_le, if◌then◌else◌};
@@ -16,7 +16,7 @@ use ballot_base::{Body, Effect, Log, Members, Role, counted, others_of, send_joi
 use machine::Machine;
 
 impl<M: Machine> Replica<M> {
-    /// Handles NewBallot: a new primary asks the earlier ballot's members for their logs.
+    /// Handles NewBallot: the new primary asks the members of the earlier ballot for their logs.
     pub(super) fn on_new_ballot(
         &mut self,
         ballot: u64,
@@ -45,7 +45,7 @@ impl<M: Machine> Replica<M> {
         self.losses = counted(self.losses, sent);
     }
 
-    /// Handles Join: the replica leaves all lower ballots, and sends its log.
+    /// Handles Join: the replica leaves all lower ballots and sends its log.
     pub(super) fn on_join(
         &mut self,
         from: u8,
@@ -66,7 +66,7 @@ impl<M: Machine> Replica<M> {
         self.losses = counted(self.losses, sent);
     }
 
-    // Leaves all ballots below this one.
+    // Joins a ballot, leaving all lower ones.
     fn leave_for(&mut self, ballot: u64)
         ensures { self.new ≡ record self.old {
           state = if nat_lt self.old.state.joined ballot
@@ -80,8 +80,8 @@ impl<M: Machine> Replica<M> {
         }
     }
 
-    /// Handles State: a new primary takes the first log that comes, and sends it to the other
-    /// members.
+    /// Handles State: the new primary takes the first log that arrives, and installs it at the
+    /// other members.
     pub(super) fn on_state(
         &mut self,
         ballot: u64,
@@ -116,7 +116,7 @@ impl<M: Machine> Replica<M> {
     }
 
     /// Handles Install: a member takes the log of a new ballot once. Later it only answers, since
-    /// more may have been appended to it.
+    /// places may have been appended meanwhile.
     pub(super) fn on_install(
         &mut self,
         from: u8,
@@ -148,10 +148,10 @@ impl<M: Machine> Replica<M> {
         }
     }
 
-    // Takes a log that lacks no applied place. A log whose base is above the replica's own replaces
-    // the log once its snapshot is read, before anything is changed. Of any other log the places
-    // are taken from the replica's base on. Returns false if the snapshot does not thaw, or memory
-    // ran out.
+    // Takes a log that has every applied place. A log whose base is above the replica's own
+    // replaces the log as a whole, once its snapshot is read; of any other log the places from the
+    // replica's base on are taken. Returns false, with nothing changed, if the snapshot does not
+    // thaw or memory runs out.
     fn take(&mut self, log: Log<M::Command>) -> bool
         requires running { self.old.state.stopped ≡ false }
         requires within { self.old.state.committed ≤ places log }
@@ -174,8 +174,8 @@ impl<M: Machine> Replica<M> {
         }
     }
 
-    // Takes a log with the machine of its snapshot. If its base is above what is applied, the
-    // replica continues from that machine.
+    // Takes a log as a whole. If its base is above what is applied, the machine of its snapshot
+    // takes over.
     fn replace_log(&mut self, log: Log<M::Command>, machine: M)
         requires running { self.old.state.stopped ≡ false }
         requires over { self.old.state.log.base < log.base }
@@ -192,7 +192,7 @@ impl<M: Machine> Replica<M> {
         }
     }
 
-    /// Returns true if the log is sent to the primary of a ballot.
+    /// Returns true if Join is answered with the log.
     pub(super) fn may_join(&self, ballot: u64, previous: u64) -> bool
         ensures { result ≡ (nat_le self.now.state.joined ballot
             && nat_le previous self.now.state.held_in) }
@@ -200,21 +200,21 @@ impl<M: Machine> Replica<M> {
         self.joined <= ballot && previous <= self.held_in
     }
 
-    /// Returns true if a new primary takes a log of this length, which lacks no applied place.
+    /// Returns true if a State with a log of this length is taken: it lacks no applied place.
     pub(super) fn waits_for(&self, ballot: u64, held: u64) -> bool
         ensures { result ≡ waits_for self.now.state ballot held }
     {
         self.joined == ballot && (self.role.is_fetching() && self.committed <= held)
     }
 
-    /// Returns true if the log belongs to a ballot that is joined.
+    /// Returns true if this ballot is joined and its log is installed here.
     pub(super) fn holds(&self, ballot: u64) -> bool
         ensures { result ≡ (self.now.state.joined == ballot && self.now.state.held_in == ballot) }
     {
         self.joined == ballot && self.held_in == ballot
     }
 
-    /// Returns true if a member takes a log of this length, which lacks no applied place.
+    /// Returns true if an Install with a log of this length is taken: it lacks no applied place.
     pub(super) fn lacks(&self, ballot: u64, held: u64) -> bool
         ensures { result ≡ lacks self.now.state ballot held }
     {

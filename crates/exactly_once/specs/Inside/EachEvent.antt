@@ -1,4 +1,4 @@
--- What is left to show for each event of a story.
+-- What the proof has to show for each event of a story.
 use Rattle.broker_spec.specs.Place.{Limits}
 use Rattle.broker_spec.specs.NobodyTheorems.{IsSteady}
 use Rattle.exactly_once.specs.Story.{Story, StoryStep}

@@ -9,7 +9,7 @@ use Rattle.headline.specs.node_moves.Closed.{listed_named}
 use Rattle.headline.specs.node_group.Group.{Group}
 use Rattle.headline.specs.node_group.Steps.{GroupTrace, groups_on_trace}
 
--- a node has a connection of this name, open or with bytes to hand over
+-- a node has a connection of this name, open or with pending output
 pub record HasName (name : ConnectionName) (group : Group) (node : ℕ) : Type 0 where
   pub core : CoreState
   pub stands : slice_get group.nodes node ≡ Some core

@@ -24,7 +24,7 @@ pub record LeadsToPort (world : ByteWorld) (node_index : ℕ) (port : Port) : Ty
   pub at : pipe.port.0 ≡ port.0
 
 -- whatever happened, a pipe leads to the port of each connection that a node lists, open or with
--- bytes to hand over
+-- pending output
 abbrev pub PortsHavePipes : Type 0
 PortsHavePipes =
     (nodes : ℕ) (config : Config) (clients : List Client) (world : ByteWorld) →

@@ -42,6 +42,6 @@ after_packet others pipes pipe left side client =
           (record pipe { came = left } ∷ pipes);
     }
 
--- all that clients write can be spelled
+-- all that clients write can be encoded
 abbrev pub WritesCanBeSpelled : List ClientConnection → List ClientConnection → Type 0
 WritesCanBeSpelled before after = Each IsPacket (newly_written before after)

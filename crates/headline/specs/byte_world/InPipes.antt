@@ -1,5 +1,5 @@
--- The pipes of a world carry in order: what comes out at one end of a connection is a prefix of
--- what goes in at the other.
+-- The pipes of a world carry in order: what arrives at one end of a connection is a prefix of what
+-- was written at the other.
 use Rattle.std.specs.Prelude.{◌≡◌, ℕ, false, List, ◌∷◌, ◌++◌, length}
 use Rattle.packet.specs.declared.packet.Packet.{Packet}
 use Rattle.packet.specs.Spelling.{IsPacket}
@@ -21,8 +21,8 @@ use Rattle.headline.specs.byte_world.World.{ClientPipes, HasPipe, Pipe, ByteWorl
 use Rattle.headline.specs.byte_world.Steps.{Reached}
 
 -- A connection's commands in the list are a prefix of the packets that its client wrote, in order.
--- The packets that its client handled, spelled, with the bytes that came to it after them and those
--- in transit to it, are a prefix of the spelled answers to it, and no fault was found in them.
+-- The packets that its client handled, encoded, with the bytes that came to it after them and those
+-- in transit to it, are a prefix of the encoded answers to it, and no fault was found in them.
 pub record IsInOrder (agreed : List Command) (connection : ClientConnection)
     (pipe : Pipe) : Type 0 where
   pub up : IsPrefixOf (packets_in_list connection.name agreed)

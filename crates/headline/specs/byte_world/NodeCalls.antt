@@ -1,4 +1,4 @@
--- A world can continue: each call of a node has moves that carry just its bytes.
+-- A world can continue: each call of a node has moves that carry exactly its bytes.
 use Rattle.std.specs.Prelude.{◌≡◌, ℕ, ◌+◌, true, if◌then◌else◌, List, slice_get, Some}
 use Rattle.lists.specs.Lists.{In}
 use Rattle.ballot_base.specs.declared.message.Effect.{Effect}
@@ -31,8 +31,8 @@ recorded_after archive core (takes Cut) =
     if can_cut (replica_of core) then recorded archive (replica_of core) else archive
 recorded_after archive core _ = archive
 
--- moves in which a node's replica first receives what was sent, just the bytes of the call are
--- carried, and just a cut is recorded
+-- moves in which a node's replica first receives what was sent, exactly the bytes of the call are
+-- carried, and only a cut is recorded
 pub record RunsAs (group : Group) (node : ℕ) (node_call : NodeCall) (core : CoreState)
     (outcome : StepOutcome) : Type 0 where
   pub run : MoveTrace core outcome
@@ -42,7 +42,7 @@ pub record RunsAs (group : Group) (node : ℕ) (node_call : NodeCall) (core : Co
   pub records : (archive : List Command) →
       recorded_in archive run ≡ recorded_after archive core node_call
 
--- each call of a node, in any state of the node, is done by moves that carry just its bytes
+-- each call of a node, in any state of the node, is done by moves that carry exactly its bytes
 abbrev pub NodeCallsCarryTheirBytes : Type 0
 NodeCallsCarryTheirBytes =
     (group : Group) (node : ℕ) (node_call : NodeCall) (core : CoreState) →

@@ -1,4 +1,4 @@
--- What a step of a group carries for connections: for a call of a node just its bytes.
+-- What a step of a group carries on connections: for a call of a node exactly its bytes.
 use Rattle.std.specs.Prelude.{◌≡◌, ℕ, Bool, true, false, List, [], Option, Some, None}
 use Rattle.broker_spec.specs.Connection.{ConnectionName}
 use Rattle.world_base.specs.declared.node_core.item.Item.TheVariants.{Peer, Tick, Opened, Bytes, Ended, Expel, Cut, Crash}
@@ -24,7 +24,7 @@ abbrev pub going_with : ConnectionName → NodeCall → CoreState → List ℕ
 going_with name (hands_out port) core = bytes_named name (listed_at port core)
 going_with name _ core = []
 
--- the moves of a node carry just the bytes of its call
+-- the moves of a node carry exactly the bytes of its call
 abbrev pub CarriesItsBytes : {core : CoreState} {outcome : StepOutcome} → NodeCall →
     MoveTrace core outcome → Type 0
 CarriesItsBytes {core = core} node_call run =
@@ -32,7 +32,7 @@ CarriesItsBytes {core = core} node_call run =
     (bytes_on name run ≡ coming_with name node_call core)
     × (handed_in_run name run ≡ going_with name node_call core)
 
--- a step carries just the bytes of its call; of a step with losses nothing is required here
+-- a step carries exactly the bytes of its call; of a step with losses nothing is required here
 abbrev pub IsFaithful : {before after : Group} → GroupStep before after → Type 0
 IsFaithful (node_acts node core node_call outcome run at is first sent) =
     CarriesItsBytes node_call run
@@ -65,7 +65,7 @@ is_apart (Some (node, takes (Opened port now))) = false
 is_apart (Some (node, takes (Bytes port piece now))) = false
 is_apart (Some (node, hands_out port)) = false
 
--- a step of the group with this call, in which just the bytes of the call are carried
+-- a step of the group with this call, in which exactly the bytes of the call are carried
 pub record DoesCall (group : Group) (node_call : Option (ℕ × NodeCall)) : Type 0 where
   pub after : Group
   pub step : GroupStep group after

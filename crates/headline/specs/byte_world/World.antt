@@ -1,4 +1,4 @@
--- Clients and a group of nodes, with a pipe of bytes each way on every connection.
+-- Clients and a group of nodes, with a pipe of bytes in each direction of every connection.
 use Rattle.std.specs.Prelude.{◌≡◌, ℕ, ◌==◌, Bool, ◌&&◌, List, [], ◌∷◌, ◌++◌, map, drop, length, set, slice_get, Some}
 use Rattle.std.specs.List.{list_any}
 use Rattle.packet.specs.declared.packet.Packet.{Packet}

@@ -14,7 +14,7 @@ IsInItsBallot put =
     (connection : ConnectionName) → is_packet_of put.1 connection ≡ true →
     connection.ballot ≡ put.0
 
--- all that nodes of a group propose for a connection is put in the ballot of its name
+-- all that nodes of a group propose for a connection is proposed in the ballot of its name
 abbrev pub PutsInTheBallotOfTheName : Type 0
 PutsInTheBallotOfTheName =
     (nodes : ℕ) (config : Config) (group : Group) (went : GroupTrace nodes config group) →

@@ -18,13 +18,13 @@ use Rattle.headline.specs.node_group.Order.{packet_commands}
 use Rattle.headline.specs.node_group.GroupMoments.{HasMoments}
 use Rattle.headline.specs.node_group.Streams.{came_up, went_down}
 
--- the answers to a list of commands that name a connection, spelled
+-- the answers to a list of commands that name a connection, encoded
 abbrev pub answers_to : ConnectionName → List Command → List ℕ
 answers_to connection agreed =
     spelled (put_to usual_limits (past_of usual_limits agreed) connection)
 
 -- A connection's commands in the list are a prefix of the packets that were written on it, in
--- order. What went down on it is a prefix of the spellings of the answers that name it.
+-- order. What went down on it is a prefix of the encoded answers that name it.
 pub record IsCarried (connection : ConnectionName) (written : List Packet) (handed : List ℕ)
     (agreed : List Command) : Type 0 where
   pub up : IsPrefixOf (packet_commands connection agreed)

@@ -53,7 +53,7 @@ abbrev pub recorded_in : List Command → {core : CoreState} {outcome : StepOutc
 recorded_in archive rests = archive
 recorded_in archive (goes_on move run) = recorded_in (recorded_by archive move) run
 
--- the effects of its replica
+-- the effects of its replica in a run
 abbrev pub all_given : {core : CoreState} {outcome : StepOutcome} → MoveTrace core outcome →
     List (Effect Command Output)
 all_given rests = []

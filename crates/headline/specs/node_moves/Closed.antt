@@ -1,4 +1,4 @@
--- What a node sends on a connection that it has closed: nothing more.
+-- A node sends nothing more on a connection that it has closed.
 use Rattle.std.specs.Prelude.{◌≡◌, ℕ, true, if◌then◌else◌, List, [], ◌∷◌, ◌++◌, Option, Some}
 use Rattle.std.specs.List.{find}
 use Rattle.packet.specs.declared.packet.Packet.{Packet}
@@ -15,7 +15,7 @@ use Rattle.headline.specs.node_moves.Moves.{NodeMove}
 use Rattle.headline.specs.node_moves.Moves.NodeMove.{refuses}
 use Rattle.headline.specs.node_moves.Puts.{move_effects, outputs_of, spelled}
 
--- the connection of a name: open, or closed with bytes that are still to be handed over
+-- the connection of a name: open, or closed with pending output
 abbrev pub listed_named : ConnectionName → CoreState → Option Connection
 listed_named name core = find (λ connection. same_connection connection.name name) core.connections
 
@@ -31,7 +31,7 @@ exact_refusal name _ = []
 -- how a connection that is closed after a move without losses was closed
 pub data IsExactlyClosedBy (name : ConnectionName) {core : CoreState} {outcome : StepOutcome}
     (move : NodeMove core outcome) (new : Connection) : Type 0 where
-  -- it was closed before, with the same bytes to hand over
+  -- it was closed before, with the same pending output
   was_closed : (old : Connection) → listed_named name core ≡ Some old → is_closed old.stage ≡ true →
       new.pending ≡ old.pending → IsExactlyClosedBy name move new
   -- it was open, and got no more in this move than a prefix of what is sent to it

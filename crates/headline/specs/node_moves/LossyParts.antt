@@ -1,4 +1,5 @@
--- What a move with losses does: what it gives, proposes, reads and hears.
+-- The parts of a move with losses: effects, proposal, bytes that arrive, packets read, inputs
+-- received.
 use Rattle.std.specs.Prelude.{ℕ, Bool, true, false, List, [], ◌∷◌}
 use Rattle.packet.specs.declared.packet.Packet.{Packet}
 use Rattle.packet.specs.declared.connect.Connect.{Connect}

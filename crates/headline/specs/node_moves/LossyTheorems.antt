@@ -61,8 +61,8 @@ LossesAreTaken =
 
 -- ---- what is sent
 
--- on a connection that stays open a move queues all that its outputs send to it, in order, after
--- what was queued before
+-- on a connection that stays open a move queues all that the replica's outputs send to it, in
+-- order, after what was queued before
 abbrev pub LossesPutInOrder : Type 0
 LossesPutInOrder =
     (core : CoreState) (outcome : StepOutcome) (move : NodeMoveOrLost core outcome) →
@@ -71,8 +71,8 @@ LossesPutInOrder =
     open_named name core ≡ Some old → open_named name outcome.core ≡ Some new →
     new.pending ≡ old.pending ++ spelled (sends_to name (outputs_of (move_effects move)))
 
--- a connection that is closed after a move was closed before, with the same bytes to hand over, or
--- was open, and got a prefix of what is sent to it
+-- a connection that is closed after a move was closed before, with the same pending output, or was
+-- open, and got a prefix of what is sent to it
 pub data IsClosedBy (name : ConnectionName) {core : CoreState} {outcome : StepOutcome}
     (move : NodeMoveOrLost core outcome) (new : Connection) : Type 0 where
   -- it was closed before

@@ -66,7 +66,7 @@ pub data NodeMove (core : CoreState) : StepOutcome → Type 0 where
   loses_one : (port : Port) (connection : Connection) → open_at port core ≡ Some connection →
       is_proposed connection.stage ≡ true →
       NodeMove core (proposes (commands.Lost connection.name) (changes port closed_connection core))
-  -- the loss of a connection is proposed that was closed for want of room for what was to be sent
+  -- the loss of a connection is proposed that was closed because there was no room for its output
   loses_next : (connection : Connection) → find has_failed core.connections ≡ Some connection →
       NodeMove core (proposes (commands.Lost connection.name) (closes_failed core))
   -- an Expel of a client is proposed
@@ -75,10 +75,10 @@ pub data NodeMove (core : CoreState) : StepOutcome → Type 0 where
   cuts_log : can_cut core.replica.state ≡ true → NodeMove core (without_messages (with_cut core))
   -- the node crashes
   crashes : NodeMove core (without_messages (crashed core))
-  -- if it no longer serves clients all connections are closed; closed ones with nothing to hand
-  -- over are removed
+  -- if it no longer serves clients all connections are closed; closed ones without pending output
+  -- are removed
   settles : NodeMove core (without_messages (settled core))
-  -- what was queued for a port is handed over
+  -- the pending output of a port is handed over
   hands : (port : Port) → NodeMove core (without_messages (hands_over port core))
 
 -- an outcome, and another after it

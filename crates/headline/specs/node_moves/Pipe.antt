@@ -6,7 +6,7 @@ use Rattle.cutter.specs.Stream.{Stream, Takes}
 use Rattle.cutter.specs.declared.error.CutError.{CutError}
 use Rattle.cutter.specs.declared.error.CutError.TheVariants as errors
 
--- the bytes are the spellings of the packets, joined
+-- the bytes are the encoded packets, joined
 abbrev pub Joins : List Packet → List ℕ → Type 0
 Joins [] bytes = bytes ≡ []
 Joins (packet ∷ packets) bytes =
@@ -26,7 +26,7 @@ pub record IsPiped (written handled : List Packet) (stream : Stream)
 abbrev pub PipeOpens : Type 0
 PipeOpens = IsPiped [] [] (record { bytes = []; failed = false }) []
 
--- a packet is written: its spelling is added at the far end
+-- a packet is written: its encoding is appended at the far end
 abbrev pub PipeGrows : Type 0
 PipeGrows =
     (written handled : List Packet) (stream : Stream) (in_transit bytes : List ℕ) (packet : Packet)
@@ -41,21 +41,21 @@ PipeCarries =
     → IsPiped written handled stream (piece ++ in_transit)
     → IsPiped written handled (record stream { bytes = stream.bytes ++ piece }) in_transit
 
--- the next packet that the cutter gives is the next one written
+-- the next packet that the cutter returns is the next one written
 abbrev pub PipeGives : Type 0
 PipeGives =
     (written handled : List Packet) (old new : Stream) (in_transit : List ℕ) (packet : Packet)
     → IsPiped written handled old in_transit
     → Takes old (Ok (Some packet)) new → IsPiped written (handled ++ packet ∷ []) new in_transit
 
--- the cutter gives the packet that was written at the index that counts those handled
+-- the cutter returns the packet that was written at the index that counts those handled
 abbrev pub PipeGivesNext : Type 0
 PipeGivesNext =
     (written handled : List Packet) (old new : Stream) (in_transit : List ℕ) (packet : Packet)
     → IsPiped written handled old in_transit
     → Takes old (Ok (Some packet)) new → slice_get written (length handled) ≡ Some packet
 
--- the cutter of a pipe never answers a fault
+-- the cutter of a pipe never reports a fault
 abbrev pub PipeHasNoFault : Type 0
 PipeHasNoFault =
     (written handled : List Packet) (old new : Stream) (in_transit : List ℕ) (error : CutError)

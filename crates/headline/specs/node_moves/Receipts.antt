@@ -1,4 +1,4 @@
--- What a replica receives in a call of its node comes before everything else.
+-- In a call of a node the replica receives something only in the first move.
 use Rattle.std.specs.Prelude.{◌≡◌, false}
 use Rattle.world_base.specs.node_core.Core.{CoreState, StepOutcome}
 use Rattle.headline.specs.node_moves.BallotNames.{moves_replica}

@@ -14,13 +14,13 @@ use Rattle.headline.specs.node_moves.Moves.{NodeMove, MoveTrace}
 use Rattle.headline.specs.node_moves.Moves.MoveTrace.{rests, goes_on}
 use Rattle.headline.specs.node_moves.Ends.{move_proposal, came_on, IsEnd, packet_commands_from}
 
--- the commands that it proposes in a run, in order
+-- the commands that a node proposes in a run, in order
 abbrev pub run_proposals : {core : CoreState} {outcome : StepOutcome} → MoveTrace core outcome →
     List Command
 run_proposals rests = []
 run_proposals (goes_on move run) = move_proposal move ++ run_proposals run
 
--- the bytes that come on the connection of a name in it, in order
+-- the bytes that arrive on the connection of a name in a run, in order
 abbrev pub bytes_on : ConnectionName → {core : CoreState} {outcome : StepOutcome} →
     MoveTrace core outcome → List ℕ
 bytes_on name rests = []

@@ -1,4 +1,4 @@
--- What does not remain after a step of a node.
+-- What is not left after a step of a node.
 use Rattle.std.specs.Prelude.{◌≡◌, ℕ, false}
 use Rattle.lists.specs.Lists.{Each}
 use Rattle.world_base.specs.declared.node_core.item.Item.{Item}

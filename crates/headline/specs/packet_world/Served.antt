@@ -10,7 +10,7 @@ use Rattle.headline.specs.packet_world.World.{End, ClientEnds, PacketWorld, Clie
 use Rattle.headline.specs.packet_world.Steps.{HasPipe, Reached, is_of_connection}
 use Rattle.headline.specs.packet_world.Exact.{commands_from}
 
--- a command is of a connection that is there
+-- a command is of a connection of the world
 pub record IsOfPipe (world : PacketWorld) (command : Command) : Type 0 where
   pub index : ℕ
   pub nth : ℕ

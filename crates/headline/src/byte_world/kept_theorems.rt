@@ -1,4 +1,4 @@
-// Laws of the sessions of a world's clients. The calls do nothing; their contracts are the laws.
+// Theorems about the sessions of a world's clients: the contracts of functions with an empty body.
 
 ghost use Rattle.headline.specs.byte_world.Kept.{NoConnectIsClean, NoSessionIsClean};
 

@@ -1,10 +1,10 @@
-// Laws of what the nodes of a world keep of connections. The calls do nothing; their contracts are
-// the laws.
+// Theorems about the connections that a world's nodes keep: the contracts of functions with an
+// empty body.
 
 ghost use Rattle.headline.specs.byte_world.AtNodes.{NodesAreOrderly, PortsHavePipes};
 
-/// States that each connection which a node lists was opened by a client: a pipe leads to its port,
-/// whatever happened. So a port to which no pipe leads is new to its node.
+/// States that each connection that a node lists was opened by a client, whatever happened: a pipe
+/// leads to its port. So a port without a pipe is new to its node.
 pub fn ports_have_pipes()
     ensures { PortsHavePipes }
 {}

@@ -1,13 +1,12 @@
-// Laws of groups of nodes. The calls do nothing; their contracts are the laws.
+// Theorems about groups of nodes: the contracts of functions with an empty body.
 
 ghost use Rattle.headline.specs.node_group.Ballots.{PutsInTheBallotOfTheName};
 ghost use Rattle.headline.specs.node_group.Order.{GroupsKeepTheOrder};
 ghost use Rattle.headline.specs.node_group.GroupMoments.{GroupsHaveMoments};
 
 /// States that, whatever the nodes of a group, its master and its clients do, the steps of its
-/// replicas go through moments for which all that is proved for agreement holds. What was proposed
-/// there is what the nodes proposed to their replicas, in order, and of that all packets of
-/// connections were taken.
+/// replicas go through moments for which agreement is proved. What was proposed there is what the
+/// nodes proposed to their replicas, in order, and every packet of a connection among it was taken.
 pub fn groups_have_moments()
     ensures { GroupsHaveMoments }
 {}

@@ -1,6 +1,6 @@
-// Laws of what a node does. The calls do nothing; their contracts are the laws. A move in which
-// nothing is lost is a case of those in which something may be (`exactly`), so a law of these holds
-// of it too.
+// Theorems about what a node does: the contracts of functions with an empty body. A move without
+// losses is a case of those that may have some (`exactly`), so a theorem about these holds of it
+// too.
 
 ghost use Rattle.headline.specs.node_moves.Apart.{NamesComeOnce};
 ghost use Rattle.headline.specs.node_moves.Settled.{EachLossIsReported, NoneIsSilent};
@@ -13,7 +13,7 @@ ghost use Rattle.headline.specs.node_moves.Moves.{NodeCallsAreMoves};
 
 /// States that everything that a node does, its steps and the handing over of bytes, is a run of a
 /// few moves. What it reads from a client it proposes, and nothing else. The effects of its replica
-/// are done at once.
+/// are handled at once.
 pub fn node_calls_are_moves()
     ensures { NodeCallsAreMoves }
 {}
@@ -30,8 +30,8 @@ pub fn none_is_silent()
     ensures { NoneIsSilent }
 {}
 
-/// States that after each step the loss of every connection that was closed in it, because there
-/// was no room for what was to be sent, is reported to the broker.
+/// States that after each step the loss of every connection that was closed in it because there was
+/// no room for its output is reported to the broker.
 pub fn each_loss_is_reported()
     ensures { EachLossIsReported }
 {}
@@ -50,15 +50,15 @@ pub fn names_come_once()
     ensures { NamesComeOnce }
 {}
 
-/// States that each step of a node in which memory ran out is a run of moves, too, in which
-/// something may be lost. The replica receives what comes with the item, and on each connection the
-/// bytes of the item come.
+/// States that each step of a node in which memory ran out is also a run of moves, in which
+/// something may be lost. The replica receives what comes with the item, and the bytes of the item
+/// arrive on each connection.
 pub fn losses_are_moves()
     ensures { LossesAreMoves }
 {}
 
 /// States that in each such move, on each connection, a node reads the next packets that the client
-/// writes, or none, and proposes just these: none is skipped while the connection is open.
+/// writes, or none, and proposes exactly these: none is skipped while the connection is open.
 pub fn losses_read_in_order()
     ensures { LossesReadInOrder }
 {}
@@ -81,8 +81,8 @@ pub fn losses_put_in_order()
     ensures { LossesPutInOrder }
 {}
 
-/// States that on a connection that is closed after such a move no more was sent than a prefix of
-/// what is sent to it, and nothing if it was closed before.
+/// States that on a connection that is closed after such a move, at most a prefix of its output was
+/// queued in the move, and nothing if it was closed before.
 pub fn losses_put_nothing_on_closed()
     ensures { LossesPutNothingOnClosed }
 {}

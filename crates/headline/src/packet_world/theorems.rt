@@ -1,4 +1,4 @@
-// Laws of every world of clients and nodes. The calls do nothing; their contracts are the laws.
+// Theorems about every world of clients and nodes: the contracts of functions with an empty body.
 
 ghost use Rattle.headline.specs.packet_world.Agreed.{AgreedKeepsTheOrder};
 ghost use Rattle.headline.specs.packet_world.Exact.{PacketWorldsAreExact};
@@ -39,14 +39,14 @@ pub fn groups_serve()
 {}
 
 /// States that the outputs of the broker's machine at the next places of the agreed list, none left
-/// out, may be sent on an open end of a connection, as far as they are for the connection. Then a
-/// world reaches a state that has them.
+/// out, may be sent on an open end of a connection, as far as they are for it: a world reaches a
+/// state that has them.
 pub fn given_is_put_out()
     ensures { GivenIsPutOut }
 {}
 
-/// States that the same holds for all outputs of a node of a group between two moments of a ballot
-/// that it leads, on an open end that has what the node output before.
+/// States the same of all outputs of a node of a group between two moments of a ballot that it
+/// leads, on an open end that has what the node output before.
 pub fn groups_put_out()
     ensures { GroupsPutOut }
 {}

@@ -19,7 +19,7 @@ use Rattle.master.specs.Outcomes.{NodeOutcome}
 use Rattle.master.specs.Outcomes.EventOutcome.{by_cut}
 use Rattle.master.specs.Steps.{Freezes}
 
--- the input of a node that one in code means
+-- the input of the model for an input in code
 abbrev pub input_of : {C : Type 0} → InputInCode C → Input C
 input_of (Received message) = Receives message
 input_of (Proposed command) = Proposes command

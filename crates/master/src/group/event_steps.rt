@@ -1,4 +1,4 @@
-// What each event does to a group.
+// The event handlers of a group.
 
 ghost use Rattle.std.specs.Prelude.{◌≡◌, ◌<◌, ◌↔◌, true, false, None, Some, slice_get, OnOk};
 ghost use Rattle.std.specs.Prelude.{OnErr, IsErr};
@@ -24,7 +24,8 @@ use ballot_base::{Body, Config, MAX_PLACES, Members};
 use machine::{Machine, Memory};
 
 impl<M: Machine> Group<M> {
-    /// Lets an active primary take a command; [`Idle`] comes for any other node and for a full log.
+    /// Proposes a command to an active primary. Fails with [`Idle`] at any other node and for a
+    /// full log.
     pub(super) fn propose(&mut self, node: u8, command: &M::Command) -> Result<(), Idle>
         ensures step { GroupEventOrLost M.rules self.old (Event.Propose node command.now) self.new }
         ensures idle { IsErr result ↔
@@ -48,7 +49,7 @@ impl<M: Machine> Group<M> {
         Ok(())
     }
 
-    /// Lets the master give a ballot for a configuration; [`Idle`] comes if it refuses.
+    /// Asks the master to assign a ballot to a configuration. Fails with [`Idle`] if it refuses.
     pub(super) fn assign(&mut self, config: &Config) -> Result<(), Idle>
         ensures step { GroupEventOrLost M.rules self.old (Event.Assign config.now) self.new }
         ensures idle { IsErr result ↔
@@ -67,7 +68,7 @@ impl<M: Machine> Group<M> {
         Ok(())
     }
 
-    // Lets the master give a ballot, which is sent to its primary.
+    // Assigns a ballot, and sends NewBallot to its primary. Fails only if memory runs out.
     fn give(&mut self, config: &Config) -> Result<(), Memory>
         requires { refusal self.old.moment.master config.now ≡ None }
         ensures ok { OnOk result (GroupMasterStepOrLost self.old
@@ -86,8 +87,8 @@ impl<M: Machine> Group<M> {
         Ok(())
     }
 
-    /// Lets a message reach its receiver. [`Idle`] comes for a number of no message and for a node
-    /// that does not run.
+    /// Delivers message `number` to its receiver. Fails with [`Idle`] if no such message was sent
+    /// or the receiver does not run.
     pub(super) fn deliver(&mut self, number: u64) -> Result<(), Idle>
         ensures step { GroupEventOrLost M.rules self.old (Event.Deliver number) self.new }
         ensures idle { IsErr result ↔
@@ -120,7 +121,7 @@ impl<M: Machine> Group<M> {
         Ok(())
     }
 
-    // Lets the master answer a node that asks it to activate a ballot.
+    // Answers an Activate, as the master.
     fn answer(&mut self, from: u8, ballot: u64)
         requires { In (0, record { from = from; body = Activate ballot })
             self.old.moment.world.sent }
@@ -136,7 +137,8 @@ impl<M: Machine> Group<M> {
         self.losses = counted(self.losses, kept, true);
     }
 
-    /// Lets a node repeat what others may have missed; [`Idle`] comes if it does not run.
+    /// Ticks a node, which retransmits what others may have missed. Fails with [`Idle`] if it does
+    /// not run.
     pub(super) fn tick(&mut self, node: u8) -> Result<(), Idle>
         ensures step { GroupEventOrLost M.rules self.old (Event.Tick node) self.new }
         ensures idle { IsErr result ↔
@@ -155,7 +157,7 @@ impl<M: Machine> Group<M> {
         Ok(())
     }
 
-    /// Lets a node cut its log; [`Idle`] comes if it does not run or has nothing to cut.
+    /// Cuts a node's log. Fails with [`Idle`] if the node does not run or has nothing to cut.
     pub(super) fn cut(&mut self, node: u8) -> Result<(), Idle>
         ensures step { GroupEventOrLost M.rules self.old (Event.Cut node) self.new }
         ensures idle { IsErr result ↔ (event_outcome M.rules self.old.moment (Event.Cut node)
@@ -174,8 +176,7 @@ impl<M: Machine> Group<M> {
         Ok(())
     }
 
-    // Cuts the log of a node that has something to cut. The places that it drops are recorded
-    // first.
+    // Cuts the log of a node that has something to cut, after the dropped places were recorded.
     fn cut_at(&mut self, at: usize)
         requires { (replica : ReplicaState M M.Command) ×
             (slice_get self.old.moment.world.nodes at ≡ Some replica) ×
@@ -207,7 +208,7 @@ impl<M: Machine> Group<M> {
         self.losses = counted(self.losses, false, true);
     }
 
-    /// Stops a node for good; [`Idle`] comes if it does not run.
+    /// Stops a node for good. Fails with [`Idle`] if it does not run.
     pub(super) fn crash(&mut self, node: u8) -> Result<(), Idle>
         ensures step { GroupEventOrLost M.rules self.old (Event.Crash node) self.new }
         ensures idle { IsErr result ↔

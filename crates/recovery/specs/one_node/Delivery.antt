@@ -19,14 +19,14 @@ use Rattle.world_base.specs.node_core.Step.{node_step}
 abbrev pub heard_by : CoreState → Message Command → Outcome State Command Output
 heard_by core message = received rules core.replica.state message.from message.body
 
--- the loss of each connection that was closed because there was no room for what was to be sent is
--- reported to the broker
+-- the loss of each connection that was closed because there was no room for its output is reported
+-- to the broker
 abbrev pub ReportsItsLosses : CoreState → Type 0
 ReportsItsLosses core =
     Each (λ (connection : Connection). has_failed connection ≡ false) core.connections
 
--- the node's outcome has in its replica what that of the replica says, sends just its messages, and
--- gives no name
+-- the node's replica is as its own step leaves it; the node sends exactly the messages of that step,
+-- and accepts no connection
 pub record IsDelivery (core : CoreState) (replica_outcome : Outcome State Command Output)
     (outcome : StepOutcome) : Type 0 where
   pub replica : outcome.core.replica ≡ record core.replica { state = replica_outcome.state }

@@ -35,8 +35,8 @@ pub record PutsOutFirst (port : Port) (front : List ℕ) (core : CoreState) : Ty
   pub listed : listed_at port core ≡ Some connection
   pub first : IsPrefixOf front connection.pending
 
--- if the first output of a message is a packet for an open connection with nothing to hand over, it
--- is sent first, whatever comes after it
+-- if the first output of a message is a packet for an open connection without pending output, it is
+-- sent first, whatever comes after it
 abbrev pub AnswerIsPutOut : Type 0
 AnswerIsPutOut =
     (core : CoreState) (message : Message Command) (port : Port) (name : ConnectionName)

@@ -23,8 +23,8 @@ with_first_connection port core =
       connections = filter is_listed core.connections ++ fresh port (first_name_of_node core) ∷ [];
     }
 
--- a node that serves clients, is calm and gave no name in its ballot opens a connection at a port
--- of which it lists none, under that name
+-- a node that serves clients, is calm and accepted no connection in its ballot opens a connection
+-- at a port of which it lists none, under that name
 abbrev pub FirstIsOpened : Type 0
 FirstIsOpened =
     (core : CoreState) (port : Port) (now : ℕ) → serves core ≡ true → ReportsItsLosses core →

@@ -1,5 +1,5 @@
 -- Messages that come to their receivers one after another, exactly, each named by its number, if
--- nodes cut their logs. Which numbers lead out is in `Deliveries` (`recovery_messages`).
+-- nodes cut their logs. The numbers of the messages are in `Deliveries` (`recovery_messages`).
 use Rattle.std.specs.Prelude.{ℕ, ◌+◌, ◌≡◌, false, List, [], ◌∷◌, slice_get, Some}
 use Rattle.machine.specs.Machine.{Rules}
 use Rattle.agreement.specs.MasterState.{assigning}

@@ -1,5 +1,4 @@
--- The way to the next ballot, for groups whose nodes cut their logs. What is said about
--- logs is said about whole ones.
+-- The way to the next ballot, for groups whose nodes cut their logs. Logs are meant as whole ones.
 use Rattle.std.specs.Prelude.{ℕ, ◌+◌, ◌-◌, ◌*◌, ◌≡◌, List, [], ◌∷◌, ◌++◌, length}
 use Rattle.machine.specs.Machine.{Rules}
 use Rattle.lists.specs.Lists.{IsPrefixOf}
@@ -41,7 +40,7 @@ pub record LeadsOut {S C O : Type 0} (rules : Rules S C O) (config : Config)
   pub goes : GoesOnTo rules config moments
       last (log ++ rules.start_of (moment.master.given + 1) ∷ [])
 
--- if starts have no output, there is a way out at each moment of a group, whichever logs were cut
+-- if starts have no output, there is a recovery at each moment of a group, whichever logs were cut
 abbrev pub CutGroupsHaveRecoveries : {S C O : Type 0} → Rules S C O → Type 0
 CutGroupsHaveRecoveries {S} {C} {O} rules =
     StartsGiveNothing rules →

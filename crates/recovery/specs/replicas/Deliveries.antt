@@ -89,8 +89,8 @@ asked_and_answered first others = numbers_from first others ++ numbers_from (fir
 abbrev pub activate_number : ℕ → ℕ → ℕ → ℕ
 activate_number sent members others = sent + members + 2 + (others + others)
 
--- the messages of a way out, if the member at this index of the active ballot is asked for its log:
--- NewBallot, Join, State; Install and Installed; Activate, Activated; Append and Held
+-- the messages of a recovery, if the member at this index of the active ballot is asked for its
+-- log: NewBallot, Join, State; Install and Installed; Activate, Activated; Append and Held
 abbrev pub recovery_messages : ℕ → ℕ → ℕ → ℕ → List ℕ
 recovery_messages sent members index others =
     sent ∷ (sent + 1 + index) ∷ (sent + 1 + members)

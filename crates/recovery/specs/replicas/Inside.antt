@@ -1,4 +1,4 @@
--- What proofs say about nodes during a way out; no law cites it.
+-- Definitions for proofs about nodes during a recovery; no theorem cites it.
 use Rattle.std.specs.Prelude.{ℕ, ◌+◌, ◌≡◌, ◌≤◌, ◌<◌, false, List, [], ◌++◌}
 use Rattle.ballot_base.specs.declared.status.Role.TheVariants.{Fetching, Installing}
 use Rattle.agreement.specs.whole_logs.Replica.{ReplicaState}

@@ -1,4 +1,4 @@
--- How many messages a way out has.
+-- How many messages a recovery has.
 use Rattle.std.specs.Prelude.{◌≡◌, ℕ, ◌+◌, ◌*◌, length}
 use Rattle.recovery.specs.replicas.Deliveries.{asked_and_answered, recovery_messages}
 

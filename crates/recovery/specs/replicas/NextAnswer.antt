@@ -1,5 +1,5 @@
--- The next command at the primary of a led ballot, if nodes cut their logs. What is said about logs
--- is said about whole ones.
+-- The next command at the primary of a led ballot, if nodes cut their logs. Logs are meant as whole
+-- ones.
 use Rattle.std.specs.Prelude.{ℕ, ◌+◌, ◌*◌, ◌<◌, ◌≡◌, false, List, [], ◌∷◌, ◌++◌, length, map}
 use Rattle.std.specs.Prelude.{slice_get, Some}
 use Rattle.machine.specs.Machine.{Rules, replay}

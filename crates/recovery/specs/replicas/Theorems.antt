@@ -1,5 +1,11 @@
 -- At each moment of a group a new ballot can be led to its start, which all its members then hold:
 -- by which messages, in which order, and what is agreed after them.
+--
+-- One running member of the active configuration is enough, since each member holds everything that
+-- is agreed. The messages are named by numbers that follow from counts alone, whatever was sent
+-- before and whatever they contain. If the machine outputs nothing at the start of a ballot, no
+-- node outputs anything on the way, so nothing is queued on its connections, and the first answer
+-- in the new ballot is the CONNACK of the client that reconnects.
 use Rattle.std.specs.Prelude.{ℕ, ◌+◌, ◌-◌, ◌*◌, ◌<◌, ◌≡◌, List, [], ◌∷◌, ◌++◌, length, None}
 use Rattle.std.specs.Prelude.{slice_get, Some}
 use Rattle.machine.specs.Machine.{Rules}
@@ -18,9 +24,9 @@ abbrev pub StartsGiveNothing : {S C O : Type 0} → Rules S C O → Type 0
 StartsGiveNothing {S = S} rules =
     (state : S) (ballot : ℕ) → rules.gives state (rules.start_of ballot) ≡ []
 
--- the conditions of a way out: the master would not refuse the configuration, and the nodes that it
--- names run; the member at an index of the active configuration, whose whole log this is, runs too,
--- and the log has room for the ballot's start
+-- the conditions of a recovery: the master would not refuse the configuration, and the nodes that
+-- it names run; the member at an index of the active configuration, whose whole log this is, runs
+-- too, and the log has room for the ballot's start
 pub record CanBeLed {S C O : Type 0} (moment : Moment S C O) (new : Config) (index source : ℕ)
     (log : List C) : Type 0 where
   pub granted : refusal moment.master new ≡ None
@@ -76,7 +82,7 @@ pub record LeadsOut {S C O : Type 0} (rules : Rules S C O) (config : Config)
   pub goes : GoesOnTo rules config moments
       last (log ++ rules.start_of (moment.master.given + 1) ∷ [])
 
--- if starts have no output, there is a way out at each moment of a group
+-- if starts have no output, there is a recovery at each moment of a group
 abbrev pub HasRecovery : {S C O : Type 0} → Rules S C O → Type 0
 HasRecovery {S} {C} {O} rules =
     StartsGiveNothing rules →

@@ -1,4 +1,4 @@
-// Laws of one node on a way out. The calls do nothing; their contracts are the laws.
+// Theorems about one node in a recovery: the contracts of functions with an empty body.
 
 ghost use Rattle.recovery.specs.one_node.FirstAnswer.{AnswerAloneIsPutOut, AnswerIsPutOut};
 ghost use Rattle.recovery.specs.one_node.ConnectRequest.{ConnectIsProposed};
@@ -13,9 +13,9 @@ ghost use Rattle.recovery.specs.one_node.AwaitedAnswer.{
 };
 ghost use Rattle.recovery.specs.one_node.Welcome.{KeptSessionsAreWelcomed};
 
-/// States that a node's step on a message for which its replica has no output does to the replica
-/// just what the message does, and sends its messages. The loss of each failed connection must be
-/// reported to the broker before, or the node must not serve clients afterwards.
+/// States that a node's step on a message for which its replica has no output is exactly the
+/// replica's step, and sends its messages. Each failed connection must have been reported to the
+/// broker before, or the node must not serve clients afterwards.
 pub fn a_step_is_a_delivery()
     ensures { AStepIsADelivery }
 {}
@@ -27,8 +27,8 @@ pub fn kept_sessions_are_welcomed()
     ensures { KeptSessionsAreWelcomed }
 {}
 
-/// States that a node that serves clients, and gave no name in its ballot, opens a connection at a
-/// port that is new to it under the first name of the ballot. Nothing else happens.
+/// States that a node that serves clients, and accepted no connection in its ballot, opens a
+/// connection at a port that is new to it under the first name of the ballot. Nothing else happens.
 pub fn first_is_opened()
     ensures { FirstIsOpened }
 {}
@@ -40,9 +40,9 @@ pub fn connect_is_proposed()
     ensures { ConnectIsProposed }
 {}
 
-/// States that if the first output of a message is a packet for an open connection with nothing to
-/// hand over, its bytes are the first that the node hands over there, whatever else the message
-/// leads to.
+/// States that if the first output of a message is a packet for an open connection without pending
+/// output, its bytes are the first that the node hands over there, whatever else the message leads
+/// to.
 pub fn answer_is_put_out()
     ensures { AnswerIsPutOut }
 {}

@@ -1,12 +1,12 @@
-// The laws of a way out and of the next answer over cut logs. The calls do nothing; their contracts
-// are the laws.
+// Theorems about a recovery, and the next answer, over cut logs: the contracts of functions with an
+// empty body.
 
 ghost use Rattle.recovery.specs.replicas.NextAnswer.{CutGroupsAnswer};
 ghost use Rattle.recovery.specs.replicas.CutTheorems.{CutGroupsHaveRecoveries};
 
 use machine::Machine;
 
-/// States that a group whose nodes cut their logs can always be led on: the messages of
+/// States that a group whose nodes cut their logs can always recover: the messages of
 /// `recovery_messages` lead to the next ballot. This needs that the members of a new configuration
 /// run, and one member of the active one, and that a ballot and a place are left. The ballot is
 /// active then, and all its members hold the whole log of that member followed by the ballot's

@@ -1,16 +1,21 @@
-// The numbers of messages, by arithmetic.
+// The numbers of a recovery's messages, by arithmetic.
+//
+// Messages are numbered in the order of sending, and in a recovery each delivery sends a known
+// number of them. So every number follows from how many messages were sent before and how many
+// members there are: the list is made before any of these messages exists, and nothing is
+// simulated.
 
 ghost use Rattle.std.specs.Prelude.{◌≡◌, ◌≤◌, ◌<◌, ◌+◌, ◌*◌, ◌^◌, ◌++◌, IfOk, OnOk};
 ghost use Rattle.recovery.specs.replicas.Deliveries.{asked_and_answered, numbers_from, recovery_messages};
 
 use std::alloc::{AllocError, Global};
 
-/// Returns the numbers of the messages that lead a new ballot to its start, in the order in which
-/// they have to be delivered.
+/// Returns the numbers of the messages that lead a new ballot to its start, in the order of
+/// delivery.
 ///
 /// `sent` messages were sent before. The member at `index` among the `members` of the active ballot
-/// is asked for its log, and the new ballot has this many `others` besides its primary. Running out
-/// of memory is the only error.
+/// is asked for its log, and the new ballot has `others` members besides its primary. Fails only if
+/// memory runs out.
 pub fn recovery_messages(
     alloc: Global,
     sent: u64,
@@ -34,8 +39,8 @@ pub fn recovery_messages(
     Ok(numbers)
 }
 
-/// Returns the numbers of the messages that let the others hold the next command and answer, if
-/// this many messages were sent before it. Running out of memory is the only error.
+/// Returns the numbers of the messages by which the other members hold the next command and answer,
+/// if `sent` messages were sent before it. Fails only if memory runs out.
 pub fn answers(alloc: Global, sent: u64, others: u64) -> Result<Vec<u64>, AllocError>
     requires { sent + 2 * others < 2 ^ 64 }
     ensures { IfOk result (λ numbers. numbers.items ≡ asked_and_answered sent others) }
@@ -45,7 +50,7 @@ pub fn answers(alloc: Global, sent: u64, others: u64) -> Result<Vec<u64>, AllocE
     Ok(numbers)
 }
 
-// Appends the numbers of a message to each of some others, and of their answers.
+// Appends the number of a message to each of some members, and of its answer.
 fn push_asked(numbers: &mut Vec<u64>, from: u64, others: u64) -> Result<(), AllocError>
     requires { from + 2 * others < 2 ^ 64 }
     ensures { OnOk result
@@ -55,7 +60,7 @@ fn push_asked(numbers: &mut Vec<u64>, from: u64, others: u64) -> Result<(), Allo
     push_from(numbers, from + others, others)
 }
 
-// Appends this many numbers, each one more than the one before.
+// Appends `count` numbers, from `from` on.
 fn push_from(numbers: &mut Vec<u64>, from: u64, count: u64) -> Result<(), AllocError>
     requires { from + count < 2 ^ 64 }
     ensures { OnOk result (numbers.new.items ≡ numbers.old.items ++ numbers_from from count) }

@@ -1,11 +1,11 @@
-// Laws of ways out. The calls do nothing; their contracts are the laws.
+// Theorems about recoveries: the contracts of functions with an empty body.
 
 ghost use Rattle.recovery.specs.replicas.Theorems.{HasRecovery};
 ghost use Rattle.recovery.specs.replicas.AnswerTheorems.{CommandsAreAnswered, WhatAllHoldIsAgreed};
 
 use machine::Machine;
 
-/// States that a group can always be led on: the messages of a list lead to the next ballot. This
+/// States that a group can always recover: the messages of a list lead to the next ballot. This
 /// needs that the members of a new configuration run, and one member of the active one, and that a
 /// ballot and a place are left. The ballot is active then, and all its members hold the log of that
 /// member followed by the ballot's start. This is the agreed list, and what was agreed before is a

@@ -1,4 +1,4 @@
--- What a node queued goes down.
+-- Pending output goes into the pipes.
 use Rattle.std.specs.Prelude.{◌≡◌, ◌⊎◌, ◌-◌, ℕ, Bool, true, false, ◌++◌, Some, length, set, slice_get, take}
 use Rattle.headline.specs.node_moves.Moves.NodeCall.{hands_out}
 use Rattle.world_nodes.specs.RunningNodes.{numbered_node}

@@ -1,4 +1,4 @@
--- The events of a way out, by arithmetic, and the member whose log is fetched.
+-- The events of a recovery, by arithmetic, and the member whose log is fetched.
 use Rattle.std.specs.Prelude.{◌≡◌, ◌≤◌, ℕ, suc, ◌+◌, ◌-◌, ◌*◌, Bool, List, ◌∷◌, ◌++◌, Some, length, map, slice_get}
 use Rattle.std.specs.List.{position}
 use Rattle.ballot_base.specs.Service.{max_places}
@@ -12,7 +12,7 @@ use Rattle.world.specs.World.{WorldState}
 
 -- ---- the member of the active configuration whose log is fetched
 
--- the first that runs is at this index and has this number, and its log has room for two more
+-- the first running member is at this index and has this number, and its log has two places left
 pub record IsFetchedFrom (world : WorldState) (index source : ℕ) : Type 0 where
   pub first : position (is_running world.nodes.nodes) world.nodes.master.members ≡ Some index
   pub asked : slice_get world.nodes.master.members index ≡ Some source
@@ -33,7 +33,7 @@ abbrev pub sent_then : WorldState → ℕ → ℕ
 sent_then world others =
     length world.nodes.sent + length world.nodes.master.members + 5 * others + 4
 
--- the events of a way out: of the group, then of the client, then of the answer to it
+-- the events of a recovery: those of the group, of the client, and of the answer to it
 abbrev pub escaping_events : WorldState → List ℕ → ℕ → Bool → List ℕ → ℕ → List Event
 escaping_events world members index holds name bytes =
     group_events world members index

@@ -9,7 +9,7 @@ use Rattle.world_base.specs.node_connections.Connections.{is_proposed}
 abbrev pub with_unread : List ℕ → Connection → Connection
 with_unread piece connection = record connection { unread = connection.unread ++ piece }
 
--- a packet was read, which was whole at this time; these bytes came after it
+-- a packet was read, whole at this time, and these bytes follow it
 abbrev pub left_with : ℕ → List ℕ → Connection → Connection
 left_with now rest connection = record connection { unread = rest; last_packet = now }
 
@@ -18,16 +18,16 @@ abbrev pub noted_proposed : ℕ → Connection → Connection
 noted_proposed keep_alive connection =
     record connection { stage = Proposed; keep_alive = keep_alive }
 
--- closed: nothing more is read or waited for, and what was queued before is still handed over
+-- closed: no more is read, and pending output is still handed over
 abbrev pub closed_connection : Connection → Connection
 closed_connection connection =
     record connection { stage = Closed; keep_alive = 0; last_packet = 0; unread = [] }
 
--- bytes are queued
+-- bytes are appended to the pending output
 abbrev pub putting : List ℕ → Connection → Connection
 putting bytes connection = record connection { pending = connection.pending ++ bytes }
 
--- how many bytes may wait to be handed over on one connection
+-- the most pending output of one connection, in bytes
 abbrev pub max_pending : ℕ
 max_pending = MAX_PENDING
 
@@ -45,11 +45,11 @@ with_queued bytes connection =
     then putting bytes connection
     else failing connection
 
--- what was queued is handed over
+-- all pending output is handed over
 abbrev pub nothing_pending : Connection → Connection
 nothing_pending connection = record connection { pending = [] }
 
--- the list after a change of that connection
+-- the list after a change of the first connection that passes the test
 abbrev pub changed_where : (Connection → Bool) → (Connection → Connection) → List Connection →
     List Connection
 changed_where test change [] = []

@@ -1,4 +1,4 @@
--- What is at the front of a connection's bytes, and what reading it does.
+-- The next packet of a connection, and what reading it does.
 use Rattle.std.specs.Prelude.{◌≡◌, ◌⊎◌, true, false, if◌then◌else◌, List, ℕ, Result, Ok, Err}
 use Rattle.packet_base.specs.declared.stop.Stop.{Stop}
 use Rattle.packet_base.specs.declared.stop.Stop.TheVariants as stops

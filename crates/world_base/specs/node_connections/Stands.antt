@@ -1,4 +1,4 @@
--- The state of a connection, for the code that serves its stream.
+-- The state of a connection, as the code that serves its stream sees it.
 use Rattle.std.specs.Prelude.{Option, Some, None}
 use Rattle.world_base.specs.declared.node_connections.connection.Connection.{Connection}
 use Rattle.world_base.specs.declared.node_connections.connection.ConnectionStage.{ConnectionStage}
@@ -6,14 +6,14 @@ use Rattle.world_base.specs.declared.node_connections.connection.ConnectionStage
 use Rattle.world_base.specs.declared.node_connections.standing.Standing.{Standing}
 use Rattle.world_base.specs.declared.node_connections.standing.Standing.TheVariants.{Awaits, Proposed, Closed}
 
--- the state that the stream's code is told, by the stage of the connection
+-- the state for the stream's code, by the stage of the connection
 abbrev pub standing_at : ConnectionStage → Standing
 standing_at stages.Awaits = Awaits
 standing_at stages.Proposed = Proposed
 standing_at stages.Closed = Closed
 standing_at stages.Failed = Closed
 
--- if there is no connection it is closed
+-- a connection that does not exist is closed
 abbrev pub standing_of : Option Connection → Standing
 standing_of None = Closed
 standing_of (Some connection) = standing_at connection.stage

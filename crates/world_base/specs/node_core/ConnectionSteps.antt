@@ -1,5 +1,4 @@
--- How each connection changes in a step of a node in which memory may run out: one with a gap is
--- closed.
+-- How connections change in a step in which memory may run out: one with a gap is closed.
 use Rattle.std.specs.Prelude.{◌≡◌, ◌⊎◌, ℕ, true, false, if◌then◌else◌, List, [], ◌∷◌, ◌++◌}
 use Rattle.broker_spec.specs.Connection.{ConnectionName, same_connection}
 use Rattle.broker_spec.specs.declared.command.Command.{Command}
@@ -37,10 +36,9 @@ abbrev pub IsRefusalOfConnect : List ℕ → Type 0
 IsRefusalOfConnect bytes =
     (code : RefusalCode) × (bytes ≡ spelling (packets.Connack (connacks.Refused code)))
 
--- A connection after a step has the port and the name from before. If it was closed, it still is,
--- with the same bytes to hand over. If it is open, it was open, and all these bytes were appended
--- to what was to be handed over. If it was closed meanwhile, a prefix of these bytes was, and
--- perhaps the node's refusal.
+-- A connection keeps its port and its name in a step. If it was closed, it still is, with the same
+-- pending output. If it is open, it was open, and all these bytes were queued. If it was closed in
+-- the step, a prefix of them was queued, and perhaps the node's refusal.
 pub record ConnectionGoesOn (bytes : List ℕ) (old new : Connection) : Type 0 where
   pub port : new.port ≡ old.port
   pub name : new.name ≡ old.name

@@ -18,7 +18,7 @@ pub record CoreState : Type 0 where
   pub last_name : ConnectionName
   pub connections : List Connection
 
--- a node with the number of its steps in which something was lost, up to 2^64 - 1
+-- a node with the number of its steps in which something was lost (saturates at 2^64 - 1)
 pub record CountedCore : Type 0 where
   pub core : CoreState
   pub losses : ℕ

@@ -19,11 +19,11 @@ use Rattle.world_base.specs.node_connections.ConnectionChanges.{closed_connectio
 use Rattle.world_base.specs.node_core.Core.{CoreState, StepOutcome, rules, serves}
 use Rattle.packet.specs.Spelling.{spelling}
 
--- the node as it is, and no message is sent
+-- the node unchanged, and no message
 abbrev pub without_messages : CoreState → StepOutcome
 without_messages core = record { core = core; messages = [] }
 
--- one thing, and then another
+-- one outcome, then the next
 abbrev pub then_also : StepOutcome → (CoreState → StepOutcome) → StepOutcome
 then_also first next =
     record {
@@ -31,7 +31,7 @@ then_also first next =
       messages = first.messages ++ (next first.core).messages;
     }
 
--- one thing this many times, each after the one before
+-- an outcome repeated this many times
 unfoldable pub repeated : ℕ → (CoreState → StepOutcome) → CoreState → StepOutcome
 repeated zero next core = without_messages core
 repeated (suc more) next core = then_also (next core) (repeated more next)
@@ -75,7 +75,7 @@ proposes command core =
     if serves core then after_replica_step (proposed rules core.replica.state command) core
     else without_messages core
 
--- a message of another node or a tick; a replica that has stopped does nothing
+-- the replica's step on a message of another node or a tick; one that has stopped does nothing
 abbrev pub outcome_of_input : Input Command → ReplicaState State Command →
     Outcome State Command Output
 outcome_of_input input replica =

@@ -1,5 +1,5 @@
--- Connections that were closed because there was no room for what was to be sent: their loss is
--- reported to the broker.
+-- Connections that were closed because there was no room for their output: their loss is reported
+-- to the broker.
 use Rattle.std.specs.Prelude.{length, Option, Some, None}
 use Rattle.std.specs.List.{find}
 use Rattle.broker_spec.specs.declared.command.Command.TheVariants as commands

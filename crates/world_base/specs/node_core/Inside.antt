@@ -1,4 +1,4 @@
--- What the helpers of a step ensure about it.
+-- Definitions for the private functions of a step.
 use Rattle.std.specs.Prelude.{◌≡◌, Bool, true, false, List, [], ◌++◌, None}
 use Rattle.std.specs.List.{find}
 use Rattle.broker_base.specs.State.{State}
@@ -31,11 +31,11 @@ pub record WithoutFailure (old new : RunningStep) : Type 0 where
   pub failed : find has_failed old.core.connections ≡ None →
       find has_failed new.core.connections ≡ None
 
--- this is what was done, unless something was lost
+-- exactly this was done, unless something was lost
 abbrev pub DoesExactly : RunningStep → RunningStep → CoreState → Type 0
 DoesExactly old new core = new.has_lost ≡ false → new ≡ record old { core = core }
 
--- this is what was done, unless something was lost; its messages were appended to what was there
+-- exactly this was done, unless something was lost; its messages were appended
 pub record DoesOutcome (old new : RunningStep) (before after : List (Effect Command Output))
     (done : StepOutcome) : Type 0 where
   pub given : List (Effect Command Output)

@@ -1,4 +1,4 @@
--- How steps of a node in which something was lost are counted, and which steps never are.
+-- How steps with losses are counted, and which steps never are.
 use Rattle.std.specs.Prelude.{◌≡◌, ◌⊎◌, ◌<◌, Bool, false, List, [], ◌++◌, Option, Some, None}
 use Rattle.std.specs.List.{find}
 use Rattle.lists.specs.Lists.{Each}
@@ -52,9 +52,9 @@ abbrev pub was_proposed : Option Connection → Bool
 was_proposed None = false
 was_proposed (Some connection) = is_proposed connection.stage
 
--- By the protocol a message makes the replica send nothing, keep its log and apply nothing. It may
--- learn something: what a member holds, that one no longer lacks the log, or that its ballot was
--- superseded. The replica's count of losses is below its greatest number, at which it no longer
+-- By the protocol the message makes the replica send nothing, append nothing and apply nothing,
+-- though it may learn what a member holds, that a member no longer lacks the log, or that its
+-- ballot was superseded. The replica's count of losses is below its maximum, at which it no longer
 -- shows whether a call lost something.
 abbrev pub IsHeardQuietly : Message Command → CoreState → Type 0
 IsHeardQuietly message core =
@@ -71,7 +71,7 @@ ItemTakesNoMemory (Ended port) core = was_proposed (open_at port core) ≡ false
 ItemTakesNoMemory Crash core = Unit {0}
 ItemTakesNoMemory item core = DoesNothing item core
 
--- nothing that was queued for a connection waits to be handed over
+-- no connection has pending output
 abbrev pub WaitsNothing : CoreState → Type 0
 WaitsNothing core = Each (λ (connection : Connection). connection.pending ≡ []) core.connections
 
@@ -89,10 +89,9 @@ abbrev pub NodeStepOrLost : CountedCore → StepOutcome → CountedCore → List
 NodeStepOrLost old outcome new given =
     IsExactly old outcome new given ⊎ (new.losses ≡ one_more old.losses)
 
--- The messages of a step were appended to what was there. It is exactly the step, or counted. A
--- step on an item that takes no memory is never counted, as long as there is no failed connection
--- that is still to be reported to the broker. In any case it did no more than the step may do if
--- memory runs out.
+-- The messages of a step were appended, and the step was exact or counted. One on an item that
+-- takes no memory is never counted, unless a failed connection is still to be reported to the
+-- broker. In any case it did no more than a step may do when memory runs out.
 pub record ItemStepOrLost (old : CountedCore) (item : Item) (new : CountedCore)
     (before after : List (Effect Command Output)) : Type 0 where
   pub given : List (Effect Command Output)

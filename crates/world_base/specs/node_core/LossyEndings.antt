@@ -1,4 +1,4 @@
--- How a connection ends that is lost, silent or failed, if memory may run out.
+-- How a connection that is lost, silent or failed ends, if memory may run out.
 use Rattle.std.specs.Prelude.{◌≡◌, ℕ, true, false, Some, None}
 use Rattle.std.specs.List.{find}
 use Rattle.broker_spec.specs.declared.command.Command.TheVariants as commands

@@ -1,4 +1,4 @@
--- What a node hands over of the bytes that it queued for a port.
+-- Handing over the pending output of a port.
 use Rattle.std.specs.Prelude.{List, map, Option, Some, None}
 use Rattle.std.specs.List.{find, filter}
 use Rattle.world_base.specs.declared.node_connections.port.Port.{Port}
@@ -8,11 +8,11 @@ use Rattle.world_base.specs.node_connections.ConnectionChanges.{nothing_pending,
 use Rattle.world_base.specs.node_core.Core.{CoreState}
 pub use Rattle.world_base.specs.node_connections.PendingOutput.{handed_after, pending_bytes, is_idle}
 
--- the connection of a port that is open, or has bytes to hand over
+-- the connection of a port that is open, or has pending output
 abbrev pub listed_at : Port → CoreState → Option Connection
 listed_at port core = find (is_at port) core.connections
 
--- what is left: a closed connection is removed with its last bytes
+-- what remains: a closed connection is removed with its last bytes
 abbrev pub left_by : Port → CoreState → Option Connection → CoreState
 left_by port core None = core
 left_by port core (Some connection) =
@@ -21,12 +21,11 @@ left_by port core (Some connection) =
           (changed_where (is_at port) nothing_pending core.connections);
     }
 
--- what was queued for a port is handed over
+-- the pending output of a port is handed over
 unfoldable pub hands_over : Port → CoreState → CoreState
 hands_over port core = left_by port core (listed_at port core)
 
--- the ports of the connections that are open with nothing to hand over: for each other port there
--- is something to hand over, or it is closed
+-- the ports of the open connections without pending output: any other port has some, or is closed
 abbrev pub idle_ports : CoreState → List Port
 idle_ports core =
     map (λ (connection : Connection). connection.port) (filter is_idle core.connections)

@@ -43,8 +43,8 @@ with_next_connection port core =
     }
     else core
 
--- if the node no longer serves clients all connections are closed; a closed one with nothing to
--- hand over is removed
+-- if the node no longer serves clients all connections are closed; a closed one without pending
+-- output is removed
 unfoldable pub settled : CoreState → CoreState
 settled core =
     record core {

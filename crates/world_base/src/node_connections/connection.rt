@@ -21,32 +21,32 @@ use packet::{Connack, Packet};
 use packet_base::RefusalCode;
 use std::alloc::Global;
 
-/// How many bytes may wait to be handed over on one connection. It is twice what a client can be
-/// sent again, the 64 entries of a window with packets of 1 MiB.
+/// The most pending output of one connection, in bytes: twice what a client can be sent again, 64
+/// entries of a window with packets of 1 MiB.
 const MAX_PENDING: usize = 134_217_728;
 
-/// How far a connection is.
+/// The stage of a connection.
 #[derive(Clone, Copy, Debug, PartialEq, Eq)]
 pub enum ConnectionStage {
-    /// Its first packet is awaited.
+    /// The first packet is awaited.
     Awaits,
-    /// Its CONNECT was proposed, or is about to be.
+    /// The CONNECT was proposed, or is about to be.
     Proposed,
-    /// It is closed.
+    /// The connection is closed.
     Closed,
-    /// It is closed as lost, and the loss is still to be reported to the broker.
+    /// It is closed as lost, and the loss is not yet reported to the broker.
     Failed,
 }
 
 impl ConnectionStage {
-    /// Returns true if the first packet of the connection is awaited.
+    /// Returns true if the first packet is awaited.
     pub fn awaits_first_packet(self) -> bool
         ensures { result ≡ awaits_first_packet self }
     {
         self == ConnectionStage::Awaits
     }
 
-    /// Returns true if the connection is open, and its CONNECT was proposed or is about to be.
+    /// Returns true if the connection is open and its CONNECT was proposed or is about to be.
     pub fn is_proposed(self) -> bool
         ensures { result ≡ is_proposed self }
     {
@@ -54,23 +54,22 @@ impl ConnectionStage {
     }
 }
 
-/// A connection of a node. It stays listed until everything that was queued for it was handed over.
+/// A connection of a node. It stays listed until all of its pending output was handed over.
 #[derive(Drop)]
 pub struct Connection {
     /// Its number at the node.
     pub port: Port,
-    /// Its name, which the broker knows it by.
+    /// The name by which the broker knows it.
     pub name: ConnectionName,
-    /// How far it is.
+    /// The stage that it has reached.
     pub stage: ConnectionStage,
-    /// The most seconds between two packets of its client, by its CONNECT; 0 for no limit (MQTT
-    /// 3.1.2.10).
+    /// The keep alive of its CONNECT, in seconds; 0 for no limit (MQTT 3.1.2.10).
     pub keep_alive: u16,
-    /// When its last packet was whole, in milliseconds; 0 before the first.
+    /// The time of its last whole packet, in milliseconds; 0 before the first.
     pub last_packet: u64,
-    /// The bytes that came and were not read yet.
+    /// The bytes that arrived and are not yet read.
     pub unread: Unread,
-    /// The bytes that are queued for its client.
+    /// The output that is not yet handed over.
     pub pending: Piece,
 }
 
@@ -97,14 +96,14 @@ impl Connection {
         self.port.0 == port.0
     }
 
-    /// Returns true if this is the open connection of a port.
+    /// Returns true if this is the open connection of the port.
     pub fn is_open_at(&self, port: Port) -> bool
         ensures { result ≡ is_open_at port self.now }
     {
         !self.is_closed() && self.port.0 == port.0
     }
 
-    /// Returns true if this is the open connection of a name.
+    /// Returns true if this is the open connection of the name.
     pub fn is_open_named(&self, name: ConnectionName) -> bool
         ensures { result ≡ is_open_named name self.now }
     {
@@ -121,7 +120,7 @@ impl Connection {
         )
     }
 
-    /// Returns true if it is closed as lost, and the loss is still to be reported to the broker.
+    /// Returns true if it is closed as lost and the loss is not yet reported to the broker.
     pub fn has_failed(&self) -> bool
         ensures { result ≡ has_failed self.now }
     {
@@ -142,7 +141,7 @@ impl Connection {
         self.stage.is_proposed()
     }
 
-    /// Returns true if it is open, and no whole packet came for more than one and a half times of
+    /// Returns true if it is open and no whole packet arrived for more than one and a half times
     /// its keep alive (MQTT 3.1.2.10).
     pub fn is_silent(&self, now: u64) -> bool
         ensures { result ≡ is_silent now self.now }
@@ -151,21 +150,21 @@ impl Connection {
         !self.is_closed() && self.keep_alive > 0 && now.saturating_sub(self.last_packet) > allowed
     }
 
-    /// Returns true if it is listed: it is open, or has bytes to hand over.
+    /// Returns true if it is open or has pending output.
     pub fn is_listed(&self) -> bool
         ensures { result ≡ is_listed self.now }
     {
         !self.is_closed() || !self.pending.is_empty()
     }
 
-    /// Returns true if it is open, and has nothing to hand over.
+    /// Returns true if it is open and has no pending output.
     pub fn is_idle(&self) -> bool
         ensures { result ≡ is_idle self.now }
     {
         !self.is_closed() && self.pending.is_empty()
     }
 
-    /// Returns whether more may be queued for it, as a node does with its bytes.
+    /// Returns [`Handed::Open`] while more output may be queued.
     pub fn handed(&self) -> Handed
         ensures { result ≡ handed_after (Some self.now) }
     {
@@ -176,7 +175,7 @@ impl Connection {
         }
     }
 
-    /// Returns true if its CONNECT is awaited, was proposed, or the connection is closed.
+    /// Returns its state for the code that serves its stream.
     pub fn standing(&self) -> Standing
         ensures { result ≡ standing_of (Some self.now) }
     {
@@ -187,7 +186,7 @@ impl Connection {
         }
     }
 
-    /// Holds bytes that came. If memory runs out nothing changes.
+    /// Appends bytes that arrived. If memory runs out, nothing changes.
     pub fn hold(&mut self, piece: &Piece) -> Result<(), Memory>
         ensures ok { OnOk result (self.new ≡ with_unread piece.now self.old) }
         ensures err { OnErr result (self.new ≡ self.old) }
@@ -195,9 +194,9 @@ impl Connection {
         self.unread.hold(piece)
     }
 
-    /// Reads the next packet, which is whole at this time. Anything except a packet or less than
-    /// one closes the connection; a first CONNECT that is refused with a code is answered before.
-    /// Memory runs out only for such an answer, and for a packet with a text or a list.
+    /// Reads the next packet; `now` is the time. Bytes that are no packet close the connection; a
+    /// first CONNECT that is refused with a code is answered first. Memory runs out only for that
+    /// answer, and for a packet with a text or a list.
     pub fn next(&mut self, now: u64) -> Front
         ensures { TakesFront now self.old result self.new }
     {
@@ -217,7 +216,7 @@ impl Connection {
         front
     }
 
-    /// Notes that its CONNECT, which has this keep alive, is proposed.
+    /// Records that its CONNECT, with this keep alive, is proposed.
     pub fn note_proposed(&mut self, keep_alive: u16)
         ensures { self.new ≡ noted_proposed keep_alive self.old }
     {
@@ -225,8 +224,8 @@ impl Connection {
         self.keep_alive = keep_alive;
     }
 
-    /// Queues a packet, and says whether it did. If the packet has no bytes or memory runs out,
-    /// nothing changes.
+    /// Queues a packet and returns true. Returns false, with nothing changed, if the packet has no
+    /// encoding or memory runs out.
     pub fn put(&mut self, packet: &Packet) -> bool
         ensures whole { result ≡ true → self.new ≡ putting (spelling packet.now) self.old }
         ensures same { result ≡ false → self.new ≡ self.old }
@@ -234,8 +233,8 @@ impl Connection {
         self.pending.put(packet)
     }
 
-    /// Refuses its CONNECT with a code, and says whether there was memory for the answer. It is
-    /// closed in any case.
+    /// Refuses its CONNECT with a code and closes it. Returns false if memory ran out for the
+    /// answer; it is closed all the same.
     pub fn refuse(&mut self, code: RefusalCode) -> bool
         ensures whole { result ≡ true → self.new ≡ connect_refused code self.old }
         ensures lost { result ≡ false → self.new ≡ closed_connection self.old }
@@ -245,9 +244,9 @@ impl Connection {
         put
     }
 
-    /// Queues a packet, or closes the connection as lost if there is no room for it, or if its
-    /// bytes cannot be written: memory ran out, or the packet has no bytes, since it has an empty
-    /// list or is over the size limit. Returns true if they could be written.
+    /// Queues a packet, or closes the connection as lost if `MAX_PENDING` would be exceeded or the
+    /// packet cannot be encoded: memory ran out, or it has an empty list or exceeds the size limit.
+    /// Returns true if it could be encoded.
     pub fn put_or_fail(&mut self, packet: &Packet) -> bool
         ensures whole { result ≡ true → self.new ≡ with_queued (spelling packet.now) self.old }
         ensures lost { result ≡ false → self.new ≡ failing self.old }
@@ -265,7 +264,7 @@ impl Connection {
         }
     }
 
-    /// Closes it as lost: the loss is to be reported to the broker, if its CONNECT was proposed.
+    /// Closes it as lost. The loss is to be reported to the broker if its CONNECT was proposed.
     pub fn fail(&mut self)
         ensures { self.new ≡ failing self.old }
     {
@@ -276,9 +275,8 @@ impl Connection {
         }
     }
 
-    /// Hands over what was queued, after what `out` holds. If `out` is empty no byte is copied,
-    /// which no clause says. If memory runs out, nothing changes; it does not run out if nothing
-    /// was queued.
+    /// Moves the pending output to the end of `out`. If `out` is empty no byte is copied, which no
+    /// clause says. If memory runs out, nothing changes; without pending output it never does.
     pub fn outgoing(&mut self, out: &mut Vec<u8>) -> Result<(), Memory>
         ensures bytes { OnOk result (out.new.items ≡ out.old.items ++ self.old.pending) }
         ensures ok { OnOk result (self.new ≡ nothing_pending self.old) }
@@ -289,7 +287,7 @@ impl Connection {
         self.pending.move_to(out)
     }
 
-    /// Closes it. What was queued before is still handed over.
+    /// Closes it. Pending output is still handed over.
     pub fn close(&mut self)
         ensures { self.new ≡ closed_connection self.old }
     {

@@ -1,4 +1,4 @@
-// The list of a node's connections as a whole.
+// Functions on a node's list of connections.
 
 ghost use Rattle.std.specs.Prelude.{◌≡◌, false, true, [], ◌∷◌, ◌++◌, map, filter, OnErr, OnOk};
 ghost use Rattle.std.specs.List.{list_any};
@@ -20,7 +20,7 @@ pub fn has_port(connections: &[Connection], port: Port) -> bool
     connections.iter().any(|connection| connection.is_at(port))
 }
 
-/// Returns the lowest port of the connections that are silent at this time.
+/// Returns the lowest port of the silent connections.
 pub fn lowest_silent(connections: &[Connection], now: u64) -> Option<Port>
     ensures { result ≡ lowest_silent now connections.now }
 {
@@ -33,7 +33,6 @@ pub fn lowest_silent(connections: &[Connection], now: u64) -> Option<Port>
     lowest
 }
 
-// Returns the lower of two ports.
 fn lower(low: Option<Port>, port: Port) -> Port
     ensures { result ≡ lower low port }
 {
@@ -43,8 +42,8 @@ fn lower(low: Option<Port>, port: Port) -> Port
     }
 }
 
-/// Appends the ports of the connections that are open and have nothing to hand over. If memory runs
-/// out some of them may be appended.
+/// Appends the ports of the idle connections. If memory runs out, some of them may have been
+/// appended.
 pub fn push_idle(connections: &[Connection], ports: &mut Vec<Port>) -> Result<(), Memory>
     ensures ok { OnOk result (ports.new.items ≡ ports.old.items
         ++ map (λ (connection : Connection). connection.port) (filter is_idle connections.now)) }
@@ -58,7 +57,7 @@ pub fn push_idle(connections: &[Connection], ports: &mut Vec<Port>) -> Result<()
     Ok(())
 }
 
-/// Adds a connection at the end, and says whether there was memory.
+/// Appends a connection. Returns false if memory runs out.
 pub fn push(connections: &mut Vec<Connection>, connection: Connection) -> bool
     ensures ok { result ≡ true → connections.new.items ≡ connections.old.items ++ connection ∷ [] }
     ensures same { result ≡ false → connections.new.items ≡ connections.old.items }
@@ -66,7 +65,7 @@ pub fn push(connections: &mut Vec<Connection>, connection: Connection) -> bool
     connections.push(connection).is_ok()
 }
 
-/// Closes all connections. What was queued for them is still handed over.
+/// Closes all connections. Their pending output is still handed over.
 pub fn close_each(connections: &mut Vec<Connection>)
     ensures { connections.new.items ≡ map closed_connection connections.old.items }
 {
@@ -75,7 +74,7 @@ pub fn close_each(connections: &mut Vec<Connection>)
     }
 }
 
-/// Removes closed connections with nothing to hand over from the list.
+/// Removes closed connections without pending output.
 pub fn keep_listed(connections: &mut Vec<Connection>)
     ensures { connections.new.items ≡ filter is_listed connections.old.items }
 {

@@ -1,12 +1,12 @@
-// What is at the front of a connection's bytes.
+// The next packet of a connection, or why there is none.
 
 use packet::Packet;
 use packet_base::RefusalCode;
 
-/// What is at the front of a connection's bytes.
+/// The result of reading at the front of a connection's bytes.
 #[derive(Drop)]
 pub enum Front {
-    /// Less than a packet.
+    /// Less than a packet: more bytes are needed.
     More,
     /// A whole packet.
     Packet(Packet),
@@ -14,6 +14,6 @@ pub enum Front {
     Refused(RefusalCode),
     /// Bytes that begin no packet that this broker accepts. The connection is closed (MQTT 4.8).
     Fault,
-    /// There was no memory to read it.
+    /// Memory ran out.
     OutOfMemory,
 }

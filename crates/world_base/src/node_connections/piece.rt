@@ -1,4 +1,4 @@
-// A buffer to which packets are appended whole.
+// A byte buffer to which packets are appended whole.
 
 ghost use Rattle.std.specs.Prelude.{◌≡◌, ◌==◌, ◌+◌, ◌++◌, true, false, [], length, nat_le};
 ghost use Rattle.std.specs.Prelude.{if◌then◌else◌, IfOk, IsOk, OnErr, OnOk};
@@ -10,9 +10,9 @@ use std::alloc::Global;
 use std::marker::Model;
 use std::mem;
 
-/// Bytes in order: what came at once, or what waits to be handed over.
+/// Bytes in order: a chunk that arrived, or pending output.
 pub struct Piece {
-    // The front is the first of these: new bytes come after the last.
+    // Bytes are appended at the end and taken all at once.
     bytes: Vec<u8>,
 }
 
@@ -31,7 +31,7 @@ impl Model for Piece {
 }
 
 impl Piece {
-    /// Returns a piece without bytes.
+    /// Returns an empty buffer.
     pub fn new(alloc: Global) -> Piece
         ensures { result ≡ [] }
     {
@@ -40,7 +40,7 @@ impl Piece {
         }
     }
 
-    /// Returns a copy of the bytes. The only error is that memory ran out.
+    /// Returns a copy of the bytes. Fails only if memory runs out.
     pub fn from_slice(alloc: Global, bytes: &[u8]) -> Result<Piece, Memory>
         ensures { IfOk result (λ piece. piece ≡ bytes.now) }
     {
@@ -55,16 +55,15 @@ impl Piece {
         self.bytes.as_slice()
     }
 
-    /// Returns true if there is no byte.
+    /// Returns true if it has no bytes.
     pub fn is_empty(&self) -> bool
         ensures { result ≡ (length self.now == 0) }
     {
         self.bytes.is_empty()
     }
 
-    /// Adds the bytes of a packet at the end, and says whether they were added. They are not if
-    /// memory runs out, or if the packet has no bytes: it has an empty list, or is over the size
-    /// limit.
+    /// Appends a packet's encoding and returns true. Returns false, with nothing changed, if memory
+    /// runs out or the packet has no encoding: it has an empty list or exceeds the size limit.
     pub fn put(&mut self, packet: &Packet) -> bool
         ensures whole { result ≡ true → self.new ≡ self.old ++ spelling packet.now }
         ensures packet { result ≡ true → IsPacket packet.now }
@@ -77,9 +76,9 @@ impl Piece {
         encode(packet, &mut self.bytes).is_ok()
     }
 
-    /// Adds the bytes of a packet at the end, if there are no more than `most` then, and says
-    /// whether they were added. Gives up with [`Memory`] where [`Piece::put`] adds nothing: memory
-    /// ran out, or the packet has no bytes.
+    /// Appends a packet's encoding and returns true. Returns false, with nothing changed, if it
+    /// would then have more than `most` bytes. Fails with [`Memory`] where [`Piece::put`] returns
+    /// false: memory ran out, or the packet has no encoding.
     pub fn put_within(&mut self, packet: &Packet, most: usize) -> Result<bool, Memory>
         ensures fits { IfOk result (λ put.
             put ≡ nat_le (length self.old + length (spelling packet.now)) most) }
@@ -98,9 +97,9 @@ impl Piece {
         Ok(true)
     }
 
-    /// Moves all bytes to the end of `out`. If `out` is empty, the two vectors are swapped: no byte
-    /// is copied, which no clause says. The only error is that memory runs out, and then nothing
-    /// changes. If there are no bytes, no memory is taken.
+    /// Moves all bytes to the end of `out`. If `out` is empty the two vectors are swapped, and no
+    /// byte is copied, which no clause says. Fails only if memory runs out, and then nothing
+    /// changes; without bytes it takes no memory.
     pub fn move_to(&mut self, out: &mut Vec<u8>) -> Result<(), Memory>
         ensures moved { OnOk result (out.new.items ≡ out.old.items ++ self.old) }
         ensures emptied { OnOk result (self.new ≡ []) }

@@ -1,6 +1,6 @@
-// How a node names streams.
+// A node's number for a stream.
 
-/// The number by which a node knows a stream of bytes from and to a client. A number may be used
-/// again once its connection has ended and everything that was queued for it was handed over.
+/// The number by which a node knows a client's stream. It may be reused once its connection has
+/// ended and all pending output was handed over.
 #[derive(Clone, Copy, Debug, PartialEq, Eq)]
 pub struct Port(pub u64);

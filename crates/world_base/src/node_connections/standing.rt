@@ -1,4 +1,4 @@
-// The state of a connection, for the code that serves its stream.
+// The state of a connection, as the code that serves its stream sees it.
 
 /// The state of a node's connection.
 #[derive(Clone, Copy, Debug, PartialEq, Eq)]

@@ -1,4 +1,4 @@
-// The bytes of a connection that came and are not read yet.
+// The bytes of a connection that arrived and are not yet read.
 
 ghost use Rattle.std.specs.Prelude.{◌≡◌, ◌++◌, [], length, OnErr, OnOk};
 ghost use Rattle.world_base.specs.node_connections.Fronts.{ReadsFront};
@@ -11,12 +11,12 @@ use packet::DecodeFault;
 use std::alloc::Global;
 use std::marker::Model;
 
-/// The bytes of a connection that came and are not read yet. Its stream has had no fault: the
-/// connection is closed at the first one.
+/// The bytes of a connection that arrived and are not yet read. The stream had no fault: at the
+/// first one the connection is closed.
 pub struct Unread {
-    // The allocator of the cutter, which is made anew at a fault and to drop all bytes.
+    // The allocator for a new cutter, at a fault and in `clear`.
     alloc: Global,
-    // Has the bytes. It has not failed: at a fault another one takes its place.
+    // Holds the bytes. It has not failed: at a fault it is replaced.
     cutter: Cutter,
 }
 
@@ -50,7 +50,7 @@ impl Unread {
         }
     }
 
-    /// Holds bytes that came. If memory runs out nothing changes.
+    /// Appends bytes that arrived. If memory runs out, nothing changes.
     pub fn hold(&mut self, piece: &Piece) -> Result<(), Memory>
         ensures ok { OnOk result (self.new ≡ self.old ++ piece.now) }
         ensures err { OnErr result (self.new ≡ self.old) }
@@ -61,7 +61,7 @@ impl Unread {
         }
     }
 
-    /// Reads the packet at the front. At a fault nothing is left.
+    /// Reads the packet at the front. At a fault all bytes are dropped.
     pub fn next(&mut self) -> Front
         ensures { ReadsFront self.old result self.new }
     {
@@ -70,7 +70,7 @@ impl Unread {
             Ok(Some(packet)) => Front::Packet(packet),
             Err(CutError::Memory) => Front::OutOfMemory,
             Err(error) => {
-                // The stream has failed: nothing more is read from it.
+                // A stream that failed is not read again.
                 self.cutter = Cutter::new(self.alloc);
                 match error {
                     CutError::Decode(DecodeFault::Refused(code)) => Front::Refused(code),
@@ -80,7 +80,7 @@ impl Unread {
         }
     }
 
-    /// Returns how many bytes there are.
+    /// Returns the number of unread bytes.
     pub fn len(&self) -> usize
         ensures { result ≡ length self.now }
     {

@@ -1,4 +1,4 @@
-// Items that do nothing at a node: these take no memory.
+// Items without effect, which take no memory.
 
 ghost use Rattle.std.specs.Prelude.{◌≡◌, ◌↔◌, false, true};
 ghost use Rattle.ballot_base.specs.Protocol.Input.{Receives, Ticks};
@@ -10,7 +10,7 @@ use ballot_base::Message;
 use broker_spec::Command;
 
 impl SteppingNode {
-    /// Returns true if an item does nothing.
+    /// Returns true if an item has no effect.
     pub(crate) fn ignores(&self, item: &Item) -> bool
         ensures { (result ≡ true) ↔ DoesNothing item.now self.now.core }
     {
@@ -26,8 +26,8 @@ impl SteppingNode {
         }
     }
 
-    /// Returns true if a message of another node has an effect on the replica, or brings a snapshot
-    /// that the replica has to read.
+    /// Returns true if a message of another node would affect the replica, or brings a snapshot
+    /// that it has to read.
     pub(crate) fn heeds(&self, message: &Message<Command>) -> bool
         ensures { (result ≡ false) ↔ (IsIgnored (Receives message.now) self.now.core
             × ReadsNone message.now self.now.core) }
@@ -35,7 +35,7 @@ impl SteppingNode {
         !self.replica.status().stopped && self.replica.heeds(message)
     }
 
-    // Returns true if a tick has an effect on the replica.
+    // Returns true if a tick would make the replica send anything.
     fn speaks(&self) -> bool
         ensures { (result ≡ false) ↔ IsIgnored Ticks self.now.core }
     {

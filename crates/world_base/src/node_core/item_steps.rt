@@ -1,4 +1,4 @@
-// What an item does to a node.
+// Handling an item.
 
 ghost use Rattle.std.specs.Prelude.{◌≡◌, false, if◌then◌else◌, None};
 ghost use Rattle.std.specs.List.{find};
@@ -29,8 +29,8 @@ use packet::{Connect, Packet};
 use packet_base::ClientId;
 
 impl SteppingNode {
-    /// Takes an item, and reports each connection that fails in it to the broker. After it
-    /// `has_lost` says whether something was lost.
+    /// Handles an item, and reports each connection that fails meanwhile to the broker. `has_lost`
+    /// then tells whether something was lost.
     pub(crate) fn act_on(&mut self, item: Item, effects: &mut Vec<Effect<Command, Output>>)
         ensures exact { DoesOutcome self.old self.new effects.old.items effects.new.items
             (acts_on item self.old.core) }
@@ -47,7 +47,7 @@ impl SteppingNode {
         self.report_failed(effects);
     }
 
-    /// Ignores a message without effect, and reports each connection that failed to the broker.
+    /// Handles a message without effect: reports each connection that failed to the broker.
     pub(crate) fn pass_over(
         &mut self,
         message: &Message<Command>,
@@ -64,7 +64,7 @@ impl SteppingNode {
         self.report_failed(effects);
     }
 
-    // Does what the item says, and reports no connection that fails in the step.
+    // Handles an item by its kind, without reporting the connections that fail.
     fn do_item(&mut self, item: Item, effects: &mut Vec<Effect<Command, Output>>)
         ensures exact { DoesOutcome self.old self.new effects.old.items effects.new.items
             (does_item item self.old.core) }
@@ -95,7 +95,7 @@ impl SteppingNode {
         }
     }
 
-    // Proposes to end a client's session. If the proposal is refused, nothing is done.
+    // Proposes to end a client's session. Does nothing if the proposal is refused.
     fn expel(&mut self, client: ClientId, effects: &mut Vec<Effect<Command, Output>>)
         ensures exact { DoesOutcome self.old self.new effects.old.items effects.new.items
             (proposes (commands.Expel client) self.old.core) }
@@ -105,7 +105,7 @@ impl SteppingNode {
         self.propose(Command::Expel(client), effects);
     }
 
-    // Closes the silent connections as lost, in rising order of ports.
+    // Closes the silent connections as lost, by rising port.
     fn end_silent(&mut self, now: u64, effects: &mut Vec<Effect<Command, Output>>)
         ensures exact { DoesOutcome self.old self.new effects.old.items effects.new.items
             (ends_all_silent now self.old.core) }
@@ -120,7 +120,7 @@ impl SteppingNode {
         }
     }
 
-    // Holds bytes that arrived on a port. A connection without memory for them is lost.
+    // Appends bytes that arrived on a port. Closes the connection as lost if memory runs out.
     fn hold(&mut self, port: Port, piece: Piece, effects: &mut Vec<Effect<Command, Output>>)
         ensures exact { DoesOutcome self.old self.new effects.old.items effects.new.items
             (without_messages (changes port (with_unread piece) self.old.core)) }
@@ -134,7 +134,7 @@ impl SteppingNode {
         }
     }
 
-    // Takes all packets of a port, one after another, that are whole at this time.
+    // Handles all whole packets of a port, in order; `now` is the time.
     fn read(&mut self, port: Port, now: u64, effects: &mut Vec<Effect<Command, Output>>)
         ensures exact { DoesOutcome self.old self.new effects.old.items effects.new.items
             (reads_all now port self.old.core) }
@@ -149,7 +149,7 @@ impl SteppingNode {
         }
     }
 
-    // Takes the next packet of a port. Returns whether another may follow.
+    // Handles the next packet of a port. Returns true if another may follow.
     fn read_next(
         &mut self,
         port: Port,
@@ -183,7 +183,7 @@ impl SteppingNode {
         true
     }
 
-    // Takes a packet that was read: the first must be a CONNECT (MQTT-3.1.0-1).
+    // Handles a packet: the first must be a CONNECT (MQTT-3.1.0-1).
     fn on_packet(
         &mut self,
         port: Port,
@@ -212,7 +212,7 @@ impl SteppingNode {
         }
     }
 
-    // Proposes a CONNECT. A refused proposal closes the connection.
+    // Proposes a CONNECT, and closes the connection if the proposal is refused.
     fn connect(
         &mut self,
         port: Port,
@@ -231,7 +231,7 @@ impl SteppingNode {
         }
     }
 
-    // Proposes a later packet. A refused proposal closes the connection.
+    // Proposes a later packet, and closes the connection if the proposal is refused.
     fn propose_packet(
         &mut self,
         port: Port,
@@ -253,7 +253,7 @@ impl SteppingNode {
         }
     }
 
-    // Reports to the broker that a connection is lost, if its CONNECT was proposed.
+    // Proposes the loss of a connection, if its CONNECT was proposed.
     fn report_lost(
         &mut self,
         name: ConnectionName,
@@ -272,7 +272,7 @@ impl SteppingNode {
         }
     }
 
-    // Closes the connection of a port as lost.
+    // Closes the connection of a port as lost, and reports it to the broker.
     fn end(&mut self, port: Port, effects: &mut Vec<Effect<Command, Output>>)
         ensures exact { DoesOutcome self.old self.new effects.old.items effects.new.items
             (port_closed port self.old.core) }
@@ -293,8 +293,8 @@ impl SteppingNode {
         }
     }
 
-    // Reports each connection that failed to the broker. What is then sent may close others, which
-    // are reported too.
+    // Reports each failed connection to the broker. What the broker then sends may close others,
+    // which are reported too.
     fn report_failed(&mut self, effects: &mut Vec<Effect<Command, Output>>)
         ensures exact { DoesOutcome self.old self.new effects.old.items effects.new.items
             (reports_all_failed self.old.core) }
@@ -309,7 +309,7 @@ impl SteppingNode {
         }
     }
 
-    // Reports the first connection that failed to the broker. Returns whether there was one.
+    // Reports the first failed connection to the broker. Returns false if there is none.
     fn report_one_failed(&mut self, effects: &mut Vec<Effect<Command, Output>>) -> bool
         ensures exact { DoesOutcome self.old self.new effects.old.items effects.new.items
             (reports_failed self.old.core) }

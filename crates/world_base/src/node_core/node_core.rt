@@ -1,4 +1,17 @@
-// A replica with its connections.
+// A node without threads, clocks or sockets: a replica of the broker and the connections of its
+// clients.
+//
+// A step handles one item whole: every command that it proposes has its effects done before the
+// next packet is read, so the order on a connection is the order in the log. An output for a
+// connection that is not open is dropped.
+//
+// If memory runs out the step still ends in a state that a client can live with. A connection
+// either stays open with everything queued that the replica output for it, or it is closed with a
+// prefix of that: there is never a gap (`a_gap_is_closed`). Each such step raises `losses` by one;
+// a step that needs no memory never does, so it may be used where memory has run out.
+//
+// When the node no longer leads a ballot, the step closes all connections. A name is therefore used
+// only in its own ballot, and clients reconnect at the new primary.
 
 ghost use Rattle.std.specs.Prelude.{◌≡◌, ◌≤◌, ◌↔◌, ◌++◌, false, not, [], if◌then◌else◌, IfOk, IsOk, IsErrOf, OnErr, OnOk};
 ghost use Rattle.std.specs.Option.{is_some};
@@ -27,12 +40,11 @@ use machine::Memory;
 use std::alloc::Global;
 use std::marker::Model;
 
-/// A replica of the broker with its connections. It takes items, one by one, and hands over the
-/// bytes that it queues for each connection.
+/// A replica of the broker with its connections. It handles items one by one, and hands over the
+/// output of each connection.
 pub struct NodeCore {
-    // The node itself, which does the steps.
     stepping: SteppingNode,
-    // How many of its steps lost something, up to 2^64 - 1.
+    // How many of its steps lost something (saturates at 2^64 - 1).
     losses: u64,
 }
 
@@ -54,7 +66,7 @@ impl Model for NodeCore {
 }
 
 impl NodeCore {
-    /// Opens node `id` in ballot 1, whose members and primary are given.
+    /// Opens node `id` in ballot 1 of this configuration.
     pub fn new(alloc: Global, id: u8, config: &Config) -> Result<NodeCore, OpeningError>
         requires low { 1 ≤ id }
         requires high { id ≤ MAX_NODE }
@@ -69,16 +81,16 @@ impl NodeCore {
         })
     }
 
-    /// Returns what the replica shows of itself.
+    /// Returns the status of the replica.
     pub fn status(&self) -> Status
         ensures { result ≡ status_of self.now.core.replica.state }
     {
         self.stepping.status()
     }
 
-    /// Returns the commands of the replica's log from its base on: those that are agreed, followed
-    /// by those that may still become so. [`NodeCore::snapshot`] returns the base; what is applied
-    /// lies within the log.
+    /// Returns the commands of the replica's log from its base on, which [`NodeCore::snapshot`]
+    /// returns: those that are agreed, then those that may still become so. Everything applied is
+    /// within the log.
     pub fn rest(&self) -> &[Command]
         ensures rest { result.now ≡ self.now.core.replica.state.log.rest }
         ensures within { self.now.core.replica.state.committed
@@ -87,8 +99,7 @@ impl NodeCore {
         self.stepping.rest()
     }
 
-    /// Returns the base of the replica's log, and the frozen machine at it: no bytes if the base is
-    /// 0.
+    /// Returns the base of the replica's log and the snapshot at it, which is empty at base 0.
     pub fn snapshot(&self) -> (u64, &[u8])
         ensures base { result.0 ≡ self.now.core.replica.state.log.base }
         ensures bytes { result.1.now ≡ self.now.core.replica.state.log.snapshot }
@@ -98,8 +109,8 @@ impl NodeCore {
         self.stepping.snapshot()
     }
 
-    /// Returns true if a proposal would be taken, such as that of an [`Item::Expel`]: the replica
-    /// is the running primary of an active ballot, and its log has room.
+    /// Returns true if a proposal, such as that of an [`Item::Expel`], would be taken: the replica
+    /// runs, is the active primary, and its log has room.
     pub fn has_room(&self) -> bool
         ensures { result ≡ has_room self.now.core }
     {
@@ -107,23 +118,22 @@ impl NodeCore {
     }
 
     /// Returns true if an [`Item::Cut`] has something to cut: the replica runs, and has applied
-    /// commands since it last cut its log.
+    /// commands since its last cut.
     pub fn can_cut(&self) -> bool
         ensures { result ≡ can_cut self.now.core.replica.state }
     {
         self.stepping.can_cut()
     }
 
-    /// Returns how many steps lost something, for want of memory or since a snapshot was not read
-    /// (saturates at 2^64 - 1).
+    /// Returns how many steps lost something, because memory ran out or a snapshot could not be
+    /// read (saturates at 2^64 - 1).
     pub fn losses(&self) -> u64
         ensures { result ≡ self.now.losses }
     {
         self.losses
     }
 
-    /// Returns true if the node has a connection at a port: one that is open, or that is closed and
-    /// has bytes to hand over.
+    /// Returns true if a connection of this port is open, or closed with pending output.
     pub fn has_port(&self, port: Port) -> bool
         ensures { result ≡ is_some (listed_at port self.now.core) }
     {
@@ -137,24 +147,21 @@ impl NodeCore {
         self.stepping.standing(port)
     }
 
-    /// Returns true if the numbers of the ballot are used up, so that no further connection is
-    /// accepted in it.
+    /// Returns true if all connection names of the ballot are used, so that it accepts no more.
     pub fn has_no_name_left(&self) -> bool
         ensures { result ≡ not (is_connection_name (next_name self.now.core)) }
     {
         self.stepping.has_no_name_left()
     }
 
-    /// Returns true if a message of another node has an effect on the node; one without effect is
-    /// ignored.
+    /// Returns true if a message of another node would have an effect; without one it is ignored.
     pub fn heeds(&self, message: &Message<Command>) -> bool
         ensures { (result ≡ false) ↔ DoesNothing (Item.Peer message.now) self.now.core }
     {
         self.stepping.heeds(message)
     }
 
-    /// Ignores a message that has no effect on the node: like [`NodeCore::step`] with it, but the
-    /// caller needs no copy of it.
+    /// Handles a message without effect: as [`NodeCore::step`] with it, but without a copy.
     pub fn pass_over(
         &mut self,
         message: &Message<Command>,
@@ -170,10 +177,9 @@ impl NodeCore {
         self.stepping.settle();
     }
 
-    /// Takes an item and appends the messages to other nodes that follow from it. If memory runs
+    /// Handles an item and appends the messages to other nodes that follow from it. If memory runs
     /// out, a connection is closed or not accepted, a message, a cut or an Expel is lost, or the
-    /// replica stops; the step is counted. Each connection that stays open has everything that was
-    /// queued for it.
+    /// replica stops; the step is counted. On a connection that stays open everything was queued.
     pub fn step(&mut self, item: Item, effects: &mut Vec<Effect<Command, Output>>)
         ensures { ItemStepOrLost self.old item self.new effects.old.items effects.new.items }
     {
@@ -183,10 +189,10 @@ impl NodeCore {
         self.stepping.settle();
     }
 
-    /// Appends what was queued for a port and not yet handed over, and says whether more may come:
-    /// [`Handed::Closed`] once the node has closed the connection and nothing is left, and for a
-    /// port that was never opened. If memory runs out, nothing changes; it does not run out if
-    /// nothing was queued.
+    /// Moves the pending output of a port to the end of `out`. Returns [`Handed::Closed`] once the
+    /// node has closed the connection and nothing is left, and for a port that was never opened;
+    /// otherwise more may come. If memory runs out, nothing changes; without pending output it
+    /// never does.
     pub fn outgoing(&mut self, port: Port, out: &mut Vec<u8>) -> Result<Handed, Memory>
         ensures bytes { OnOk result
             (out.new.items ≡ out.old.items ++ pending_bytes (listed_at port self.old.core)) }
@@ -203,9 +209,9 @@ impl NodeCore {
         self.stepping.outgoing(port, out)
     }
 
-    /// Appends the ports of the connections that are open and have nothing to hand over: for each
-    /// other port [`NodeCore::outgoing`] hands over bytes, or answers [`Handed::Closed`]. If memory
-    /// runs out some of them may have been appended.
+    /// Appends the ports of the open connections without pending output. For each other port
+    /// [`NodeCore::outgoing`] hands over bytes or returns [`Handed::Closed`]. If memory runs out,
+    /// some of them may have been appended.
     pub fn idle_ports(&self, ports: &mut Vec<Port>) -> Result<(), Memory>
         ensures ok { OnOk result
             (ports.new.items ≡ ports.old.items ++ idle_ports self.now.core) }
@@ -215,7 +221,6 @@ impl NodeCore {
     }
 }
 
-// Returns the count of steps in which something was lost, after one more step.
 fn losses_after(losses: u64, has_lost: bool) -> u64
     ensures { result ≡ (if has_lost then one_more losses else losses) }
 {

@@ -1,4 +1,4 @@
-// The bytes that a node queued for its connections.
+// Pending output of a node's connections.
 
 ghost use Rattle.std.specs.Prelude.{◌≡◌, ◌++◌, [], IfOk, IsOk, OnErr, OnOk};
 ghost use Rattle.std.specs.List.{position};
@@ -13,8 +13,8 @@ use crate::node_core::stepping_node::SteppingNode;
 use machine::Memory;
 
 impl SteppingNode {
-    /// Appends what was queued for a port and not yet handed over. If memory runs out, nothing
-    /// changes; it does not run out if nothing was queued.
+    /// Moves the pending output of a port to the end of `out`. If memory runs out, nothing changes;
+    /// without pending output it never does.
     pub(crate) fn outgoing(&mut self, port: Port, out: &mut Vec<u8>) -> Result<Handed, Memory>
         ensures left { OnOk result
             (self.new ≡ record self.old { core = hands_over port self.old.core }) }
@@ -36,8 +36,8 @@ impl SteppingNode {
         Ok(handed)
     }
 
-    /// Appends the ports of the connections that are open and have nothing to hand over. If memory
-    /// runs out some of them may have been appended.
+    /// Appends the ports of the open connections without pending output. If memory runs out, some
+    /// of them may have been appended.
     pub(crate) fn idle_ports(&self, ports: &mut Vec<Port>) -> Result<(), Memory>
         ensures ok { OnOk result
             (ports.new.items ≡ ports.old.items ++ idle_ports self.now.core) }
@@ -57,7 +57,6 @@ impl SteppingNode {
         connection.standing()
     }
 
-    // Returns the index of the listed connection of a port.
     fn index_listed(&self, port: Port) -> Option<usize>
         ensures { result ≡ position (is_at port) self.now.core.connections }
     {

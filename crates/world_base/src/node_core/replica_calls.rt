@@ -1,4 +1,4 @@
-// What is given to the replica, and its effects, which are done at once.
+// Calls of the replica. Its effects are handled at once.
 
 ghost use Rattle.std.specs.Prelude.{◌≡◌, ◌<◌, false, true, [], ◌∷◌};
 ghost use Rattle.ballot_base.specs.Losses.{greatest_count};
@@ -17,7 +17,7 @@ use ballot_base::{Effect, Message};
 use broker_spec::{Command, Output};
 
 impl SteppingNode {
-    /// Proposes a command and does its effects at once. Returns whether it was taken.
+    /// Proposes a command and handles the effects at once. Returns true if it was taken.
     pub(crate) fn propose(
         &mut self,
         command: Command,
@@ -38,7 +38,7 @@ impl SteppingNode {
         taken
     }
 
-    // Proposes a command to the replica only. Returns whether it was taken.
+    // Proposes a command, without handling effects. Returns true if it was taken.
     fn propose_to_replica(
         &mut self,
         command: Command,
@@ -57,7 +57,7 @@ impl SteppingNode {
         put.is_ok()
     }
 
-    /// Takes a message of another node and does its effects at once.
+    /// Passes a message of another node to the replica, and handles the effects at once.
     pub(crate) fn receive(
         &mut self,
         message: Message<Command>,
@@ -75,7 +75,7 @@ impl SteppingNode {
         self.handle_all(given, effects);
     }
 
-    // Gives a message to the replica only.
+    // Passes a message to the replica, without handling effects.
     fn give_message(&mut self, message: Message<Command>, given: &mut Vec<Effect<Command, Output>>)
         requires { given.old.items ≡ [] }
         ensures hears { StepsReplica self.old self.new
@@ -87,12 +87,12 @@ impl SteppingNode {
             WithoutFailure self.old self.new × (given.new.items ≡ []) }
     {
         let before = self.replica.losses();
-        // A replica that stops counts a loss, and one that has stopped does nothing.
+        // A replica that stops counts a loss; one that had stopped does nothing.
         let _ = self.replica.on(message, given);
         self.note_losses(before);
     }
 
-    /// Lets the replica repeat what others may have missed.
+    /// Ticks the replica, and handles the effects at once.
     pub(crate) fn tick(&mut self, effects: &mut Vec<Effect<Command, Output>>)
         ensures exact { DoesOutcome self.old self.new effects.old.items effects.new.items
             (drives Ticks self.old.core) }
@@ -104,7 +104,7 @@ impl SteppingNode {
         self.handle_all(given, effects);
     }
 
-    // Gives a tick to the replica only.
+    // Ticks the replica, without handling effects.
     fn tick_replica(&mut self, given: &mut Vec<Effect<Command, Output>>)
         requires { given.old.items ≡ [] }
         ensures hears { StepsReplica self.old self.new
@@ -127,8 +127,7 @@ impl SteppingNode {
         self.note_losses(before);
     }
 
-    // Notes whether something was lost in a call of the replica, by its count of losses, which was
-    // `before` until then.
+    // Sets `has_lost` if the replica's count of losses has risen above `before`.
     fn note_losses(&mut self, before: u64)
         ensures kept { self.new.core ≡ self.old.core }
         ensures none { self.new.has_lost ≡ false →
@@ -143,7 +142,7 @@ impl SteppingNode {
         }
     }
 
-    // Does the effects of the replica, in order.
+    // Handles the replica's effects, in order.
     fn handle_all(
         &mut self,
         given: Vec<Effect<Command, Output>>,
@@ -160,7 +159,7 @@ impl SteppingNode {
         }
     }
 
-    // Does one effect: a message is sent, an output is done on its connection.
+    // Handles one effect: keeps a message to be sent, or performs an output on its connection.
     fn handle(
         &mut self,
         effect: Effect<Command, Output>,
@@ -181,7 +180,6 @@ impl SteppingNode {
         }
     }
 
-    // Performs an output on its connection.
     fn perform(&mut self, output: &Output)
         ensures exact { DoesExactly self.old self.new (performed_by output.now self.old.core) }
         ensures lossy { Performs output.now self.old.core self.new.core }

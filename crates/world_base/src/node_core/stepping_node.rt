@@ -1,4 +1,12 @@
-// A node during a step.
+// The node during a step: `NodeCore` without its count of losses.
+//
+// `has_lost` is set by the part of a step that lost something and read by `NodeCore` at its end, so
+// a step with several losses counts once. While it is unset, each call is exactly its definition in
+// `specs/node_core`; in any case it has done no more than the `Lossy*` definitions allow.
+//
+// Invariant: `last_count <= MAX_COUNT`. Names are given in rising order of ballot and count, so
+// none is given twice. A connection that fails is only marked (`Failed`) while effects are handled,
+// and its loss is proposed after them: so handling an output never leads to a proposal within it.
 
 ghost use Rattle.std.specs.Prelude.{◌≡◌, ◌⊎◌, ◌≤◌, ◌↔◌, false, true, not, [], length, IfOk, IfSome, OnSome, IfNone, IsErrOf};
 ghost use Rattle.std.specs.List.{position};
@@ -33,9 +41,9 @@ use packet_base::RefusalCode;
 use std::alloc::Global;
 use std::marker::Model;
 
-/// A replica of the broker with its connections, and whether the current step has lost something.
+/// A replica of the broker with its connections, during a step.
 pub(crate) struct SteppingNode {
-    /// The allocator of connections, and of what a step gives.
+    /// The allocator of connections and of a step's effects.
     pub(crate) alloc: Global,
     /// The replica. It counts its own losses.
     pub(crate) replica: Replica<BrokerMachine>,
@@ -43,7 +51,7 @@ pub(crate) struct SteppingNode {
     pub(crate) last_ballot: u64,
     /// Its number in that ballot, at most `MAX_COUNT`; 0 before the first.
     pub(crate) last_count: u64,
-    /// In the order in which they were opened.
+    /// The connections, in the order in which they were opened.
     pub(crate) connections: Vec<Connection>,
     /// Whether the current step has lost something.
     pub(crate) has_lost: bool,
@@ -83,7 +91,7 @@ impl Model for SteppingNode {
 }
 
 impl SteppingNode {
-    /// Opens node `id` in ballot 1, with no connection.
+    /// Opens node `id` in ballot 1, without connections.
     pub(crate) fn new(alloc: Global, id: u8, config: &Config) -> Result<SteppingNode, OpeningError>
         requires low { 1 ≤ id }
         requires high { id ≤ MAX_NODE }
@@ -103,7 +111,7 @@ impl SteppingNode {
         })
     }
 
-    /// Begins a step: nothing is lost yet.
+    /// Begins a step: clears `has_lost`.
     pub(crate) fn begin_step(&mut self)
         ensures { self.new ≡ record self.old { has_lost = false } }
     {
@@ -133,7 +141,7 @@ impl SteppingNode {
         self.replica.rest()
     }
 
-    /// Returns the base of the replica's log, and the frozen machine at it.
+    /// Returns the base of the replica's log, and the snapshot at it.
     pub(crate) fn snapshot(&self) -> (u64, &[u8])
         ensures base { result.0 ≡ self.now.core.replica.state.log.base }
         ensures bytes { result.1.now ≡ self.now.core.replica.state.log.snapshot }
@@ -143,7 +151,7 @@ impl SteppingNode {
         self.replica.snapshot()
     }
 
-    /// Returns true if the replica has something to cut.
+    /// Returns true if the replica has applied places to cut.
     pub(crate) fn can_cut(&self) -> bool
         ensures { result ≡ can_cut self.now.core.replica.state }
     {
@@ -157,7 +165,7 @@ impl SteppingNode {
         has_port(&self.connections, port)
     }
 
-    /// Returns true if the node serves clients.
+    /// Returns true if the node serves clients: its replica is the active primary and runs.
     pub(crate) fn serves(&self) -> bool
         ensures { result ≡ serves self.now.core }
     {
@@ -196,15 +204,15 @@ impl SteppingNode {
         self.connections.len()
     }
 
-    /// Returns the lowest port of the connections that are silent at this time.
+    /// Returns the lowest port of the silent connections.
     pub(crate) fn lowest_silent(&self, now: u64) -> Option<Port>
         ensures { result ≡ lowest_silent now self.now.core.connections }
     {
         lowest_silent(&self.connections, now)
     }
 
-    /// Returns the index of the first connection that was closed as lost and is still to be
-    /// reported to the broker.
+    /// Returns the index of the first connection that was closed as lost and is not yet reported to
+    /// the broker.
     pub(crate) fn index_failed(&self) -> Option<usize>
         ensures { result ≡ position has_failed self.now.core.connections }
     {
@@ -223,7 +231,7 @@ impl SteppingNode {
         }
     }
 
-    /// Notes that the CONNECT of the open connection of a port, with this keep alive, is proposed.
+    /// Records that the CONNECT of a port's open connection, with this keep alive, is proposed.
     pub(crate) fn note_proposed_at(&mut self, port: Port, keep_alive: u16)
         ensures { self.new
             ≡ record self.old { core = changes port (noted_proposed keep_alive) self.old.core } }
@@ -233,8 +241,8 @@ impl SteppingNode {
         }
     }
 
-    /// Closes the open connection of a port, whose proposal was refused. If the step has lost
-    /// something, the connection fails: that it ended is still to be reported to the broker.
+    /// Closes the open connection of a port whose proposal was refused. If the step has lost
+    /// something, it is closed as lost, so that its end is still reported to the broker.
     pub(crate) fn give_up(&mut self, port: Port)
         ensures exact { DoesExactly self.old self.new
             (changes port closed_connection self.old.core) }
@@ -249,7 +257,7 @@ impl SteppingNode {
         }
     }
 
-    /// Returns how many bytes of the open connection of a port are not yet read.
+    /// Returns the number of unread bytes of a port's open connection.
     pub(crate) fn unread_len(&self, port: Port) -> usize
         ensures { result ≡ unread_of (open_at port self.now.core) }
     {
@@ -259,8 +267,7 @@ impl SteppingNode {
         }
     }
 
-    /// Appends bytes that arrived to those of the open connection of a port. Returns whether there
-    /// was memory.
+    /// Appends bytes that arrived on a port's open connection. Returns false if memory runs out.
     pub(crate) fn hold_at(&mut self, port: Port, piece: &Piece) -> bool
         ensures ok { result ≡ true →
             self.new ≡ record self.old {
@@ -285,8 +292,8 @@ impl SteppingNode {
         }
     }
 
-    /// Queues a packet on the open connection of a name, which is closed as lost if there is no
-    /// room or no memory for it.
+    /// Queues a packet on the open connection of a name; closes it as lost if there is no room or
+    /// no memory.
     pub(crate) fn put(&mut self, name: ConnectionName, packet: &Packet)
         ensures exact { DoesExactly self.old self.new
             (changes_named name (with_queued (spelling packet.now)) self.old.core) }
@@ -302,7 +309,7 @@ impl SteppingNode {
         }
     }
 
-    // Returns how many connections were accepted in the ballot that the replica joined.
+    // Returns how many connections were accepted in the joined ballot.
     fn accepted(&self) -> u64
         ensures count { result ≡ accepted self.now.core }
         ensures most { result ≤ max_count }
@@ -314,7 +321,7 @@ impl SteppingNode {
         }
     }
 
-    // Returns the name of the next connection, or none if the numbers of this ballot are used up.
+    // Returns the name of the next connection; `None` if all of the ballot are used.
     fn next_name(&self) -> Option<ConnectionName>
         ensures named { IfSome result (λ name. name ≡ next_name self.now.core) }
         ensures some { OnSome result (is_connection_name (next_name self.now.core) ≡ true) }
@@ -323,14 +330,14 @@ impl SteppingNode {
         ConnectionName::new(self.replica.status().ballot, self.accepted() + 1)
     }
 
-    /// Returns true if the numbers of this ballot are used up, so that no connection gets a name.
+    /// Returns true if all connection names of the ballot are used.
     pub(crate) fn has_no_name_left(&self) -> bool
         ensures { result ≡ not (is_connection_name (next_name self.now.core)) }
     {
         self.next_name().is_none()
     }
 
-    /// Returns the name that a new connection of a port gets, or none if it is not accepted.
+    /// Returns the name for a new connection of a port; `None` if it is not accepted.
     pub(crate) fn name_for(&self, port: Port) -> Option<ConnectionName>
         ensures named { IfSome result (λ name. name ≡ next_name self.now.core) }
         ensures some { OnSome result (accepts_connection port self.now.core ≡ true) }
@@ -346,7 +353,7 @@ impl SteppingNode {
     }
 
     /// Accepts a connection at this port, with the next name, if the node serves clients and the
-    /// port is free. Nothing changes otherwise, nor if memory runs out.
+    /// port is free. Otherwise, and if memory runs out, nothing changes.
     pub(crate) fn open(&mut self, port: Port)
         ensures exact { DoesExactly self.old self.new (with_next_connection port self.old.core) }
         ensures lossy { (self.new.core ≡ with_next_connection port self.old.core)
@@ -364,8 +371,8 @@ impl SteppingNode {
         self.last_count = name.count();
     }
 
-    /// Closes all connections if the node no longer serves clients, and removes closed ones with
-    /// nothing to hand over from the list.
+    /// Closes all connections if the node no longer serves clients, and removes closed ones without
+    /// pending output.
     pub(crate) fn settle(&mut self)
         ensures { self.new ≡ record self.old { core = settled self.old.core } }
     {

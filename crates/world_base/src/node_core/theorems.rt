@@ -1,4 +1,4 @@
-// Laws of a step in which memory may run out. The calls do nothing; their contracts are the laws.
+// Theorems about steps in which memory may run out: the contracts of functions with an empty body.
 
 ghost use Rattle.world_base.specs.node_core.ConnectionSteps.{AGapIsClosed};
 ghost use Rattle.world_base.specs.node_core.LossyProposals.{ProposalsAreSteps};

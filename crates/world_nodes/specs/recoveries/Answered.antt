@@ -1,4 +1,4 @@
--- A client that comes back at the new primary: its CONNECT, and the answer to it.
+-- A client that reconnects to the new primary: its CONNECT and the answer.
 use Rattle.std.specs.Prelude.{◌≡◌, ◌<◌, ℕ, ◌+◌, ◌*◌, true, false, List, [], ◌∷◌, ◌++◌, length, slice_get, Some, Ok}
 use Rattle.lists.specs.Lists.{In}
 use Rattle.ballot_base.specs.declared.message.Body.TheVariants.{Held}

@@ -50,7 +50,7 @@ AreCalm ballot state =
     (at : ℕ) (node : CountedCore) → slice_get state.nodes at ≡ Some node →
     ReportsItsLosses node.core ⊎ (node.core.replica.state.joined < ballot)
 
--- no node has given a name in between
+-- no node has accepted a connection in between
 abbrev pub KeepNames : NodesState → NodesState → Type 0
 KeepNames old new =
     (at : ℕ) (node later : CountedCore) → slice_get old.nodes at ≡ Some node →

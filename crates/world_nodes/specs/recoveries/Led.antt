@@ -1,4 +1,4 @@
--- Nodes that are led out: an Assign, and the messages of a way out, by their numbers.
+-- The recovery of nodes: an Assign, and the messages that follow, by their numbers.
 use Rattle.std.specs.Prelude.{ℕ, ◌+◌, ◌-◌, List, ◌∷◌, length}
 use Rattle.ballot_base.specs.declared.config.Config.{Config}
 use Rattle.broker_spec.specs.declared.command.Command.{Command}
@@ -13,8 +13,8 @@ use Rattle.recovery.specs.replicas.Theorems.{CanBeLed}
 use Rattle.recovery.specs.replicas.CutTheorems.{LeadsOut}
 use Rattle.world_nodes.specs.recoveries.Deliveries.{AreCalm, Come, IsSeen, KeepNames}
 
--- the moment to which the way out leads is seen then, each node is calm or has not joined the new
--- ballot, and none has given a name
+-- the nodes are those of the moment that the recovery leads to; each is calm or has not joined the
+-- new ballot, and none has accepted a connection
 pub record AreLedOut (config : Config) (moments : List (Moment State Command Output))
     (moment : Moment State Command Output) (new : Config) (index : ℕ)
     (log : List Command) (state end : NodesState) : Type 0 where

@@ -1,4 +1,4 @@
--- A client that comes back: its connection opens at the new primary, and awaits its CONNECT there.
+-- A client that reconnects: its connection opens at the new primary and awaits its CONNECT.
 use Rattle.std.specs.Prelude.{◌≡◌, ◌<◌, ◌≤◌, ℕ, ◌+◌, true, false, List, [], None, Some, slice_get}
 use Rattle.std.specs.List.{find, list_any}
 use Rattle.broker_spec.specs.declared.command.Command.{Command}
@@ -28,8 +28,8 @@ use Rattle.world_nodes.specs.recoveries.Deliveries.{AreCalm, Come, IsSeen}
 abbrev pub first_of : ℕ → ConnectionName
 first_of ballot = record { ballot = ballot; count = 1 }
 
--- the node at an index leads a ballot in which it gave no name yet, and lists no connection at this
--- port
+-- the node at an index leads a ballot in which it accepted no connection yet, and lists no
+-- connection at this port
 pub record CanOpen (moment : Moment State Command Output) (state : NodesState) (ballot index : ℕ)
     (node : CountedCore) (others_of : List ℕ) (log : List Command)
     (port : Port) : Type 0 where

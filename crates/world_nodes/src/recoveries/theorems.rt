@@ -1,4 +1,4 @@
-// Laws of nodes on a way out. The calls do nothing; their contracts are the laws.
+// Theorems about nodes in a recovery: the contracts of functions with an empty body.
 
 ghost use Rattle.world_nodes.specs.recoveries.Answered.{
   OthersLetTheClientBeAnswered,
@@ -8,18 +8,18 @@ ghost use Rattle.world_nodes.specs.recoveries.Deliveries.{DeliveriesAreFollowed}
 ghost use Rattle.world_nodes.specs.recoveries.Led.{NodesAreLedOut};
 ghost use Rattle.world_nodes.specs.recoveries.Opened.{ConnectionsOpenFirst, WelcomedAreKept};
 
-/// States that nodes that the messages of a way out reach, by their numbers, each without losses,
-/// change as these deliveries change their replicas, whatever connections the nodes keep and
-/// whatever they hand over in between. No node gives a name.
+/// States that nodes change as the deliveries of a recovery change their replicas, if its messages
+/// reach them, by their numbers and without losses. Connections do not matter, nor what is handed
+/// over meanwhile, and no node accepts a connection.
 pub fn deliveries_are_followed()
     ensures { DeliveriesAreFollowed }
 {}
 
-/// States that an Assign of a configuration whose nodes run, and the messages of a way out, by
+/// States that an Assign of a configuration whose nodes run, and the messages of a recovery, by
 /// their numbers, lead nodes to the next ballot, whatever happened before and whichever logs they
-/// cut. The ballot is active, all its members hold the log of the member that was asked with the
-/// ballot's start after it, and that is the agreed list, of which what was agreed before is a
-/// prefix.
+/// cut. The ballot is active, and all its members hold the log of the member that was asked,
+/// followed by the ballot's start. That is the agreed list, and what was agreed before is a prefix
+/// of it.
 pub fn nodes_are_led_out()
     ensures { NodesAreLedOut }
 {}
@@ -38,7 +38,7 @@ pub fn others_let_the_client_be_answered()
 {}
 
 /// States that a connection which opens at the new primary, at a port that is new to it, awaits its
-/// CONNECT there under the first name of the ballot, whatever bytes are handed over then. The
+/// CONNECT there under the first name of the ballot, whatever bytes are handed over meanwhile. The
 /// primary still leads the ballot with the same log.
 pub fn connections_open_first()
     ensures { ConnectionsOpenFirst }

@@ -1,4 +1,4 @@
--- What a node queued for a connection goes down on it.
+-- A node's pending output goes into the pipe of its connection.
 use Rattle.std.specs.Prelude.{◌≡◌, ◌⊎◌, ℕ, ◌-◌, Bool, true, false, List, [], ◌++◌, Option, Some, None, set, slice_get, Result, Ok, Err}
 use Rattle.headline.specs.node_moves.Moves.NodeCall.{hands_out}
 use Rattle.world_base.specs.node_core.Core.{CountedCore}
@@ -17,7 +17,7 @@ use Rattle.world_pipes.specs.Piped.{Piped}
 use Rattle.master.specs.declared.event.Idle.{Idle}
 use Rattle.world_pipes.specs.clients.NodesGoOn.{NodesStay}
 
--- the bytes that the node queued for the port and has not yet handed over
+-- the pending output of the node's port
 abbrev pub bytes_put_out : Port → Option CountedCore → List ℕ
 bytes_put_out port None = []
 bytes_put_out port (Some node) = pending_bytes (listed_at port node.core)
@@ -38,7 +38,7 @@ HandsOverBytes None node port old new = new ≡ old
 HandsOverBytes (Some core) node port old new =
     new ≡ after_node_call (node - 1) core (hands_out port) old
 
--- a node has nothing to hand over
+-- a node has no pending output
 abbrev pub HasNothingToHandOver : ℕ → NodesState → Type 0
 HasNothingToHandOver node state =
     (core : CountedCore) → numbered_node state.nodes node ≡ Some core → WaitsNothing core.core
@@ -84,7 +84,7 @@ MayPutDown at node port old client new later =
     (bytes : List ℕ) × MayHandDown node port old pair.down new bytes
     × (later ≡ with_down at pair bytes client)
 
--- a node that has nothing to hand over then has nothing, and counts no loss
+-- a node that has no pending output then has nothing, and counts no loss
 abbrev pub StaysQuiet : ℕ → NodesState → NodesState → Type 0
 StaysQuiet node old new =
     HasNothingToHandOver node old → HasNothingToHandOver node new × (new.losses ≡ old.losses)

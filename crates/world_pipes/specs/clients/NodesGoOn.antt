@@ -1,4 +1,4 @@
--- What nodes do may happen in a group.
+-- What nodes do is a run of a group's steps.
 use Rattle.std.specs.Prelude.{◌≤◌}
 use Rattle.headline.specs.node_group.Group.{Group}
 use Rattle.headline.specs.node_group.Steps.{GroupStep}

@@ -1,4 +1,4 @@
--- What holds for every `World`, by its fields.
+-- The invariant of a `World`.
 use Rattle.std.specs.Prelude.{◌≡◌, ◌≤◌, ℕ, suc, List, [], ◌∷◌, Some, if◌then◌else◌, length, map, slice_get}
 use Rattle.world_base.specs.declared.node_core.Port.{Port}
 use Rattle.world_pipes.specs.declared.pair.PipePair.{PipePair}

@@ -1,15 +1,15 @@
--- The events of a way out at a client, and those by which its CONNECT is answered.
+-- The events of a client's recovery, and those that answer its CONNECT.
 use Rattle.std.specs.Prelude.{ℕ, Bool, true, false, List, [], ◌∷◌, ◌++◌, map}
 use Rattle.recovery.specs.replicas.Deliveries.{asked_and_answered}
 use Rattle.world_pipes.specs.declared.events.event.Event.{Event}
 use Rattle.world_pipes.specs.declared.events.event.Event.TheVariants as events
 use Rattle.world_pipes.specs.declared.events.schedule.TheConstants.{CONNACK_BYTES, CONNECT_BYTES}
 
--- how many bytes a client's CONNECT has besides its identifier
+-- the length of a CONNECT without its identifier, in bytes
 abbrev pub connect_bytes : ℕ
 connect_bytes = CONNECT_BYTES
 
--- how many bytes a CONNACK has
+-- the length of a CONNACK, in bytes
 abbrev pub connack_bytes : ℕ
 connack_bytes = CONNACK_BYTES
 

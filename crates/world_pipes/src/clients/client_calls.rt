@@ -1,4 +1,4 @@
-// What a client does by itself.
+// Calls of a world's client.
 
 ghost use Rattle.std.specs.Prelude.{◌≡◌, [], ◌∷◌};
 ghost use Rattle.client_base.specs.Steps.{Call, keeper_step};
@@ -13,7 +13,7 @@ use packet_base::QoS;
 use session_base::Publication;
 use topics::Filter;
 
-/// Lets a client lose its connection.
+/// Drops the client's connection, which is lost.
 pub fn lose_connection(piped: &mut PipedClient)
     ensures lost { LosesConnection piped.old piped.new }
     ensures goes { FollowsAll piped.old piped.new }
@@ -23,7 +23,7 @@ pub fn lose_connection(piped: &mut PipedClient)
     piped.abandon();
 }
 
-/// Lets a client disconnect.
+/// Disconnects the client.
 pub fn leave(piped: &mut PipedClient) -> Result<Sending, ClientError>
     ensures leaves { TakesLeave (keeper_step Call.Disconnects piped.old.core.state)
         piped.old result piped.new }
@@ -34,7 +34,7 @@ pub fn leave(piped: &mut PipedClient) -> Result<Sending, ClientError>
     piped.disconnect()
 }
 
-/// Lets a client publish a copy.
+/// Publishes a copy of the publication.
 pub fn publish_copy(
     piped: &mut PipedClient,
     publication: &Publication,
@@ -49,7 +49,7 @@ pub fn publish_copy(
     piped.publish(copied.topic, copied.qos, retain, copied.payload)
 }
 
-/// Lets a client subscribe to a copy of a filter.
+/// Subscribes to a copy of the filter.
 pub fn subscribe_copy(
     piped: &mut PipedClient,
     filter: &Filter,
@@ -64,7 +64,7 @@ pub fn subscribe_copy(
     piped.subscribe(copied, qos)
 }
 
-/// Lets a client unsubscribe from a copy of a filter.
+/// Unsubscribes from a copy of the filter.
 pub fn unsubscribe_copy(piped: &mut PipedClient, filter: &Filter) -> Result<Sending, ClientError>
     ensures calls { IsCall (Call.Unsubscribes filter.now) piped.old result piped.new }
     ensures goes { CallingFollows [] piped.old result piped.new }

@@ -1,6 +1,6 @@
-// The state of a connection of a world.
+// A connection of a world, by its client and its node.
 
-/// The state of a connection of a world: at its client, and at its node.
+/// Where a connection of a world is found, and whether its node still has it open.
 #[derive(Clone, Copy, Debug, PartialEq, Eq)]
 pub struct ConnectionSlot {
     /// The index of its client.
@@ -9,6 +9,6 @@ pub struct ConnectionSlot {
     pub at: usize,
     /// The number of its node.
     pub node: u8,
-    /// Whether its end at the node is open.
+    /// True while its end at the node is open.
     pub is_open: bool,
 }

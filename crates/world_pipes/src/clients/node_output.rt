@@ -1,4 +1,4 @@
-// What a node queued for a connection goes into its pipe.
+// A node's pending output goes into the pipe of its connection.
 
 ghost use Rattle.std.specs.Prelude.{◌≡◌, ◌<◌, length};
 ghost use Rattle.world_pipes.specs.clients.NodesGoOn.{NodesGoOn};
@@ -11,8 +11,8 @@ use std::alloc::Global;
 use world_base::node_connections::{Handed, Port};
 use world_nodes::Nodes;
 
-/// Puts into the pipe of a connection what a node queued for its port. Returns whether its end is
-/// open.
+/// Moves the pending output of a node's port into the pipe of its connection. Returns true if the
+/// node's end is open.
 pub fn hand_down(
     alloc: Global,
     nodes: &mut Nodes,
@@ -36,7 +36,7 @@ pub fn hand_down(
     is_open
 }
 
-// Hands over what a node queued for a port. Returns whether its end is open.
+// Moves the pending output of a node's port to `bytes`. Returns true if the node's end is open.
 fn hand_over(nodes: &mut Nodes, node: u8, port: Port, bytes: &mut Vec<u8>) -> bool
     ensures nodes { NodesGoOn nodes.old nodes.new }
     ensures quiet { StaysQuiet node nodes.old nodes.new }
@@ -47,7 +47,7 @@ fn hand_over(nodes: &mut Nodes, node: u8, port: Port, bytes: &mut Vec<u8>) -> bo
     tells_open(nodes.hand_over(node, port, bytes))
 }
 
-// Returns true if a node's answer means that an end is open.
+// Returns true if the answer of a node means that its end is open.
 fn tells_open(answer: Result<Handed, Idle>) -> bool
     ensures { result ≡ tells_open answer }
 {

@@ -1,4 +1,4 @@
-// A new connection of a client to a node, or none.
+// Opening a connection of a client to a node.
 
 ghost use Rattle.std.specs.Prelude.{◌≡◌, ◌<◌, if◌then◌else◌, false};
 ghost use Rattle.world_pipes.specs.Piped.{is_holding, taken_back};
@@ -10,8 +10,8 @@ use crate::PipedClient;
 use world_base::node_connections::Port;
 use world_nodes::Nodes;
 
-/// Lets a client that holds no connection open one to a node, to which it is reported. Returns
-/// whether the client then has one.
+/// Opens a connection to a node, for a client that holds none, and reports it to the node. Returns
+/// true if the client then has one.
 pub fn open_pipe(nodes: &mut Nodes, piped: &mut PipedClient, node: u8, port: Port) -> bool
     requires node { 0 < node }
     requires free { is_holding piped.old ≡ false }
@@ -26,8 +26,8 @@ pub fn open_pipe(nodes: &mut Nodes, piped: &mut PipedClient, node: u8, port: Por
     }
 }
 
-// Reports a client's new connection to a node, and removes it again if the node does not take it.
-// Returns whether the node takes it.
+// Reports a client's new connection to a node, and removes it again if the node does not accept it.
+// Returns true if it does.
 fn keep_if_taken(nodes: &mut Nodes, piped: &mut PipedClient, node: u8, port: Port) -> bool
     ensures nodes { NodesGoOn nodes.old nodes.new }
     ensures takes { HearsOfOne result node port nodes.old nodes.new }
@@ -40,7 +40,7 @@ fn keep_if_taken(nodes: &mut Nodes, piped: &mut PipedClient, node: u8, port: Por
     taken
 }
 
-// Reports a new connection to a node, and says whether the node takes it.
+// Reports a new connection to a node. Returns true if the node accepts it.
 fn report_opened(nodes: &mut Nodes, node: u8, port: Port) -> bool
     ensures nodes { NodesGoOn nodes.old nodes.new }
     ensures takes { HearsOfOne result node port nodes.old nodes.new }

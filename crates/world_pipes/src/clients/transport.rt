@@ -1,4 +1,4 @@
-// Bytes reach a node, or a client.
+// Carrying bytes to a node or a client.
 
 ghost use Rattle.std.specs.Prelude.{◌≡◌, ◌⊎◌, ◌≤◌, ◌<◌, true, false, length, IfOk, OnErr};
 ghost use Rattle.world_pipes.specs.ModelSteps.{FollowsAll};
@@ -14,8 +14,8 @@ use std::alloc::Global;
 use world_base::node_connections::{Piece, Port};
 use world_nodes::Nodes;
 
-/// Carries this many bytes from the front of a connection to its node, which knows it by this port.
-/// Returns whether there was memory for them: if not, they keep waiting.
+/// Carries the first `count` bytes of a connection to its node, by this port. Returns false if
+/// memory runs out: they stay in transit.
 pub fn carry_to_node(
     alloc: Global,
     nodes: &mut Nodes,
@@ -50,8 +50,9 @@ pub fn carry_to_node(
     Ok(true)
 }
 
-/// Carries this many bytes that wait on a connection to its client, if the client holds it. Returns
-/// whether there was memory.
+/// Carries the first `count` bytes of a connection to its client. Fails with `Idle` for no bytes,
+/// for more than are in transit, and if the client does not hold that connection. Returns false if
+/// memory ran out.
 pub fn carry_down_on(piped: &mut PipedClient, at: usize, count: u64) -> Result<bool, Idle>
     requires { at < length piped.old.pairs }
     ensures goes { FollowsAll piped.old piped.new }
@@ -70,7 +71,7 @@ pub fn carry_down_on(piped: &mut PipedClient, at: usize, count: u64) -> Result<b
     Ok(piped.carry_down(count as usize) != Err(ClientError::Memory))
 }
 
-// Returns true if some bytes are carried, and no more than wait.
+// Returns true for at least one byte, and for no more than are in transit.
 fn is_part(count: u64, waiting: usize) -> bool
     ensures yes { result ≡ true → (0 < count) × (count ≤ waiting) }
     ensures no { result ≡ false → (count ≡ 0) ⊎ (waiting < count) }

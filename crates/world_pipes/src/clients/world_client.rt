@@ -41,7 +41,6 @@ pub fn new_clients(alloc: Global, clients: &[ClientId]) -> Result<Vec<WorldClien
     Ok(made)
 }
 
-// Returns a client that was never connected.
 fn new_one(alloc: Global, client: &ClientId) -> Result<WorldClient, Memory>
     ensures stands { IfOk result (λ made. ClientStandsFor made.piped (new_client client.now)) }
     ensures named { IfOk result (λ made. made.name ≡ client.now) }

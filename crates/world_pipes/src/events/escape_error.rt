@@ -1,4 +1,4 @@
-// Why no way out of a world is returned.
+// Why there is no recovery.
 
 ghost use Rattle.std.specs.Prelude.{◌≡◌};
 ghost use Rattle.world_pipes.specs.events.Refusals.{escape_number};
@@ -8,7 +8,7 @@ use std::alloc::{AllocError, AllocFailed};
 use std::error::Error;
 use std::fmt;
 
-/// Why no way out of a world is returned.
+/// Why no recovery of a world is returned.
 #[derive(Clone, Copy, Debug, PartialEq, Eq)]
 pub enum EscapeError {
     /// There is none for these members and this client.

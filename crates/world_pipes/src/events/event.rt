@@ -1,4 +1,4 @@
-// What may happen in a world.
+// The events of a world.
 
 use ballot_base::Config;
 use packet_base::{ClientId, QoS};
@@ -9,7 +9,7 @@ use topics::Filter;
 /// connections from 1 in the order of [`Event::Open`].
 #[derive(Drop)]
 pub enum Event {
-    /// The master gives the next ballot to a configuration. Idle if it refuses: for members or a
+    /// The master assigns the next ballot to a configuration. Idle if it refuses: for members or a
     /// primary that no ballot may have, and after the last ballot.
     Assign(Config),
     /// The message of this number reaches its receiver. Idle if no such message was sent, or its
@@ -20,21 +20,21 @@ pub enum Event {
     /// A node cuts its log: a snapshot replaces the commands that it has applied. Idle if the node
     /// is unknown or has stopped, or has applied none since its last cut.
     Cut(u8),
-    /// An administrator makes a node propose to end the session of a client. Idle if there is no
-    /// such client, if the node is no running active primary, and if its log is full.
+    /// An administrator ends a client's session: a node proposes an Expel. Idle if there is no such
+    /// client, if the node is no running active primary, and if its log is full.
     Expel(ClientId, u8),
     /// A node stops for good, and closes its connections. Idle if it is unknown or has stopped.
     Crash(u8),
     /// A client opens a connection to a node. Idle if there is no such client, if it has a
     /// connection, and if the node is no running active primary.
     Open(ClientId, u8),
-    /// On the connection of the first number, as many of the bytes that wait as the second one says
-    /// reach its node. Idle if its end at the node is closed, or the node has stopped, for no
-    /// bytes, and for more than wait.
+    /// The first bytes in transit on the connection of the first number, as many as the second
+    /// number, reach its node. Idle if its end at the node is closed, or the node has stopped, for
+    /// no bytes, and for more than are in transit.
     CarryUp(u64, u64),
-    /// On the connection of the first number, as many of the bytes that wait as the second one says
-    /// reach its client. Idle if the client holds another connection or none, for no bytes, and for
-    /// more than wait.
+    /// The first bytes in transit on the connection of the first number, as many as the second
+    /// number, reach its client. Idle if the client holds another connection or none, for no bytes,
+    /// and for more than are in transit.
     CarryDown(u64, u64),
     /// A client loses its connection; what it wrote is still in transit. Idle if there is no such
     /// client, or it has no connection.

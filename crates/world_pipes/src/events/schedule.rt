@@ -1,4 +1,4 @@
-// The events of a way out, in order.
+// The events of a recovery, in order.
 
 ghost use Rattle.std.specs.Prelude.{◌≡◌, ◌≤◌, ◌<◌, ◌+◌, ◌*◌, ◌^◌, ◌-◌, ◌∷◌, ◌++◌, length, map, OnOk};
 ghost use Rattle.recovery.specs.replicas.Deliveries.{recovery_messages};
@@ -14,14 +14,14 @@ use packet_base::ClientId;
 use recovery::replicas::{answers, recovery_messages};
 use std::alloc::Global;
 
-/// How many bytes a client's CONNECT has besides its identifier.
+/// The length of a CONNECT without its identifier, in bytes.
 const CONNECT_BYTES: u64 = 14;
 
-/// How many bytes a CONNACK has.
+/// The length of a CONNACK, in bytes.
 const CONNACK_BYTES: u64 = 4;
 
-/// Appends an Assign, and the deliveries that lead its ballot to the start. `sent` messages were
-/// sent before, and the member at `index` of this many `members` is asked for its log.
+/// Appends an Assign and the deliveries that lead its ballot to the start. `sent` messages were
+/// sent before; the member at `index` of this many `members` is asked for its log.
 pub fn push_group(
     alloc: Global,
     pair: &mut Vec<Event>,
@@ -42,9 +42,8 @@ pub fn push_group(
     push_messages(pair, numbers.as_slice())
 }
 
-/// Appends the events by which a client opens a connection to the new primary, once it has lost the
-/// one that it holds, and its CONNECT arrives. `number` is that of the new connection. The only
-/// error is that memory runs out.
+/// Appends the events by which a client loses the connection that it holds, opens one to the new
+/// primary, number `number`, and its CONNECT arrives. Fails only if memory runs out.
 pub fn push_client(
     pair: &mut Vec<Event>,
     piped: &PipedClient,
@@ -62,7 +61,7 @@ pub fn push_client(
     Ok(())
 }
 
-// Appends that a client loses the connection that it holds; nothing if it holds none.
+// Appends the loss of the connection that the client holds, if it holds one.
 fn push_leaving(pair: &mut Vec<Event>, piped: &PipedClient, client: &ClientId) -> Result<(), Memory>
     ensures { OnOk result
         (pair.new.items ≡ pair.old.items ++ leaving (is_holding piped.now) client.now) }
@@ -74,9 +73,8 @@ fn push_leaving(pair: &mut Vec<Event>, piped: &PipedClient, client: &ClientId) -
     Ok(())
 }
 
-/// Appends the events by which the others hold the command and answer, when this many messages were
-/// sent before, and the CONNACK comes down. `number` is that of the connection on which it comes.
-/// The only error is that memory runs out.
+/// Appends the deliveries by which the other members hold and answer the command, after `sent`
+/// messages, and the arrival of the CONNACK on connection `number`. Fails only if memory runs out.
 pub fn push_answers(
     alloc: Global,
     pair: &mut Vec<Event>,
@@ -93,7 +91,6 @@ pub fn push_answers(
     Ok(())
 }
 
-// Appends the deliveries of the messages with these numbers.
 fn push_messages(pair: &mut Vec<Event>, numbers: &[u64]) -> Result<(), Memory>
     ensures { OnOk result (pair.new.items ≡ pair.old.items ++ map events.Deliver numbers.now) }
 {
