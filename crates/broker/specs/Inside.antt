@@ -1,4 +1,4 @@
--- Definitions of private calls.
+-- Definitions for private functions.
 use Rattle.std.specs.Prelude.{◌≡◌, ℕ, ◌^◌, ◌<◌, length, List, [], ◌∷◌}
 use Rattle.std.specs.List.{AllByRecursion}
 use Rattle.retained.specs.Retained.{RetainedTopics}
@@ -18,7 +18,7 @@ AreRows rows = AllByRecursion (λ row. HasForm row.1.state) rows
 abbrev pub ArePayloads : RetainedTopics → Type 0
 ArePayloads content = AllByRecursion (λ row. length row.1.payload < 2 ^ 32) content
 
--- the map of connections holds those of the sessions
+-- the map of connections has exactly those of the sessions
 abbrev pub AreOwned : Rows → Type 0
 AreOwned rows =
     (connection : ConnectionName) →
@@ -29,7 +29,7 @@ abbrev pub state_read : ℕ × Rows × RetainedTopics → State
 state_read (window, rows, retained) =
     record { window = window; sessions = rows.sessions.entries; retained = retained }
 
--- the filters of all these sessions are put in, client by client
+-- the filters of all these sessions are set, client by client
 abbrev pub all_put : Sessions → Content → Content
 all_put [] content = content
 all_put (row ∷ rows) content =

@@ -1,4 +1,4 @@
--- Which list of commands the state of a broker corresponds to.
+-- Which list of commands a broker's state stands for.
 use Rattle.std.specs.Prelude.{◌≡◌, ℕ, List, [], ◌∷◌, ◌++◌, Some}
 use Rattle.broker_spec.specs.AnswersInOrder.{answers_of}
 use Rattle.broker_spec.specs.Commands.{past_of, limits_from, usual_limits}
@@ -10,17 +10,17 @@ use Rattle.broker_base.specs.form.Form.{thawed}
 use Rattle.broker_base.specs.form.Bytes.{frozen_before}
 use Rattle.broker_base.specs.form.FormTheorems.{IsUsualState}
 
--- the state is the one that this list of commands means, if the window was this one at first
+-- the state is the one that this list of commands means, with this window at first
 abbrev pub StateStandsFor : ℕ → State → List Command → Type 0
 StateStandsFor first state commands =
     state ≡ state_of (limits_from first) (past_of (limits_from first) commands)
 
--- a new broker's state is that of no command, with the wide window
+-- the state of a new broker stands for no command, with the wide window
 abbrev pub BeginsEmpty : Type 0
 BeginsEmpty = StateStandsFor wide_window (empty_state wide_window) []
 
--- after one more command the state corresponds to the list with that command, and its answers are
--- those that the list means
+-- after one more command the state stands for the list with that command, and its answers are those
+-- that the list means
 abbrev pub GoesOnStanding : Type 0
 GoesOnStanding =
     (first : ℕ) → (state : State) → (commands : List Command) → (command : Command) →
@@ -29,8 +29,8 @@ GoesOnStanding =
     × (answers state command
     ≡ answers_of (limits_from first) (past_of (limits_from first) commands) command)
 
--- what a state with the narrow window was frozen to in form 1, before any Start, is read as a state
--- that corresponds to the same list with the narrow window at first
+-- what a state with the narrow window was frozen to in form 1, before any Start, thaws to a state
+-- that stands for the same list with the narrow window at first
 abbrev pub GoesOnFromFormOne : Type 0
 GoesOnFromFormOne =
     (state : State) → (commands : List Command) → IsUsualState state →

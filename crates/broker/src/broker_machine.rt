@@ -1,4 +1,13 @@
-// The machine that a replica drives.
+// The broker as the machine that a replica drives.
+//
+// A machine is the tables and an invariant over them: the state is sound, within its limits and
+// ranges, and the map of connections and the index agree with the sessions. The tables alone have
+// no invariant: in the middle of a command the maps and the sessions differ. `apply` collects the
+// outputs in a vector of its own and appends them at the end, so a command that halts leaves the
+// caller's vector as it was; this costs one allocation for each command. If memory runs out in the
+// middle of a command nothing is undone: the machine becomes empty, which satisfies the invariant,
+// and its replica halts and never uses it again. `thaw` accepts any state in its ranges, not only
+// those that some list of commands leads to.
 
 use crate::form_writers::freeze_tables;
 use crate::table_readers::thawed_tables;
@@ -12,9 +21,9 @@ use std::marker::Model;
 use topics::MalformedKind;
 
 /// A broker after some list of commands. Its value in contracts is its state: the window, the
-/// sessions by client, and what is retained.
+/// sessions by client, and the retained publications.
 pub struct BrokerMachine {
-    // The state, within its limits; the map of connections and the index agree with the sessions.
+    // Satisfies its limits; the map of connections and the index agree with the sessions.
     tables: Tables,
 }
 
@@ -36,8 +45,8 @@ impl Model for BrokerMachine {
     ghost invariant = { λ machine. IsUsualState (state_in machine.tables) × IsTied machine.tables };
 }
 
-// It begins empty, and does a command as the step of a state with the limits of this broker says.
-// It is frozen to form 2, and thawed from form 1 too.
+// The opening state is empty; a command is one `step` of `broker_base` with the limits of this
+// broker. `freeze` writes form 2, `thaw` also reads form 1.
 impl Machine for BrokerMachine {
     ghost use Rattle.broker_spec.specs.Logged.{IsBrokerCommand};
     ghost use Rattle.broker_base.specs.form.FormTheorems.{IsUsualState};
@@ -80,8 +89,8 @@ impl Machine for BrokerMachine {
         command.ensure_ranges();
         let mut given = Vec::new(*out.allocator());
         if self.tables.apply(command, &mut given).is_err() {
-            // The tables may be half changed, and empty ones meet the invariant. No session is lost
-            // by this: a replica that was halted does not use its machine again.
+            // The tables may be half changed, and empty ones satisfy the invariant. No session is
+            // lost by this: a replica that halted does not use its machine again.
             self.tables = Tables::new(*out.allocator());
             return Err(Halted);
         }

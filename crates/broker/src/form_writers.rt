@@ -1,4 +1,4 @@
-// A broker's tables as bytes, form 2.
+// Writing the tables of a broker to bytes, form 2.
 
 ghost use Rattle.std.specs.Prelude.{◌≡◌, ◌^◌, ◌<◌, ◌++◌, length, OnErr, OnOk};
 ghost use Rattle.std.specs.List.{flat_map, AllByRecursion};
@@ -41,7 +41,8 @@ pub(crate) fn freeze_tables(tables: &Tables, bytes: &mut Vec<u8>) -> Result<(), 
     written
 }
 
-// Appends the bytes of the tables, some of them if there is no memory for all.
+// Appends the bytes of the tables. If memory runs out, some of them may have been appended, here
+// and in the functions below.
 fn write_tables(tables: &Tables, bytes: &mut Vec<u8>) -> Result<(), AllocError>
     requires { IsBrokerState usual_limits (state_in tables.now) }
     ensures { OnOk result (bytes.new.items ≡ bytes.old.items ++ frozen (state_in tables.now)) }
@@ -54,7 +55,7 @@ fn write_tables(tables: &Tables, bytes: &mut Vec<u8>) -> Result<(), AllocError>
     write_retained(&tables.retained, bytes)
 }
 
-// Appends each session, by the bytes of the clients.
+// Appends each session, in the order of the clients' bytes.
 fn write_sessions(
     sessions: &BTreeMap<ClientId, ClientRow>,
     bytes: &mut Vec<u8>,
@@ -81,7 +82,7 @@ fn write_row(client: &ClientId, row: &ClientRow, bytes: &mut Vec<u8>) -> Result<
     row.state.write(bytes)
 }
 
-// Appends whether there is a connection, and which.
+// Appends whether there is a connection, and its name.
 fn write_connection(
     connection: Option<ConnectionName>,
     bytes: &mut Vec<u8>,
@@ -100,7 +101,7 @@ fn write_connection(
     }
 }
 
-// Appends the ballot and the number of a connection.
+// Appends the name of a connection: its ballot and its number.
 fn write_name(connection: ConnectionName, bytes: &mut Vec<u8>) -> Result<(), AllocError>
     ensures { OnOk result
         (bytes.new.items
@@ -110,7 +111,7 @@ fn write_name(connection: ConnectionName, bytes: &mut Vec<u8>) -> Result<(), All
     bytes.extend_from_slice(&connection.count().to_be_bytes())
 }
 
-// Appends each retained publication, by topic.
+// Appends each retained publication, in the order of the topics' bytes.
 fn write_retained(retained: &RetainedStore, bytes: &mut Vec<u8>) -> Result<(), AllocError>
     requires { ArePayloads retained.now }
     ensures { OnOk result
@@ -122,7 +123,7 @@ fn write_retained(retained: &RetainedStore, bytes: &mut Vec<u8>) -> Result<(), A
     Ok(())
 }
 
-// Appends a topic with what is retained of it.
+// Appends a topic with its retained publication.
 fn write_topic(
     topic: &TopicName,
     kept: &RetainedPublication,

@@ -1,5 +1,5 @@
-//! The broker as a deterministic machine: it takes the commands of a log one by one and returns
-//! what is sent to the clients (MQTT 3.1.1). It is frozen to bytes, and thawed from them.
+//! The broker as a deterministic machine: it applies the commands of a log one by one and returns
+//! what is to be sent to the clients (MQTT 3.1.1). It can be frozen to bytes and thawed from them.
 #![tactic(auto)]
 
 mod broker_machine;

@@ -1,5 +1,4 @@
-//! What a broker keeps of one client, and what packets and publications do to its session (MQTT
-//! 3.1.1).
+//! The row of one client, and what packets and publications do to its session (MQTT 3.1.1).
 
 mod client_row;
 mod delivery;

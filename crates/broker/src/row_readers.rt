@@ -1,5 +1,5 @@
-// Reads the rows of a frozen broker from the front of the bytes that are left. Bytes that are not
-// of the form stop the reading; the reader is not to be used after an error.
+// Reads the rows of a frozen broker from the front of a reader. Bytes that are not of the form stop
+// the reading with `Shape`; the reader must not be used after an error.
 
 ghost use Rattle.std.specs.Prelude.{◌≡◌, true, IfOk};
 ghost use Rattle.packet_base.specs.ClientId.{is_client};
@@ -22,8 +22,7 @@ use topics::{MalformedKind, TopicName};
 
 // ---- the window
 
-/// Reads the number of the form, and the window: form 1 has the narrow one, and form 2 names its
-/// own. Other bytes stop the reading.
+/// Reads the number of the form and the window: form 1 has the narrow one, form 2 names it.
 #[tactic(auto, unfolding(broker_base::specs::form::Form::head_at))]
 pub(crate) fn read_head(reader: &mut Reader) -> Result<Window, Stop>
     ensures { Reads (λ value. value) result reader.new (head_at reader.old) }
@@ -36,7 +35,7 @@ pub(crate) fn read_head(reader: &mut Reader) -> Result<Window, Stop>
     read_window(reader)
 }
 
-// Reads the window, one of the two.
+// Reads the window of form 2: one byte, 16 or 64.
 #[tactic(auto, unfolding(broker_base::specs::form::Form::size_at))]
 fn read_window(reader: &mut Reader) -> Result<Window, Stop>
     ensures { Reads (λ value. value) result reader.new (size_at reader.old) }
@@ -49,8 +48,8 @@ fn read_window(reader: &mut Reader) -> Result<Window, Stop>
 
 // ---- a client's session
 
-/// Reads a client with its session. A clean session has a connection, and no more of a session is
-/// in flight than the window allows; other bytes stop the reading.
+/// Reads a client with its session. A clean session must have a connection, and no more entries may
+/// be in flight than the window allows.
 #[tactic(auto, unfolding(broker_base::specs::form::Form::row_at))]
 pub(crate) fn read_row(
     alloc: Global,
@@ -72,7 +71,6 @@ pub(crate) fn read_row(
     Ok((client, row))
 }
 
-// Reads a Client Identifier.
 #[tactic(auto, unfolding(broker_base::specs::form::Form::client_at))]
 fn read_client(alloc: Global, reader: &mut Reader) -> Result<ClientId, Stop>
     ensures { Reads (λ value. value) result reader.new (client_at reader.old) }
@@ -81,7 +79,7 @@ fn read_client(alloc: Global, reader: &mut Reader) -> Result<ClientId, Stop>
     client_of(alloc, text)
 }
 
-// Returns the Client Identifier of a text.
+// Returns the Client Identifier of a text; `Shape` if the text has a fault.
 fn client_of(alloc: Global, text: &str) -> Result<ClientId, Stop>
     ensures test { Gives (λ client. tt) result (check_form (is_client text.now)) }
     ensures value { IfOk result (λ client. client ≡ text.now) }
@@ -97,7 +95,7 @@ fn client_of(alloc: Global, text: &str) -> Result<ClientId, Stop>
     }
 }
 
-// Reads whether there is a connection, and which.
+// Reads whether there is a connection, and its name.
 #[tactic(auto, unfolding(broker_base::specs::form::Form::connection_at))]
 fn read_connection(reader: &mut Reader) -> Result<Option<ConnectionName>, Stop>
     ensures { Reads (λ value. value) result reader.new (connection_at reader.old) }
@@ -109,7 +107,7 @@ fn read_connection(reader: &mut Reader) -> Result<Option<ConnectionName>, Stop>
     }
 }
 
-// Reads the name of a connection.
+// Reads the name of a connection: its ballot and its number, both in their ranges.
 #[tactic(auto, unfolding(broker_base::specs::form::Form::name_at))]
 fn read_name(reader: &mut Reader) -> Result<Option<ConnectionName>, Stop>
     ensures { Reads (λ value. value) result reader.new (name_at reader.old) }
@@ -135,7 +133,7 @@ fn read_wide_number(reader: &mut Reader) -> Result<u64, Stop>
 
 // ---- a retained publication
 
-/// Reads a topic with what is retained of it. Other bytes stop the reading.
+/// Reads a topic with its retained publication.
 #[tactic(auto, unfolding(broker_base::specs::form::Form::retained_at))]
 pub(crate) fn read_topic(
     alloc: Global,
@@ -155,7 +153,7 @@ pub(crate) fn read_topic(
     })
 }
 
-// Returns what is retained of a publication: it has a payload, and its PUBLISH is within the limit
+// Returns the retained publication; `Shape` if it has no payload or its PUBLISH is over the limit
 // of a packet.
 fn retainable(publication: Publication) -> Result<(TopicName, RetainedPublication), Stop>
     requires { publication.retain ≡ true }

@@ -1,4 +1,4 @@
-// The sessions of a frozen broker, with the map of their connections.
+// The sessions of a frozen broker while they are read, with the map of their connections.
 
 ghost use Rattle.std.specs.Prelude.{◌≡◌, false, true, [], ◌∷◌, ◌++◌, IfOk, OnOk};
 ghost use Rattle.packet_base.specs.Outcome.{Reads};
@@ -19,19 +19,19 @@ use session_base::check_form;
 use std::alloc::{AllocError, Global};
 use std::collections::BTreeMap;
 
-/// Sessions by client, and the client of each of their connections, by which a connection that
-/// another session has is found without a walk over the sessions.
+/// Sessions by client, and the client of each of their connections. The map finds out without a
+/// scan whether a connection is already that of another session.
 #[derive(Drop)]
 pub(crate) struct Rows {
-    /// By client, as many as were read.
+    /// The sessions that were read so far.
     pub(crate) sessions: BTreeMap<ClientId, ClientRow>,
-    /// The client of each connection that a session has, and no other entry.
+    /// The client of each connection of these sessions, and nothing else.
     pub(crate) owners: BTreeMap<ConnectionName, ClientId>,
 }
 
 impl Rows {
-    /// Reads as many sessions as their count says: the clients rise, and no connection is used
-    /// twice. Other bytes stop the reading.
+    /// Reads the sessions: their count, and as many rows with ascending clients. `Shape` if a
+    /// connection occurs twice.
     #[tactic(auto, unfolding(session_base::specs::Counted::counted_items_at))]
     pub(crate) fn read(alloc: Global, window: Window, reader: &mut Reader) -> Result<Rows, Stop>
         ensures exact { Reads (λ rows. rows.sessions.entries) result reader.new
@@ -43,7 +43,7 @@ impl Rows {
         read_rows(alloc, window, count, reader)
     }
 
-    // Returns no rows.
+    // Returns empty rows.
     fn new(alloc: Global) -> Rows
         ensures empty { result.sessions.entries ≡ [] }
         ensures owned { AreOwned result }
@@ -54,7 +54,7 @@ impl Rows {
         }
     }
 
-    // Adds one more session, which may come after the others.
+    // Appends a session; `Shape` unless it may follow the others.
     fn add(&mut self, client: ClientId, row: ClientRow) -> Result<(), Stop>
         requires { AreOwned self.old }
         ensures adds { AddsItem row_follows self.old.sessions.entries
@@ -68,7 +68,8 @@ impl Rows {
         }
     }
 
-    // Returns true if a client may come after the others.
+    // Returns true if the client is above the last one, and the connection is not that of another
+    // session.
     fn may_follow(&self, client: &ClientId, row: &ClientRow) -> bool
         requires { AreOwned self.now }
         ensures { result ≡ row_follows self.now.sessions.entries (client.now, row.now) }
@@ -76,7 +77,7 @@ impl Rows {
         self.is_after(client) && !self.is_owned(row.connection)
     }
 
-    // Returns true if the client is after the last.
+    // Returns true if the client is above the last one.
     fn is_after(&self, client: &ClientId) -> bool
         ensures { result ≡ is_after (last_of self.now.sessions.entries) client.now }
     {
@@ -86,7 +87,7 @@ impl Rows {
         }
     }
 
-    // Returns true if one of them has the connection.
+    // Returns true if a session has this connection.
     fn is_owned(&self, connection: Option<ConnectionName>) -> bool
         requires { AreOwned self.now }
         ensures { result ≡ is_owned self.now.sessions.entries connection }
@@ -97,7 +98,7 @@ impl Rows {
         }
     }
 
-    // Puts a session last.
+    // Appends a session and enters its connection in the map.
     fn put_last(&mut self, client: ClientId, row: ClientRow) -> Result<(), AllocError>
         requires owned { AreOwned self.old }
         requires follows { row_follows self.old.sessions.entries (client, row) ≡ true }
@@ -125,7 +126,7 @@ fn read_rows(alloc: Global, window: Window, count: u16, reader: &mut Reader) -> 
     Ok(rows)
 }
 
-// Gives a connection, if there is one, to the client.
+// Enters a connection, if there is one, as the client's.
 fn own(
     owners: &mut BTreeMap<ConnectionName, ClientId>,
     connection: Option<ConnectionName>,

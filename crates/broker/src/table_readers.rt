@@ -32,8 +32,8 @@ use subs::TreeIndex;
 use subs_base::{ListIndex, SubIndex};
 use topics::{Filter, TopicName};
 
-/// Returns the tables of the broker that these bytes are frozen from. Bytes that are not of the
-/// form stop the reading.
+/// Returns the tables that are frozen to these bytes, or why there are none: `Shape` if the bytes
+/// are not of the form, `Memory` if memory runs out.
 pub(crate) fn thawed_tables(alloc: Global, bytes: &[u8]) -> Result<Tables, Stop>
     ensures exact { Gives state_in result (broker_at bytes.now) }
     ensures tied { IfOk result IsTied }
@@ -51,7 +51,7 @@ pub(crate) fn thawed_tables(alloc: Global, bytes: &[u8]) -> Result<Tables, Stop>
     })
 }
 
-// Reads the parts of the bytes, one after another.
+// Reads the window, the sessions and the retained publications; nothing may follow them.
 #[tactic(auto, unfolding(broker_base::specs::form::Form::broker_at))]
 fn read_broker(alloc: Global, bytes: &[u8]) -> Result<(Window, Rows, RetainedStore), Stop>
     ensures exact { Gives state_read result (broker_at bytes.now) }
@@ -67,7 +67,7 @@ fn read_broker(alloc: Global, bytes: &[u8]) -> Result<(Window, Rows, RetainedSto
 
 // ---- what is retained
 
-// Reads as many topics as their count says, in rising order.
+// Reads the retained publications: their count, and as many topics in ascending order.
 #[tactic(auto, unfolding(session_base::specs::Counted::counted_items_at))]
 fn read_retained(alloc: Global, reader: &mut Reader) -> Result<RetainedStore, Stop>
     ensures { Reads (λ value. value) result reader.new
@@ -78,7 +78,7 @@ fn read_retained(alloc: Global, reader: &mut Reader) -> Result<RetainedStore, St
     read_topics(alloc, count, reader)
 }
 
-// Reads this many topics.
+// Reads this many topics with their publications.
 fn read_topics(alloc: Global, count: u16, reader: &mut Reader) -> Result<RetainedStore, Stop>
     requires { count ≤ MAX_TOPICS }
     ensures { Reads (λ value. value) result reader.new
@@ -92,7 +92,7 @@ fn read_topics(alloc: Global, count: u16, reader: &mut Reader) -> Result<Retaine
     Ok(retained)
 }
 
-// Adds one more topic, which is after the last.
+// Appends a topic; `Shape` unless it is above the last one.
 fn add_topic(
     retained: &mut RetainedStore,
     topic: TopicName,
@@ -108,7 +108,7 @@ fn add_topic(
     }
 }
 
-// Returns true if the topic is after the last.
+// Returns true if the topic is above the last one.
 fn is_after(retained: &RetainedStore, topic: &TopicName) -> bool
     ensures test { result ≡ is_after (last_of retained.now) topic.now }
     ensures rising { IsRising retained.now }
@@ -121,7 +121,7 @@ fn is_after(retained: &RetainedStore, topic: &TopicName) -> bool
 
 // ---- the index of subscriptions
 
-// Returns the tree of a list of each session's subscriptions.
+// Returns the index of the subscriptions of all sessions.
 fn index_of(alloc: Global, sessions: &BTreeMap<ClientId, ClientRow>) -> Result<TreeIndex, Memory>
     ensures { IfOk result
         (λ index. content_of index ≡ all_put sessions.now.entries no_subscriptions) }
@@ -133,7 +133,7 @@ fn index_of(alloc: Global, sessions: &BTreeMap<ClientId, ClientRow>) -> Result<T
     TreeIndex::of_list(alloc, list)
 }
 
-// Returns a session's subscriptions by the bytes of their filters.
+// Returns a session's subscriptions in the order of the filters' bytes.
 fn filters_of(alloc: Global, session: &Session) -> Result<BTreeMap<Filter, QoS>, AllocError>
     ensures { IfOk result
         (λ filters. get (slice_cmp nat_cmp) filters ≡ last_qos_in session.now.subscriptions) }
@@ -143,7 +143,7 @@ fn filters_of(alloc: Global, session: &Session) -> Result<BTreeMap<Filter, QoS>,
     Ok(filters)
 }
 
-// Returns a session's subscriptions, in order.
+// Copies a session's subscriptions, in the order in which they were first granted.
 fn subscriptions_of(alloc: Global, session: &Session) -> Result<Vec<(Filter, QoS)>, AllocError>
     ensures { IfOk result (λ granted. granted.items ≡ session.now.subscriptions) }
 {

@@ -1,4 +1,4 @@
-//! The tables of a broker, and what each command does to them: the steps of MQTT 3.1.1.
+//! The tables of a broker, and what each command does to them (MQTT 3.1.1).
 
 mod client_packets;
 mod connect;

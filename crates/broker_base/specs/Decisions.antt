@@ -28,26 +28,26 @@ row_lacks_room limits publication row =
     (granted_qos publication.topic row.1.state.subscriptions))
     && (room limits.entries row.1.state.queue == 0)
 
--- whether a publication would be retained on one topic more than the limit
+-- whether retaining the publication would exceed the topic limit
 abbrev pub is_one_topic_over : Limits → RetainedTopics → Publication → Bool
 is_one_topic_over limits content publication =
     publication.retain && not (is_empty publication.payload)
     && is_none (publication_on publication.topic content)
     && nat_le limits.retained (length content)
 
--- a publication is refused as a whole if one session has no room for it, or if it cannot be
--- retained
+-- a publication is refused as a whole if some session has no room for it, or if retaining it would
+-- exceed the topic limit
 abbrev pub is_refused_in : Limits → State → Publication → Bool
 is_refused_in limits state publication =
     list_any (row_lacks_room limits publication) state.sessions
     || is_one_topic_over limits state.retained publication
 
--- whether a delivery repeats one that the session took
+-- whether the session received this identifier at QoS 2 and no PUBREL since
 abbrev pub repeats_taken : ClientSession → Delivery → Bool
 repeats_taken kept (deliveries.ExactlyOnce dup id) = has_id id kept.state.received
 repeats_taken kept _ = false
 
--- the mark of a packet on the current connection of this session
+-- the mark of a packet on this session's connection
 abbrev pub owned_mark : Limits → State → Client × ClientSession → Packet → Mark
 owned_mark limits state owner (packets.Publish publish) =
     if repeats_taken owner.1 publish.delivery then Mark.Repeat owner.0 else
@@ -64,13 +64,13 @@ owned_mark limits state owner packets.Pingresp = Mark.Leaves owner.0
 owned_mark limits state owner packets.Disconnect = Mark.Leaves owner.0
 owned_mark limits state owner _ = Mark.Handled owner.0
 
--- a packet counts only on a current connection
+-- a packet has an effect only on a client's current connection
 abbrev pub packet_mark_in : Limits → State → Packet → Option (Client × ClientSession) → Mark
 packet_mark_in limits state packet (Some owner) = owned_mark limits state owner packet
 packet_mark_in limits state packet None = Mark.Unmarked
 
--- a Connect on a current connection is a violation; any other is accepted if its client has a
--- session or one may begin
+-- a Connect on a client's current connection is a violation; any other is accepted if its client
+-- has a session or the limit of sessions allows one more
 abbrev pub connect_mark_in : Limits → State → Client → Option (Client × ClientSession) → Mark
 connect_mark_in limits state client (Some owner) = Mark.Leaves owner.0
 connect_mark_in limits state client None =

@@ -19,7 +19,7 @@ use Rattle.broker_base.specs.ClientSession.{ClientSession}
 use Rattle.broker_spec.specs.declared.command.Command.{Command}
 use Rattle.broker_spec.specs.declared.command.Command.TheVariants as commands
 
--- the copies that a command makes for a session with these subscriptions
+-- the copies that a command adds to a session with these subscriptions
 abbrev pub copies_with : Command → Mark → RetainedTopics → Client → List GrantedSubscription →
     List Publication
 copies_with (commands.Packet connection (packets.Publish publish)) (Mark.Taken sender)
@@ -32,12 +32,12 @@ copies_with (commands.Packet connection (packets.Subscribe subscribe)) (Mark.Gra
     then copies_for_all content (granted_of subscribe.filters which) else []
 copies_with _ _ content client subscriptions = []
 
--- a queue is filled only while there is a connection
+-- the queue after a fill, if the client is connected
 abbrev pub filled_on : Option ConnectionName → ℕ → List Flight → List Publication → Queue
 filled_on (Some connection) window flights waiting = fill window flights waiting
 filled_on None window flights waiting = record { in_flight = flights; waiting = waiting }
 
--- the queue after a client's answer: after PUBACK and PUBCOMP, what may start starts (MQTT 4.6)
+-- the queue after an acknowledgement: after PUBACK and PUBCOMP, what may start starts (MQTT 4.6)
 abbrev pub answered_queue : ℕ → Command → Mark → Client → Option ConnectionName → Queue → Queue
 answered_queue window (commands.Packet name (packets.Puback id)) (Mark.Handled sender)
     client connection queue =
@@ -53,12 +53,12 @@ answered_queue window (commands.Packet name (packets.Pubcomp id)) (Mark.Handled 
     then filled_on connection window (on_pubcomp id queue.in_flight) queue.waiting else queue
 answered_queue window _ _ client connection queue = queue
 
--- the queue after copies are added: with a connection, what may start starts after each copy
+-- the queue after copies are added: if the client is connected, what may start starts after each
 abbrev pub copied_queue : ℕ → Option ConnectionName → List Publication → Queue → Queue
 copied_queue window (Some connection) copies queue = copies_left window copies queue
 copied_queue window None copies queue = copies_waiting copies queue
 
--- the session after any command but an accepted Connect of its client, on this connection or none
+-- the session after any command except its client's accepted Connect, on this connection or none
 abbrev pub session_on : ℕ → Place → RetainedTopics → Client → Option ConnectionName →
     ClientSession → ClientSession
 session_on window place content client connection old =
@@ -74,11 +74,11 @@ session_on window place content client connection old =
       };
     }
 
--- a session that begins on a connection, empty
+-- an empty session that begins on a connection
 abbrev pub session_anew : ConnectionName × Bool → ClientSession
 session_anew opened = record { clean = opened.1; connection = Some opened.0; state = empty_session }
 
--- a session that continues on a new connection; what may start starts
+-- a session that is resumed on a new connection; what may start starts
 abbrev pub session_resumed : ℕ → ConnectionName × Bool → ClientSession → ClientSession
 session_resumed window opened old =
     record {
@@ -91,13 +91,13 @@ session_resumed window opened old =
       };
     }
 
--- the session after the client's accepted Connect, which continues an old one if neither is clean
+-- the session after its client's accepted Connect, which resumes an old one if neither is clean
 abbrev pub session_connected : ℕ → ConnectionName × Bool → Option ClientSession → ClientSession
 session_connected window opened None = session_anew opened
 session_connected window opened (Some old) =
     if opened.1 || old.clean then session_anew opened else session_resumed window opened old
 
--- the session after any other command: it ends at an Expel, and if clean, with its connection
+-- the session after any other command: it ends at an Expel, and a clean one with its connection
 abbrev pub session_later : ℕ → Place → RetainedTopics → Client → Option ClientSession →
     Option ClientSession
 session_later window place content client None = None

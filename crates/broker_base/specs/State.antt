@@ -1,4 +1,10 @@
--- What a broker keeps for all its clients, and what a past says that it is (MQTT 4.1).
+-- The state of a broker, and the state that a past leads to (MQTT 4.1).
+-- A state is what a snapshot has to hold: the window, one row for each client with a session, and
+-- the retained publications. Sessions and topics are ordered by their bytes, so every replica
+-- freezes a state to the same bytes. Maps and indexes are not part of it; the code derives them
+-- from the rows. The window is state, since what a broker sends depends on it and a broker thawed
+-- from form 1 begins with another one. Steps preserve that each client has one row, that no
+-- connection belongs to two rows, and that each row is sound (`IsSound` in StateTheorems.antt).
 use Rattle.std.specs.Prelude.{ℕ, if◌then◌else◌, List, [], ◌∷◌, Option, Some, None}
 use Rattle.std.specs.BTreeMap.{insert_entry, is_at}
 use Rattle.std.specs.Map.{lookup}
@@ -15,14 +21,13 @@ use Rattle.broker_base.specs.ClientSession.{ClientSession, client_session}
 abbrev pub Sessions : Type 0
 Sessions = List (Client × ClientSession)
 
--- how many entries of a session may be in flight at once, the sessions, and the retained
--- publications
+-- the most entries of a session in flight, the sessions, and the retained publications
 pub record State : Type 0 where
   pub window : ℕ
   pub sessions : Sessions
   pub retained : RetainedTopics
 
--- a broker that begins empty, with this window
+-- an empty broker with this window
 abbrev pub empty_state : ℕ → State
 empty_state window = record { window = window; sessions = []; retained = [] }
 

@@ -1,4 +1,4 @@
--- What the sessions of a state satisfy and a step preserves: each client occurs once, a connection
+-- The invariants of a state, which each step preserves: each client occurs once, a connection
 -- belongs to at most one session, and each session is sound.
 use Rattle.std.specs.Prelude.{◌≡◌, ℕ, ◌≤◌, ◌⊎◌, true, false, List, [], ◌∷◌, length, Some}
 use Rattle.std.specs.Prelude.{None, is_some}
@@ -21,8 +21,9 @@ use Rattle.broker_spec.specs.declared.command.Command.{Command}
 
 -- ---- one session
 
--- Each filter occurs once, received identifiers rise, those in flight are distinct, released
--- entries come first, and a clean session has a connection (MQTT 2.3.1, 3.1.2.4, 3.8.4, 4.4).
+-- Each filter occurs once, received identifiers are ascending, those in flight are distinct,
+-- released entries come first, and a clean session has a connection (MQTT 2.3.1, 3.1.2.4, 3.8.4,
+-- 4.4).
 pub record IsSoundSession (kept : ClientSession) : Type 0 where
   pub filters : AreFiltersApart kept.state.subscriptions
   pub received : IsStrictlySortedBy nat_cmp kept.state.received
@@ -30,7 +31,7 @@ pub record IsSoundSession (kept : ClientSession) : Type 0 where
   pub released_first : IsReleasedFirst kept.state.queue.in_flight
   pub served : kept.clean ≡ true → is_some kept.connection ≡ true
 
--- if a client is connected, nothing waits in its queue or its window is full
+-- if the client is connected, no publication waits in its queue or the window is full
 abbrev pub HasFilledQueue : ℕ → ClientSession → Type 0
 HasFilledQueue window kept =
     (kept.connection ≡ None)
@@ -50,7 +51,7 @@ AllSound rows = AllByRecursion (λ row. IsSoundSession row.1) rows
 abbrev pub AllFilled : ℕ → Sessions → Type 0
 AllFilled window rows = AllByRecursion (λ row. HasFilledQueue window row.1) rows
 
--- no more of a session is in flight than the window allows
+-- no more entries of a session are in flight than the window allows
 abbrev pub AllInWindow : ℕ → Sessions → Type 0
 AllInWindow window rows = AllByRecursion (λ row. FitsWindow window row.1) rows
 
@@ -75,7 +76,7 @@ ConnectionsAreApart [] = Unit {0}
 
 -- ---- the state
 
--- what the sessions of a broker satisfy
+-- the invariants of a broker's state
 pub record IsSound (state : State) : Type 0 where
   pub by_client : AreByClient state.sessions
   pub apart : ConnectionsAreApart state.sessions
@@ -95,7 +96,7 @@ StaysFilled =
     AllFilled (step limits later state command).0.window
     (step limits later state command).0.sessions
 
--- a step leaves no more in flight than the window allows, if the window does not shrink
+-- a step leaves no more entries in flight than the window allows, if the window does not shrink
 abbrev pub StaysInWindow : Type 0
 StaysInWindow =
     (limits : Limits) → (later : ℕ) → (state : State) → (command : Command) → state.window ≤ later →

@@ -1,4 +1,4 @@
--- The broker's step: the state and the answers after one more command (MQTT 3.1.4, 3.3.1.3, 4.1,
+-- The step of a broker: the state and the answers after one more command (MQTT 3.1.4, 3.3.1.3, 4.1,
 -- 4.3, 4.4).
 use Rattle.std.specs.Prelude.{◌≡◌, ℕ, Bool, false, ◌||◌, if◌then◌else◌, List, [], ◌∷◌, Option}
 use Rattle.std.specs.Prelude.{Some, is_some}
@@ -18,8 +18,8 @@ use Rattle.broker_spec.specs.declared.command.Command.{Command}
 use Rattle.broker_spec.specs.declared.command.Command.TheVariants as commands
 use Rattle.broker_spec.specs.declared.command.Output.{Output}
 
--- Whether a command concerns this client's session with these subscriptions, apart from the end of
--- its connection: its client sent it, or it is a taken publication that matches one of them.
+-- Whether a command concerns the client's session with these subscriptions, apart from the end of
+-- its connection: the client sent it, or it is a taken publication that matches one of them.
 abbrev pub is_about : Command → Mark → Client → List GrantedSubscription → Bool
 is_about (commands.Connect connection sender clean) Mark.Accepted client subscriptions =
     same_client sender client
@@ -30,7 +30,7 @@ is_about command (Mark.Granted sender which) client subscriptions = same_client 
 is_about command (Mark.Handled sender) client subscriptions = same_client sender client
 is_about _ _ client subscriptions = false
 
--- whether a place touches a client's session; every other session stays as it is
+-- whether a place touches a client's session; every other session is unchanged
 abbrev pub touches : Place → Client → ClientSession → Bool
 touches place client kept =
     ends_any place client kept.connection
@@ -43,14 +43,14 @@ session_after window place content client kept =
     if touches place client kept then session_touched window place content client (Some kept)
     else Some kept
 
--- the sessions from before a place that still exist after it
+-- the sessions after a place, of those that were there before
 abbrev pub sessions_left : ℕ → Place → RetainedTopics → Sessions → Sessions
 sessions_left window place content (row ∷ rows) =
     keyed row.0 (session_after window place content row.0 row.1)
     (sessions_left window place content rows)
 sessions_left window place content [] = []
 
--- the sessions that still exist after a place, with that of the client of an accepted Connect
+-- the sessions after a place, that of the client of an accepted Connect included
 abbrev pub sessions_with : ℕ → Place → RetainedTopics → Sessions → Command → Mark → Sessions
 sessions_with window place content rows (commands.Connect connection client clean) Mark.Accepted =
     put_session client (session_connected window (connection, clean) (session_in client rows))

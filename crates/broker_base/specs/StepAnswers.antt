@@ -1,4 +1,4 @@
--- What the broker answers to a command in a state (MQTT 3.1.4, 3.2, 3.3.4, 3.8.4, 4.3, 4.4).
+-- The answers to a command in a state (MQTT 3.1.4, 3.2, 3.3.4, 3.8.4, 4.3, 4.4).
 use Rattle.std.specs.Prelude.{ℕ, Bool, not, ◌||◌, if◌then◌else◌, List, [], ◌∷◌, ◌++◌, map, flat_map}
 use Rattle.std.specs.Prelude.{Option, Some, None, option_map}
 use Rattle.packet.specs.declared.packet.Packet.{Packet}
@@ -18,7 +18,7 @@ use Rattle.broker_spec.specs.declared.command.Command.TheVariants as commands
 use Rattle.broker_spec.specs.declared.command.Output.{Output}
 use Rattle.broker_spec.specs.declared.command.Output.TheVariants.{Send, Close}
 
--- packets to a client that is connected
+-- packets to a client, if it is connected
 abbrev pub sent_on : Option ConnectionName → List Packet → List Output
 sent_on (Some connection) packets = map (Send connection) packets
 sent_on None packets = []
@@ -36,7 +36,7 @@ copies_to window place content client (Some kept) =
     copies_answered window place content (client, kept)
 copies_to window place content client None = []
 
--- only while a session's client is connected
+-- packets of a session, if its client is connected
 abbrev pub while_connected : Option ConnectionName → List Packet → List Packet
 while_connected (Some connection) packets = packets
 while_connected None packets = []
@@ -58,7 +58,7 @@ abbrev pub handled_of : ℕ → Packet → Option ClientSession → List Packet
 handled_of window packet (Some kept) = handled_sends window packet kept
 handled_of window packet None = []
 
--- the answers to a packet that is no PUBLISH and no SUBSCRIBE, and ends nothing
+-- the answers to a packet that is neither PUBLISH nor SUBSCRIBE and does not end its connection
 abbrev pub handled_in : ℕ → ConnectionName → Option ClientSession → Packet → List Output
 handled_in window connection old (packets.Unsubscribe unsubscribe) =
     Send connection (packets.Unsuback unsubscribe.id) ∷ []
@@ -89,7 +89,7 @@ abbrev pub connection_of : Option ClientSession → Option ConnectionName
 connection_of (Some kept) = kept.connection
 connection_of None = None
 
--- what a client that comes back is sent if its session continues: what is in flight, what starts
+-- what a reconnecting client is sent if its session is resumed: retransmissions, what starts
 abbrev pub resumed : ℕ → Bool → Option ClientSession → List Packet
 resumed window clean (Some kept) =
     if clean || kept.clean then []

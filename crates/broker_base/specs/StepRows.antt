@@ -1,5 +1,5 @@
 -- Worked examples, computed by the step: a full queue, the order on a later connection, a window
--- that grows, and which answers start what waits.
+-- that grows, and which acknowledgements start a waiting publication.
 use Rattle.std.specs.Prelude.{◌≡◌, ℕ, true, false, List, [], ◌∷◌, ◌++◌, Some, codes}
 use Rattle.packet_base.specs.declared.qos.QoS.TheVariants as qos_levels
 use Rattle.packet.specs.declared.delivery.Delivery.TheVariants as deliveries
@@ -20,13 +20,13 @@ use Rattle.broker_spec.specs.declared.command.Command.TheVariants as commands
 use Rattle.broker_spec.specs.declared.command.Output.{Output}
 use Rattle.broker_spec.specs.declared.command.Output.TheVariants.{Close}
 
--- the steps from the empty state, whose window is this one at first and the later one from a Start
--- on, give these answers to the next commands
+-- the steps from the empty state with the first window, which a Start changes to the later one,
+-- give these answers to the next commands
 abbrev pub StepsGive : Limits → ℕ → ℕ → List Command → List Command → List (List Output) → Type 0
 StepsGive limits first later earlier next answers =
     steps_from limits later (state_from limits later (empty_state first) earlier) next ≡ answers
 
--- a full queue refuses y; once there is room, each is answered, and the subscriber gets y and z
+-- a full queue refuses y; once there is room, each is acknowledged, and the subscriber gets y and z
 abbrev pub StepsRefuseAndGoOn : Type 0
 StepsRefuseAndGoOn =
     StepsGive (small 3 16) 16 16 (queued_two ++ publishes_xyz 2 false ++ makes_room)
@@ -57,7 +57,7 @@ StepsWidenTheWindow =
 -- ---- a state in which a connected client's queue is not filled: one publication waits, and
 -- nothing is in flight
 
--- the publication o at QoS 1, which waits in these rows
+-- the publication o at QoS 1, which waits in these examples
 abbrev pub waits_o : Publication
 waits_o =
     record {
@@ -87,8 +87,8 @@ serves_b queue =
 abbrev pub o_waits : State
 o_waits = serves_b (record { in_flight = []; waiting = waits_o ∷ [] })
 
--- PINGREQ, PUBREC, PUBREL and UNSUBSCRIBE start nothing, so no entry starts whose PUBLISH no client
--- gets
+-- PINGREQ, PUBREC, PUBREL and UNSUBSCRIBE start nothing, so no entry starts whose PUBLISH is not
+-- sent
 abbrev pub OthersStartNothing : Type 0
 OthersStartNothing =
     (step usual_limits 64 o_waits (gets 1 packets.Pingreq)
@@ -103,7 +103,8 @@ OthersStartNothing =
 abbrev pub o_started : State
 o_started = serves_b (record { in_flight = (1, waits_for.Puback waits_o) ∷ []; waiting = [] })
 
--- after PUBACK and PUBCOMP, whatever they answer, what waits starts and is sent (MQTT 4.6)
+-- after PUBACK and PUBCOMP, whether or not they match an entry, the waiting publication starts and
+-- is sent (MQTT 4.6)
 abbrev pub AnswersStartWhatWaits : Type 0
 AnswersStartWhatWaits =
     (step usual_limits 64 o_waits (gets 1 (packets.Puback 7))

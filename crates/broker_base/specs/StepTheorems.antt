@@ -1,5 +1,4 @@
--- Laws of the step: one command at a time, it gives what the definitions say for the whole list of
--- commands.
+-- Theorems about the step: command by command it gives what the definitions say of the whole list.
 use Rattle.std.specs.Prelude.{◌≡◌, ℕ, false, List, [], ◌∷◌, Some, None}
 use Rattle.broker_spec.specs.Place.{Client, Place, Past, Limits}
 use Rattle.broker_spec.specs.Sessions.{accepts}
@@ -40,7 +39,7 @@ NoneBegins =
     client_session limits past client ≡ None → accepts place.command place.mark client ≡ None →
     client_session limits (place ∷ past) client ≡ None
 
--- the state has each client's session under its name
+-- the state has each client's session under its client
 abbrev pub FindsEachSession : Type 0
 FindsEachSession =
     (limits : Limits) → (past : Past) → (client : Client) →

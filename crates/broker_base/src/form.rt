@@ -1,6 +1,6 @@
-//! What holds in every state of the broker, whatever its commands were: no more than the limits
-//! allow, each number, text and publication in its range. Every answer can be encoded. The forms
-//! are form 2, to which a broker is frozen, and form 1, which is only read.
+//! The range of every state of the broker, whatever its commands were: within the limits, each
+//! number, text and publication in its range, and every answer encodable. And its bytes: form 2, to
+//! which a broker is frozen, and form 1, which is only read.
 
 mod theorems;
 

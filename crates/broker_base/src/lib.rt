@@ -1,5 +1,5 @@
-//! The step of a broker on one more command, on records and lists: after every list of commands its
-//! state and its answers are those of the list.
+//! The step of a broker on one more command, on records and lists; proved to give, after every list
+//! of commands, the state and the answers that `broker_spec` defines for the list.
 #![tactic(auto)]
 
 pub mod form;

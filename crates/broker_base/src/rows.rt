@@ -1,5 +1,5 @@
-//! The step on all clients, taken apart into the rows that a command touches: which row it writes,
-//! and which rows a taken publication asks.
+//! The step on all clients, split into the rows that a command touches: which row it writes, and
+//! which rows a taken publication needs.
 
 mod connect_theorems;
 mod copy_theorems;

@@ -1,4 +1,4 @@
-// Laws of the step, and worked examples: functions that do nothing, whose contracts these are.
+// Theorems about the step, and worked examples: functions that do nothing, with these contracts.
 
 ghost use Rattle.broker_base.specs.StepTheorems.{
   StepsEachSession,
@@ -17,7 +17,7 @@ ghost use Rattle.broker_base.specs.StepRows.{StepsWidenTheWindow, OthersStartNot
 ghost use Rattle.broker_base.specs.StepRows.{AnswersStartWhatWaits};
 
 /// States that one more command, whatever its mark, changes each client's session as the step of
-/// one session says.
+/// one session does.
 pub fn session_step()
     ensures { StepsEachSession }
 {}
@@ -29,8 +29,8 @@ pub fn others_stay()
     ensures none_begins { NoneBegins }
 {}
 
-/// States that the state of a past has each session under its client, and decides the mark of a
-/// command as the past does.
+/// States that the state of a past has each session under its client, and gives a command the mark
+/// that the past gives it.
 pub fn decisions_stand_for()
     ensures sessions { FindsEachSession }
     ensures marks { DecidesAsThePast }
@@ -50,10 +50,11 @@ pub fn list_stands_for()
     ensures growing { GrowingListStandsFor }
 {}
 
-/// States that a step keeps the sessions ordered by the bytes of their clients, and each connection
+/// States that a step keeps the sessions ordered by the bytes of their clients and each connection
 /// in at most one session. It keeps each session in its form: filters and identifiers distinct,
-/// released entries first, a clean one connected. In each connected client's queue nothing waits or
-/// the window is full. No more is in flight than the window allows, if that does not shrink.
+/// released entries first, a clean session connected. In the queue of each connected client nothing
+/// waits or the window is full. No more entries are in flight than the window allows, if that does
+/// not shrink.
 pub fn states_stay_sound()
     ensures step { StaysSound }
     ensures filled { StaysFilled }
@@ -61,16 +62,16 @@ pub fn states_stay_sound()
     ensures lists { ListsAreSound }
 {}
 
-/// Shows, computed step by step, a full queue, the order on a later connection, and a window that
-/// grows.
+/// Shows, computed step by step, a full queue, the order of retransmission on a later connection,
+/// and a window that grows.
 pub fn rows_step_by_step()
     ensures full_queue { StepsRefuseAndGoOn }
     ensures order { StepsKeepTheOrder }
     ensures window { StepsWidenTheWindow }
 {}
 
-/// Shows that PUBACK and PUBCOMP start a publication that waits while nothing is in flight, as may
-/// be in a state that was read from bytes. PINGREQ, PUBREC, PUBREL and UNSUBSCRIBE do not start it.
+/// Shows that PUBACK and PUBCOMP start a waiting publication while nothing is in flight, a state
+/// that only frozen bytes can have. PINGREQ, PUBREC, PUBREL and UNSUBSCRIBE do not start it.
 pub fn entries_start_where_they_are_sent()
     ensures others { OthersStartNothing }
     ensures answers { AnswersStartWhatWaits }

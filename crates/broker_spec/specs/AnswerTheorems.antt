@@ -1,4 +1,4 @@
--- What readers may want to know about the answers: to whom they go.
+-- Theorems about the answers: where they go.
 use Rattle.std.specs.Prelude.{◌≡◌, Bool, true, false, Option, Some, None, ◌⊎◌}
 use Rattle.std.specs.List.{AllByRecursion}
 use Rattle.packet.specs.declared.packet.Packet.TheVariants as packets
@@ -24,14 +24,14 @@ named_in (commands.Lost connection) = Some connection
 named_in (commands.Start ballot) = None
 named_in (commands.Expel client) = None
 
--- a PUBLISH or a Close, which a client may get because of another client's command
+-- a PUBLISH or a Close, which a client may be sent because of another client's command
 abbrev pub is_unasked : Output → Bool
 is_unasked (Send connection (packets.Publish publish)) = true
 is_unasked (Close connection) = true
 is_unasked _ = false
 
--- an answer goes to the connection that the command names, or it is unasked, and goes to a client's
--- current connection
+-- the answer goes to the connection that the command names, or it is unasked and goes to some
+-- client's current connection
 abbrev pub IsAddressed : Past → Command → Output → Type 0
 IsAddressed past command answer =
     (named_in command ≡ Some (goes_to answer))

@@ -24,33 +24,33 @@ use Rattle.broker_spec.specs.declared.command.Command.TheVariants as commands
 use Rattle.broker_spec.specs.declared.command.Output.{Output}
 use Rattle.broker_spec.specs.declared.command.Output.TheVariants.{Send, Close}
 
--- the connection that a client leaves, if it has one (MQTT 3.1.4)
+-- the Close of a client's old connection, if it has one (MQTT 3.1.4)
 abbrev pub close_outputs : Option ConnectionName → List Output
 close_outputs (Some connection) = Close connection ∷ []
 close_outputs None = []
 
--- the answer to an accepted Connect: whether a session was kept (MQTT 3.2.2.2)
+-- the answer to an accepted Connect: CONNACK 0 with Session Present (MQTT 3.2.2.2)
 abbrev pub welcome : ConnectionName → Bool → Output
 welcome connection present = Send connection (packets.Connack (connacks.Accepted present))
 
--- the answer to a Connect that would begin one session too many (MQTT 3.2.2.3)
+-- the answer to a Connect that would exceed the limit of sessions (MQTT 3.2.2.3)
 abbrev pub turned_away : ConnectionName → Output
 turned_away connection =
     Send connection (packets.Connack (connacks.Refused refusals.ServerUnavailable))
 
--- the answer to a taken PUBLISH, by its QoS (MQTT 3.3.4)
+-- the acknowledgement of a taken PUBLISH, by its QoS (MQTT 3.3.4)
 abbrev pub acknowledged : ConnectionName → Delivery → List Output
 acknowledged connection deliveries.AtMostOnce = []
 acknowledged connection (deliveries.AtLeastOnce dup id) = Send connection (packets.Puback id) ∷ []
 acknowledged connection (deliveries.ExactlyOnce dup id) = Send connection (packets.Pubrec id) ∷ []
 
--- the answer to each filter of a SUBSCRIBE (MQTT 3.9.3)
+-- the return code of each filter of a SUBSCRIBE (MQTT 3.9.3)
 abbrev pub codes_of : List Subscription → List Bool → List SubackCode
 codes_of (subscription ∷ more) (granted ∷ others) =
     (if granted then codes.Granted subscription.qos else codes.Failure) ∷ codes_of more others
 codes_of _ _ = []
 
--- the answers to a packet that is no PUBLISH and no SUBSCRIBE, and ends nothing
+-- the answers to a packet that is neither PUBLISH nor SUBSCRIBE and does not end its connection
 abbrev pub other_answers : Limits → Place → Past → ConnectionName → Client → Packet → List Output
 other_answers limits place past connection client (packets.Unsubscribe unsubscribe) =
     Send connection (packets.Unsuback unsubscribe.id) ∷ []

@@ -1,4 +1,4 @@
--- The answers to commands, one after another.
+-- The answers to a list of commands.
 use Rattle.std.specs.Prelude.{List, [], ◌∷◌}
 use Rattle.broker_spec.specs.Place.{Place, Past, Limits}
 use Rattle.broker_spec.specs.Commands.{place_of}

@@ -13,7 +13,7 @@ use Rattle.broker_spec.specs.declared.limits.TheConstants.{MAX_SESSIONS}
 abbrev pub place_of : Limits → Past → Command → Place
 place_of limits past command = record { command = command; mark = mark_of limits past command }
 
--- the places of more commands, oldest first, on top of a past: the one recursion over a list of
+-- the places of more commands, oldest first, on top of a past; the only recursion over a list of
 -- commands
 unfoldable pub past_from : Limits → Past → List Command → Past
 past_from limits past (command ∷ commands) =
@@ -29,7 +29,7 @@ abbrev pub is_start : Command → Bool
 is_start (commands.Start ballot) = true
 is_start _ = false
 
--- how many sessions a broker has at most
+-- the most sessions of a broker
 abbrev pub max_sessions : ℕ
 max_sessions = MAX_SESSIONS
 

@@ -1,5 +1,5 @@
--- What readers may want to know about a session that has ended: its connections get nothing more
--- (MQTT 3.1.2.4, 4.1).
+-- Theorems about a session that has ended: nothing more is sent on its connections (MQTT 3.1.2.4,
+-- 4.1).
 use Rattle.std.specs.Prelude.{◌≡◌, ◌≤◌, ◌+◌, ℕ, Bool, false, if◌then◌else◌, List, [], ◌∷◌}
 use Rattle.std.specs.Prelude.{◌++◌, Some}
 use Rattle.packet.specs.declared.packet.Packet.{Packet}
@@ -41,7 +41,7 @@ EndsWithTheSession limits past =
     → session_start (opened ∷ earlier) client ≡ Some start
     → session_start (place ∷ below) client ≡ Some start
 
--- for every list of commands a connection is sent packets only at places of its session
+-- for every list of commands, a connection is sent packets only at places of its session
 abbrev pub NothingAfterTheEnd : Type 0
 NothingAfterTheEnd =
     (limits : Limits) (commands : List Command)

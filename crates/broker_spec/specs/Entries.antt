@@ -1,5 +1,5 @@
--- What is added to a session's queue: copies of publications (MQTT 3.3.1.3, 3.3.5, 3.8.4), and the
--- state of each entry (MQTT 4.3).
+-- The copies of publications that are added to a session's queue (MQTT 3.3.1.3, 3.3.5, 3.8.4), and
+-- the states of an entry (MQTT 4.3).
 use Rattle.std.specs.Prelude.{ℕ, Bool, true, false, if◌then◌else◌, List, [], ◌∷◌, ◌++◌, map, filter}
 use Rattle.std.specs.Prelude.{Option, Some, None}
 use Rattle.packet_base.specs.declared.qos.QoS.{QoS}
@@ -18,15 +18,14 @@ use Rattle.broker_spec.specs.declared.command.Command.TheVariants as commands
 
 -- ---- copies
 
--- one copy of a publication, at this QoS and with RETAIN 0 (MQTT 3.3.1.3)
+-- the copy of a publication at this QoS, if there is one, with RETAIN 0 (MQTT 3.3.1.3)
 abbrev pub copy_of : Publication → Option QoS → List Publication
 copy_of publication (Some qos) =
     record { retain = false; qos = qos; topic = publication.topic; payload = publication.payload }
     ∷ []
 copy_of publication None = []
 
--- a copy of a retained publication, with RETAIN 1, at the lower of its QoS and the QoS that is
--- asked for
+-- the copy of a retained publication: with RETAIN 1, at the lower of its QoS and the requested one
 abbrev pub retained_copy : QoS → List ℕ × RetainedPublication → Publication
 retained_copy asked row =
     record {
@@ -36,12 +35,12 @@ retained_copy asked row =
       payload = row.1.payload;
     }
 
--- the copies of retained publications that a filter brings, by topic (MQTT 3.8.4)
+-- the copies of the retained publications that a filter matches, by topic (MQTT 3.8.4)
 abbrev pub copies_for : RetainedTopics → Subscription → List Publication
 copies_for content subscription =
     map (retained_copy subscription.qos) (matching_entries content subscription.filter)
 
--- the copies that several filters bring, one filter after another
+-- the copies for several filters, one filter after another
 abbrev pub copies_for_all : RetainedTopics → List Subscription → List Publication
 copies_for_all content (subscription ∷ more) =
     copies_for content subscription ++ copies_for_all content more
@@ -67,9 +66,8 @@ queued = filter (λ publication. is_answered publication.qos)
 
 -- ---- entries
 
--- A publication in a session's queue, with its state. Numbers are those of places: the place that
--- made the entry, and those at which it started, was released (PUBREC, only at QoS 2) and finished
--- (PUBACK or PUBCOMP).
+-- A publication in a session's queue, with its state. The numbers are those of places: where the
+-- entry was made, started, released (PUBREC, only at QoS 2) and finished (PUBACK or PUBCOMP).
 pub data Entry : Type 0 where
   -- it was not sent yet
   Queued : (made : ℕ) → (publication : Publication) → Entry
@@ -81,7 +79,7 @@ pub data Entry : Type 0 where
   Done : (made : ℕ) → (publication : Publication) → (id start : ℕ) → (release : Option ℕ)
       → (finish : ℕ) → Entry
 
--- whether an entry takes room: all do except the finished ones
+-- whether an entry takes room: all do until they are done
 abbrev pub is_unfinished : Entry → Bool
 is_unfinished (Entry.Done made publication id start release finish) = false
 is_unfinished _ = true

@@ -1,5 +1,5 @@
--- Worked examples: the places at which an entry is made, starts, is released and finishes
--- (MQTT 4.1, 4.3).
+-- Worked examples: the places at which an entry is made, starts, is released and is done (MQTT 4.1,
+-- 4.3).
 use Rattle.std.specs.Prelude.{◌≡◌, true, false, List, [], ◌∷◌, ◌++◌, map, codes, Some, None}
 use Rattle.packet_base.specs.declared.qos.QoS.TheVariants as qos_levels
 use Rattle.packet.specs.declared.delivery.Delivery.TheVariants as deliveries
@@ -25,7 +25,7 @@ three_entries =
 abbrev pub entries_of_b : List Entry
 entries_of_b = entries_of usual_limits (past_of usual_limits three_entries) b
 
--- at which places the entries of b come, start, are released and finish
+-- the places at which the entries of b are made, start, are released and are done
 abbrev pub EntriesHaveTheirPlaces : Type 0
 EntriesHaveTheirPlaces =
     (map origin_of entries_of_b

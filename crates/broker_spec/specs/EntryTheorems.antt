@@ -1,5 +1,5 @@
--- What readers may want to know about a session's entries: what waits, how the list grows, and
--- which publications enter it.
+-- Theorems about a session's entries: which ones wait, how the list grows, and which publications
+-- enter it.
 use Rattle.std.specs.Prelude.{◌≡◌, ◌≤◌, ℕ, ◌+◌, if◌then◌else◌, true, false, List, [], ◌∷◌, ◌++◌}
 use Rattle.std.specs.Prelude.{length, filter, Some, None, is_some, ◌⊎◌}
 use Rattle.std.specs.List.{AllByRecursion}
@@ -19,8 +19,7 @@ use Rattle.broker_spec.specs.declared.command.Command.TheVariants as commands
 
 -- ---- what waits
 
--- an entry waits only if its client has no connection, or the window is full of earlier entries
--- (MQTT 4.6)
+-- an entry waits only if its client is not connected, or earlier entries fill the window (MQTT 4.6)
 abbrev pub NothingWaitsInVain : Type 0
 NothingWaitsInVain =
     (limits : Limits) (past : Past) (client : Client) (before after : List Entry) (made : ℕ)
@@ -31,9 +30,9 @@ NothingWaitsInVain =
 
 -- ---- how the list grows
 
--- One place later, at this place: an entry that waited still waits or starts here; one that started
--- stays so, is released or is finished here; a finished one stays. Identifier, publication and
--- times stay as they were.
+-- One place later, at this place: a queued entry is still queued or starts here; a sent one stays
+-- so, is released or is done here; a done one stays. Identifier, publication and times do not
+-- change.
 abbrev pub EntryGoesOn : ℕ → Entry → Entry → Type 0
 EntryGoesOn place (Entry.Queued made publication) later =
     (later ≡ Entry.Queued made publication)
@@ -48,14 +47,14 @@ EntryGoesOn place (Entry.Released made publication id start release) later =
 EntryGoesOn place (Entry.Done made publication id start release finish) later =
     later ≡ Entry.Done made publication id start release finish
 
--- an entry that this place made: it waits, or started there
+-- an entry that this place made: it is queued, or started there
 abbrev pub IsMadeAt : ℕ → Entry → Type 0
 IsMadeAt place (Entry.Queued made publication) = made ≡ place
 IsMadeAt place (Entry.Sent made publication id start) = (made ≡ place) × (start ≡ place)
 IsMadeAt place _ = ⊥
 
--- the earlier entries keep their order and change as one place later (`EntryGoesOn`), and those
--- after them are made at this place
+-- earlier entries keep their order and change as `EntryGoesOn` says, and the entries after them
+-- were made at this place
 abbrev pub GrowsTo : ℕ → List Entry → List Entry → Type 0
 GrowsTo place (entry ∷ entries) (later ∷ others) =
     EntryGoesOn place entry later × GrowsTo place entries others

@@ -1,4 +1,4 @@
--- Worked examples: a client is expelled, and all that was kept for it is removed (MQTT 3.1.2.4,
+-- Worked examples: a client is expelled, and everything in its session is removed (MQTT 3.1.2.4,
 -- 4.1).
 use Rattle.std.specs.Prelude.{◌≡◌, true, false, [], ◌∷◌, ◌++◌, codes, Some, None}
 use Rattle.packet.specs.declared.delivery.Delivery.TheVariants as deliveries
@@ -13,8 +13,8 @@ use Rattle.broker_spec.specs.SessionRows.{EndsSession, SessionBegan, connect_cle
 use Rattle.broker_spec.specs.declared.command.Command.TheVariants as commands
 use Rattle.broker_spec.specs.declared.command.Output.TheVariants.{Close}
 
--- b's connection is closed, once; what a publishes then reaches no client; b comes back and a new
--- session begins, and its answers match no entry
+-- b's connection is closed, once; what a then publishes reaches no client; when b reconnects a new
+-- session begins, and b's acknowledgements match no entry
 abbrev pub ExpelledOnce : Type 0
 ExpelledOnce =
     AreAnswered usual_limits published_x

@@ -22,17 +22,17 @@ publishes_xyz number dup =
     ∷ gets number (publish (deliveries.ExactlyOnce dup 2) false (codes "y"))
     ∷ gets number (publish (deliveries.ExactlyOnce dup 3) false (codes "z")) ∷ []
 
--- b connects and completes two entries, and a connects again
+-- b connects and finishes two entries, and a connects again
 abbrev pub makes_room : List Command
 makes_room = connect 3 b ∷ gets 3 (packets.Puback 1) ∷ gets 3 (packets.Puback 2) ∷ connect 4 a ∷ []
 
--- x takes the last room; y is refused and its connection closed, so that z is not taken before it
+-- x takes the last slot; y is refused and its connection closed, so that z cannot overtake it
 abbrev pub FullQueueRefuses : Type 0
 FullQueueRefuses =
     AreAnswered (small 3 16) queued_two (publishes_xyz 2 false)
     ((sends 2 (packets.Pubrec 1) ∷ []) ∷ (Close (nth 2) ∷ []) ∷ [] ∷ [])
 
--- once there is room, the three sent again are each answered, and b gets y and z
+-- once there is room, the three are retransmitted and each is acknowledged, and b gets y and z
 abbrev pub FullQueueGoesOn : Type 0
 FullQueueGoesOn =
     AreAnswered (small 3 16) (queued_two ++ publishes_xyz 2 false ++ makes_room)

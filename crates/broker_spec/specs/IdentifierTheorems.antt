@@ -1,4 +1,4 @@
--- What readers may want to know about the identifiers of a session's entries (MQTT 2.3.1, 4.6).
+-- Theorems about the identifiers of a session's entries (MQTT 2.3.1, 4.6).
 use Rattle.std.specs.Prelude.{◌≤◌, ℕ, List, [], ◌∷◌}
 use Rattle.std.specs.List.{AllByRecursion}
 use Rattle.broker_spec.specs.Place.{Client, Place, Past, Limits}
@@ -36,12 +36,12 @@ IdentifiersAreTo64 =
     (past : Past) (client : Client)
     → AllByRecursion (IsInWindow wide_window) (busy_ids (entries_of usual_limits past client))
 
--- an entry that waits
+-- a queued entry
 abbrev pub IsWaitingEntry : Entry → Type 0
 IsWaitingEntry (Entry.Queued made publication) = Unit {0}
 IsWaitingEntry _ = ⊥
 
--- after an entry that waits, all wait
+-- no entry after a queued one was started
 abbrev pub WaitingAreLast : List Entry → Type 0
 WaitingAreLast (Entry.Queued made publication ∷ entries) = AllByRecursion IsWaitingEntry entries
 WaitingAreLast (_ ∷ entries) = WaitingAreLast entries

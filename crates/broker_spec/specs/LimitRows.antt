@@ -1,5 +1,5 @@
--- Worked examples: the limits of a broker, what is answered when one is reached, and a Connect on a
--- connection that serves a client (MQTT 3.1.4, 3.2.2.3, 3.9.3, 4.8).
+-- Worked examples: the limits of a broker, the answers when one is reached, and a Connect on a
+-- client's current connection (MQTT 3.1.4, 3.2.2.3, 3.9.3, 4.8).
 use Rattle.std.specs.Prelude.{◌≡◌, ℕ, true, false, List, [], ◌∷◌, codes}
 use Rattle.packet_base.specs.declared.refusal_code.RefusalCode.TheVariants as refusals
 use Rattle.packet.specs.declared.connack.Connack.TheVariants as connacks
@@ -44,8 +44,8 @@ four_sessions =
     connect 1 a ∷ connect 2 b ∷ connect 3 (codes "c")
     ∷ commands.Connect (nth 4) (codes "d") true ∷ []
 
--- a fifth gets CONNACK 3 and is closed; a client that has a session is accepted; and a fifth is,
--- once the clean session is over
+-- a fifth client gets CONNACK 3 and is closed; a client with a session is accepted; and a fifth is,
+-- once the clean session has ended
 abbrev pub FifthSessionIsRefused : Type 0
 FifthSessionIsRefused =
     AreAnswered (small 3 16) four_sessions
@@ -55,15 +55,14 @@ FifthSessionIsRefused =
     ∷ []
     ∷ (Close (nth 1) ∷ sends 6 (connack true) ∷ []) ∷ [] ∷ (sends 7 (connack false) ∷ []) ∷ [])
 
--- b has asked for f/1 to f/4 at QoS 1
+-- b has subscribed to f/1 to f/4 at QoS 1
 abbrev pub four_filters : List Command
 four_filters =
     connect 1 b
     ∷ gets 1 (subscribe_row 1 (filters_at qos_levels.AtLeastOnce
     (codes "f/1" ∷ codes "f/2" ∷ codes "f/3" ∷ codes "f/4" ∷ []))) ∷ connect 2 a ∷ []
 
--- a fifth filter is answered 0x80 and is not set; an identical one is replaced, and is granted with
--- the rest
+-- a fifth filter gets 0x80 and is not set; an identical one is replaced and granted with the rest
 abbrev pub FifthFilterIsRefused : Type 0
 FifthFilterIsRefused =
     AreAnswered (small 3 16) four_filters
@@ -85,8 +84,8 @@ four_topics =
     connect 2 a ∷ publish_row qos_levels.AtLeastOnce
     (codes "t/1" ∷ codes "t/2" ∷ codes "t/3" ∷ codes "t/4" ∷ [])
 
--- a fifth is refused and its connection closed; an existing one is replaced, and an empty payload
--- makes room
+-- a fifth topic is refused and its connection closed; a topic that is there is replaced, and an
+-- empty payload makes room
 abbrev pub FifthTopicIsRefused : Type 0
 FifthTopicIsRefused =
     AreAnswered (small 3 16) four_topics
@@ -102,8 +101,7 @@ FifthTopicIsRefused =
 
 -- ---- connections
 
--- a Connect on a connection that serves a client closes and ends it; no session begins
--- (MQTT-3.1.0-2)
+-- a Connect on a client's current connection ends it with a Close; no session begins (MQTT-3.1.0-2)
 abbrev pub ConnectOnACurrentConnection : Type 0
 ConnectOnACurrentConnection =
     AreAnswered usual_limits (connect 1 a ∷ [])

@@ -23,7 +23,7 @@ use Rattle.broker_spec.specs.declared.command.Command.TheVariants as commands
 
 -- ---- publications
 
--- whether there is a QoS, and it is 1 or 2
+-- whether there is a QoS and it is 1 or 2
 abbrev pub is_queued_at : Option QoS → Bool
 is_queued_at (Some qos) = is_answered qos
 is_queued_at None = false
@@ -33,8 +33,8 @@ abbrev pub lacks_room : Limits → Past → Publication → Client → Bool
 lacks_room limits past publication client =
     is_queued_at (effective_qos past client publication) && (room_of limits past client == 0)
 
--- a publication is refused as a whole if one session has no room for it, or if it cannot be
--- retained
+-- a publication is refused as a whole if some session has no room for it, or if retaining it would
+-- exceed the topic limit
 abbrev pub is_refused : Limits → Past → Publication → Bool
 is_refused limits past publication =
     list_any (lacks_room limits past publication) (clients past)
@@ -42,16 +42,16 @@ is_refused limits past publication =
 
 -- ---- filters of a SUBSCRIBE
 
--- whether one more filter would be one subscription too many: an identical one is only replaced
+-- whether the filter would exceed the limit of subscriptions: an identical one is only replaced
 abbrev pub is_one_too_many : Limits → List GrantedSubscription → Subscription → Bool
 is_one_too_many limits granted new =
     not (is_subscribed new.filter granted) && nat_le limits.subscriptions (length granted)
 
--- how many entries a subscription makes: the retained publications that it brings at QoS 1 or 2
+-- how many entries a subscription adds: one for each matching retained publication at QoS 1 or 2
 abbrev pub entries_for : RetainedTopics → Subscription → ℕ
 entries_for content new = length (queued (copies_for content new))
 
--- which filters are granted, one after another, with the subscriptions so far and the room left
+-- which filters are granted, in order, with the subscriptions so far and the room that is left
 abbrev pub grants : Limits → RetainedTopics → List GrantedSubscription → ℕ →
     List Subscription → List Bool
 grants limits content granted room (new ∷ more) =
@@ -63,9 +63,8 @@ grants limits content granted room [] = []
 
 -- ---- marks
 
--- The mark of a packet of a client's current connection. A PUBLISH is a repeat, or refused, or
--- taken. Packets that only a server sends, and a second CONNECT, are violations (MQTT-3.1.0-2,
--- MQTT 4.8).
+-- The mark of a packet on its client's current connection. A PUBLISH is a repeat, refused or taken.
+-- Packets that only a server sends, and a second CONNECT, are violations (MQTT-3.1.0-2, MQTT 4.8).
 abbrev pub packet_mark : Limits → Past → Client → Packet → Mark
 packet_mark limits past client (packets.Publish publish) =
     if is_repeat past client publish.delivery then Mark.Repeat client else
@@ -92,8 +91,8 @@ abbrev pub packet_mark_of : Limits → Past → Packet → Option Client → Mar
 packet_mark_of limits past packet (Some owner) = packet_mark limits past owner packet
 packet_mark_of limits past packet None = Mark.Unmarked
 
--- A Connect on a current connection is a violation. Any other is accepted if its client has a
--- session or one more may begin.
+-- A Connect on a client's current connection is a violation. Any other is accepted if its client
+-- has a session or the limit of sessions allows one more.
 abbrev pub connect_mark : Limits → Past → Client → Option Client → Mark
 connect_mark limits past client (Some owner) = Mark.Leaves owner
 connect_mark limits past client None =

@@ -1,4 +1,4 @@
--- A packet on a connection that is no client's current one changes nothing and is not answered.
+-- A packet on a connection that is no client's current one changes nothing and has no answer.
 use Rattle.std.specs.Prelude.{◌≡◌, ℕ, false, [], ◌∷◌, None}
 use Rattle.packet.specs.declared.packet.Packet.{Packet}
 use Rattle.broker_spec.specs.Connection.{ConnectionName}
@@ -33,7 +33,8 @@ abbrev pub packet_place : Limits → Past → ConnectionName → Packet → Plac
 packet_place limits past connection packet =
     place_of limits past (commands.Packet connection packet)
 
--- a packet on a connection that is not current changes nothing and is not answered (MQTT 3.1.4)
+-- a packet on a connection that is no client's current one changes nothing and has no answer (MQTT
+-- 3.1.4)
 abbrev pub PacketOfNobodyIsNothing : Type 0
 PacketOfNobodyIsNothing =
     (limits : Limits) (past : Past) (connection : ConnectionName) (packet : Packet)

@@ -1,12 +1,12 @@
--- What readers may want to know about the origin of a session's entries (MQTT 3.3.1.3, 3.3.5).
+-- A theorem about the origin of a session's entries (MQTT 3.3.1.3, 3.3.5).
 use Rattle.std.specs.Prelude.{◌≤◌, ℕ, not, ◌&&◌, ◌==◌, Bool, length, filter}
 use Rattle.broker_spec.specs.Place.{Client, Past, Limits}
 use Rattle.broker_spec.specs.Entries.{Entry}
 use Rattle.broker_spec.specs.Readings.{made_of, publication_in}
 use Rattle.broker_spec.specs.Times.{entries_of}
 
--- whether an entry is of the publication that was taken at this place: a copy of a retained
--- publication has RETAIN 1
+-- whether the entry is the copy of the publication that was taken at this place; a copy of a
+-- retained publication has RETAIN 1
 abbrev pub is_from_publish : ℕ → Entry → Bool
 is_from_publish place entry = (made_of entry == place) && not (publication_in entry).retain
 

@@ -1,4 +1,4 @@
--- Which clients have a session, and whose current connection a connection is (MQTT 4.1).
+-- Which clients have a session, and which client a connection belongs to (MQTT 4.1).
 use Rattle.std.specs.Prelude.{◌≡◌, Bool, true, if◌then◌else◌, List, [], ◌∷◌, filter, Option, Some}
 use Rattle.std.specs.Prelude.{None, is_some}
 use Rattle.std.specs.Ordering.{match_ordering}
@@ -21,12 +21,12 @@ named_by (commands.Connect connection client clean) Mark.Accepted others =
     insert_client client others
 named_by _ _ others = others
 
--- the clients of accepted Connects, by bytes
+-- the clients of accepted Connects, in the order of their bytes
 unfoldable pub named : Past → List Client
 named [] = []
 named (place ∷ past) = named_by place.command place.mark (named past)
 
--- the clients with a session, by bytes
+-- the clients with a session, in the order of their bytes
 abbrev pub clients : Past → List Client
 clients past = filter (λ client. is_some (clean_session_of past client)) (named past)
 
@@ -42,6 +42,6 @@ owner_of past connection =
     (λ client. any_connection (same_connection connection) (current_connection past client))
     (clients past)
 
--- this is some client's current connection, so its packets count
+-- this is some client's current connection, so its packets have an effect
 abbrev pub IsLive : Past → ConnectionName → Type 0
 IsLive past connection = is_some (owner_of past connection) ≡ true

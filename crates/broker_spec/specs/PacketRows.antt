@@ -7,8 +7,8 @@ use Rattle.broker_spec.specs.Commands.{usual_limits}
 use Rattle.broker_spec.specs.RowWords.{AreAnswered, b, nth, gets, sends, connack, suback, unsubscribe, subscribed_at}
 use Rattle.broker_spec.specs.declared.command.Output.TheVariants.{Close}
 
--- PINGREQ is answered by PINGRESP, and UNSUBSCRIBE by UNSUBACK with or without the subscription
--- (MQTT 3.10.4, 3.12.4)
+-- PINGREQ is answered by PINGRESP, and UNSUBSCRIBE by UNSUBACK whether or not there is such a
+-- subscription (MQTT 3.10.4, 3.12.4)
 abbrev pub PingAndUnsubscribe : Type 0
 PingAndUnsubscribe =
     AreAnswered usual_limits (subscribed_at qos_levels.ExactlyOnce)

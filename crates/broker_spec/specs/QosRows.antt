@@ -1,5 +1,5 @@
--- Worked examples: at which QoS a publication is delivered, with which identifier and DUP flag, and
--- in which order copies are sent (MQTT 3.3.1, 3.3.5, 3.8.4, 4.3, 4.4).
+-- Worked examples: the QoS, identifier and DUP flag with which a publication is delivered, and the
+-- order of copies (MQTT 3.3.1, 3.3.5, 3.8.4, 4.3, 4.4).
 use Rattle.std.specs.Prelude.{true, false, List, [], ◌∷◌, ◌++◌, codes}
 use Rattle.packet_base.specs.declared.qos.QoS.{QoS}
 use Rattle.packet_base.specs.declared.qos.QoS.TheVariants as qos_levels
@@ -24,8 +24,8 @@ IsDeliveredAs granted sent answers =
 abbrev pub to_b : Delivery → Output
 to_b delivery = sends 1 (publish delivery false (codes "x"))
 
--- what is sent is answered by its own QoS and identifier; what is delivered has the lower QoS of
--- the publication and the subscription
+-- the acknowledgement follows the QoS and identifier of the PUBLISH; the delivery has the lower QoS
+-- of the publication and the subscription
 abbrev pub LowerQosIsDelivered : Type 0
 LowerQosIsDelivered =
     IsDeliveredAs qos_levels.AtMostOnce deliveries.AtMostOnce (to_b deliveries.AtMostOnce ∷ [])
@@ -44,10 +44,10 @@ LowerQosIsDelivered =
     × IsDeliveredAs qos_levels.ExactlyOnce (deliveries.ExactlyOnce false 8)
     (sends 2 (packets.Pubrec 8) ∷ to_b (deliveries.ExactlyOnce false 1) ∷ [])
 
--- ---- resending (MQTT 3.3.1.1, 4.4)
+-- ---- retransmission (MQTT 3.3.1.1, 4.4)
 
--- b does not answer x at QoS 2 and comes back, then releases it and comes back: PUBLISH with DUP 1,
--- then PUBREL
+-- b does not acknowledge x at QoS 2 and reconnects, then sends PUBREC and reconnects again: PUBLISH
+-- with DUP 1, then PUBREL
 abbrev pub ExactlyOnceIsSentAgain : Type 0
 ExactlyOnceIsSentAgain =
     AreAnswered usual_limits (subscribed_at qos_levels.ExactlyOnce)

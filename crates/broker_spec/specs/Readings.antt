@@ -1,11 +1,11 @@
--- What can be read from the entries of a session: origin, times, and what is in flight (MQTT 4.4).
+-- What the entries of a session say: origin, times, and what is in flight (MQTT 4.4).
 use Rattle.std.specs.Prelude.{ℕ, zero, suc, Bool, true, false, ◌==◌, if◌then◌else◌, List, [], ◌∷◌}
 use Rattle.std.specs.Prelude.{◌++◌, filter, Option, Some, None}
 use Rattle.session_base.specs.declared.publication.Publication.{Publication}
 use Rattle.broker_spec.specs.Entries.{Entry}
 
--- where an entry comes from: a PUBLISH taken at this place, or the retained publications when a
--- SUBSCRIBE came at it
+-- the origin of an entry: a PUBLISH that was taken at this place, or the retained publications at a
+-- SUBSCRIBE
 pub data Origin : Type 0 where
   FromPublish : (place : ℕ) → Origin  -- the PUBLISH was taken at this place
   FromRetained : (place : ℕ) → Origin  -- the SUBSCRIBE came at this place
@@ -44,7 +44,7 @@ release_place (Entry.Sent made publication id start) = None
 release_place (Entry.Released made publication id start release) = Some release
 release_place (Entry.Done made publication id start release finish) = release
 
--- the place at which an entry finished, if it did
+-- the place at which an entry was done, if it was
 abbrev pub finish_place : Entry → Option ℕ
 finish_place (Entry.Done made publication id start release finish) = Some finish
 finish_place _ = None
@@ -55,34 +55,34 @@ finish_place _ = None
 abbrev pub made_at : ℕ → List Entry → List Entry
 made_at place = filter (λ entry. made_of entry == place)
 
--- the identifiers of the entries that were released at this place and are not finished
+-- the identifiers of the entries that were released at this place and are not done
 abbrev pub released_at : ℕ → List Entry → List ℕ
 released_at place (Entry.Released made publication id start release ∷ entries) =
     if release == place then id ∷ released_at place entries else released_at place entries
 released_at place (_ ∷ entries) = released_at place entries
 released_at place [] = []
 
--- the identifiers that were released at all places below this one, in the order of their release
+-- the identifiers that were released below this place and are not done, in the order of release
 abbrev pub released_below : ℕ → List Entry → List ℕ
 released_below zero entries = []
 released_below (suc place) entries = released_below place entries ++ released_at place entries
 
--- whether an entry is started and neither released nor finished
+-- whether an entry is sent, and neither released nor done
 abbrev pub is_sent : Entry → Bool
 is_sent (Entry.Sent made publication id start) = true
 is_sent _ = false
 
--- the entries that are, in order
+-- the sent entries, in order
 abbrev pub sent_entries : List Entry → List Entry
 sent_entries = filter is_sent
 
--- the publications of the entries that wait, in order
+-- the publications of the queued entries, in order
 abbrev pub waiting_of : List Entry → List Publication
 waiting_of (Entry.Queued made publication ∷ entries) = publication ∷ waiting_of entries
 waiting_of (_ ∷ entries) = waiting_of entries
 waiting_of [] = []
 
--- the identifiers of the entries that are started and not finished, in order
+-- the identifiers of the entries that are started and not done, in order
 abbrev pub busy_ids : List Entry → List ℕ
 busy_ids (Entry.Sent made publication id start ∷ entries) = id ∷ busy_ids entries
 busy_ids (Entry.Released made publication id start release ∷ entries) = id ∷ busy_ids entries

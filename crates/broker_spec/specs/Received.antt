@@ -24,8 +24,8 @@ received_by (commands.Packet connection (packets.Pubrel id)) (Mark.Handled sende
     if same_client sender client then without_id id ids else ids
 received_by _ _ client ids = ids
 
--- The identifiers of a client's session whose last taken PUBLISH at QoS 2 has no PUBREL after it,
--- in rising order.
+-- the identifiers with which the client's session took a PUBLISH at QoS 2 and no PUBREL since,
+-- ascending
 unfoldable pub received_of : Past → Client → List ℕ
 received_of [] client = []
 received_of (place ∷ past) client =

@@ -20,14 +20,14 @@ retained_by (commands.Packet connection (packets.Publish publish)) (Mark.Taken c
     retains (publication_of publish) content
 retained_by _ _ content = content
 
--- for each topic, ordered by bytes, the last taken publication with RETAIN 1, none if its payload
--- is empty
+-- for each topic, in the order of bytes, the last taken publication with RETAIN 1; none if its
+-- payload is empty
 unfoldable pub retained_publications : Past → RetainedTopics
 retained_publications [] = []
 retained_publications (place ∷ past) =
     retained_by place.command place.mark (retained_publications past)
 
--- whether a publication would be retained on one topic more than the limit
+-- whether retaining the publication would exceed the topic limit
 abbrev pub is_retained_over : Limits → Past → Publication → Bool
 is_retained_over limits past publication =
     publication.retain && not (is_empty publication.payload)

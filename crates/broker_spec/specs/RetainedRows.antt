@@ -1,4 +1,4 @@
--- Worked examples: what is retained, and who gets it (MQTT 3.3.1.3).
+-- Worked examples: which publications are retained, and who is sent them (MQTT 3.3.1.3).
 use Rattle.std.specs.Prelude.{ℕ, Bool, true, false, List, [], ◌∷◌, ◌++◌, codes}
 use Rattle.packet_base.specs.declared.qos.QoS.{QoS}
 use Rattle.packet_base.specs.declared.qos.QoS.TheVariants as qos_levels
@@ -10,7 +10,8 @@ use Rattle.broker_spec.specs.RowWords.{subscribe, suback}
 use Rattle.broker_spec.specs.declared.command.Command.{Command}
 use Rattle.broker_spec.specs.declared.command.Output.{Output}
 
--- a sends these; then b subscribes to t/# at this QoS, and is sent this after SUBACK
+-- a sends these publications, b then subscribes to t/# at this QoS and is sent these outputs after
+-- SUBACK
 abbrev pub Retains : List Command → QoS → List Output → Type 0
 Retains sent asked answers =
     AreAnswered usual_limits (connect 2 a ∷ sent ++ connect 1 b ∷ [])
@@ -26,7 +27,7 @@ abbrev pub retained_to_b : Delivery → List ℕ → List Output
 retained_to_b delivery payload = sends 1 (publish delivery true payload) ∷ []
 
 -- a retained publication keeps its own QoS, 0 included, and is sent at the lower of that and the
--- QoS that is asked for
+-- requested one
 abbrev pub RetainedAtTheLowerQos : Type 0
 RetainedAtTheLowerQos =
     Retains (sent_by_a (deliveries.ExactlyOnce false 1) true (codes "x") ∷ [])

@@ -1,4 +1,5 @@
--- Worked example: the room that is left for retained copies to the later filters of a SUBSCRIBE.
+-- A worked example: the room for retained copies that earlier filters of a SUBSCRIBE leave to later
+-- ones.
 use Rattle.std.specs.Prelude.{true, false, [], ◌∷◌, ◌++◌, codes}
 use Rattle.packet_base.specs.declared.qos.QoS.TheVariants as qos_levels
 use Rattle.packet.specs.declared.delivery.Delivery.TheVariants as deliveries

@@ -16,7 +16,7 @@ use Rattle.broker_spec.specs.declared.command.Command.TheVariants as commands
 use Rattle.broker_spec.specs.declared.command.Output.{Output}
 use Rattle.broker_spec.specs.declared.command.Output.TheVariants.{Send}
 
--- after the earlier commands, the next ones are answered in this way
+-- after the earlier commands, the next ones have these answers
 abbrev pub AreAnswered : Limits → List Command → List Command → List (List Output) → Type 0
 AreAnswered limits earlier next answers =
     answers_from limits (past_of limits earlier) next ≡ answers
@@ -89,7 +89,7 @@ abbrev pub delivered : ℕ → Bool → List ℕ → List Output
 delivered number dup =
     map (λ id. sends number (publish (deliveries.AtLeastOnce dup id) false (codes "o")))
 
--- limits of a row: this many unfinished entries of a session, this many in flight at once
+-- the limits of an example: this many unfinished entries of a session, this many in flight
 abbrev pub small : ℕ → ℕ → Limits
 small entries window =
     record {

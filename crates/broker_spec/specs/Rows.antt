@@ -1,4 +1,4 @@
--- Worked examples: lists of commands, and the answers that the standard and this broker's profile
+-- Worked examples: lists of commands, and the answers that the standard and this broker's limits
 -- give.
 use Rattle.std.specs.Prelude.{true, false, List, [], ◌∷◌, ◌++◌, codes}
 use Rattle.packet_base.specs.declared.qos.QoS.TheVariants as qos_levels
@@ -22,14 +22,14 @@ SecondConnectionTakesOver =
     AreAnswered usual_limits (connect 1 a ∷ []) (connect 2 a ∷ [])
     ((Close (nth 1) ∷ sends 2 (connack true) ∷ []) ∷ [])
 
--- packets of a connection have no effect any more once its client has a newer one
+-- once a client has a newer connection, packets on the older one have no effect
 abbrev pub OlderConnectionIsSilent : Type 0
 OlderConnectionIsSilent =
     AreAnswered usual_limits (connect 1 a ∷ connect 2 a ∷ [])
     (gets 1 packets.Pingreq ∷ gets 2 packets.Pingreq ∷ [])
     ([] ∷ (sends 2 packets.Pingresp ∷ []) ∷ [])
 
--- SUBACK has the QoS that was asked for (MQTT 3.9.3)
+-- SUBACK has the requested QoS (MQTT 3.9.3)
 abbrev pub SubscribeIsGranted : Type 0
 SubscribeIsGranted =
     AreAnswered usual_limits (connect 1 b ∷ []) (gets 1 (subscribe 1 qos_levels.ExactlyOnce) ∷ [])
@@ -49,7 +49,7 @@ PublishReachesTheSubscriber =
     ((sends 2 (packets.Pubrec 1)
     ∷ sends 1 (publish (deliveries.ExactlyOnce false 1) false (codes "x")) ∷ []) ∷ [])
 
--- a PUBLISH at QoS 2 that is repeated before PUBREL: PUBREC again, and nothing to the subscriber
+-- a retransmission of a PUBLISH at QoS 2 before PUBREL: PUBREC again, and nothing to the subscriber
 -- (MQTT 4.3.3)
 abbrev pub RepeatBeforePubrel : Type 0
 RepeatBeforePubrel =
@@ -57,7 +57,7 @@ RepeatBeforePubrel =
     (gets 2 (publish (deliveries.ExactlyOnce true 1) false (codes "x")) ∷ [])
     ((sends 2 (packets.Pubrec 1) ∷ []) ∷ [])
 
--- a PUBLISH with DUP 1 after PUBREL: a publication like any other (MQTT 3.3.1.1, 4.3.3)
+-- a PUBLISH with DUP 1 after PUBREL is a new publication (MQTT 3.3.1.1, 4.3.3)
 abbrev pub DupAfterPubrel : Type 0
 DupAfterPubrel =
     AreAnswered usual_limits (published_x ++ gets 2 (packets.Pubrel 1) ∷ [])
@@ -72,8 +72,8 @@ PubrelTwice =
     (gets 2 (packets.Pubrel 1) ∷ gets 2 (packets.Pubrel 1) ∷ [])
     ((sends 2 (packets.Pubcomp 1) ∷ []) ∷ (sends 2 (packets.Pubcomp 1) ∷ []) ∷ [])
 
--- a publication with RETAIN 1 is sent with RETAIN 0 to those who subscribed before, and with RETAIN
--- 1 to those who subscribe after (MQTT 3.3.1.3)
+-- a publication with RETAIN 1 is sent with RETAIN 0 to clients that subscribed before, and with
+-- RETAIN 1 to those that subscribe later (MQTT 3.3.1.3)
 abbrev pub RetainedAtSubscribe : Type 0
 RetainedAtSubscribe =
     AreAnswered usual_limits (subscribed_at qos_levels.ExactlyOnce)

@@ -1,4 +1,4 @@
--- What a session's client is sent for its entries (MQTT 3.3.1.1, 4.3, 4.4).
+-- What a client is sent for the entries of its session (MQTT 3.3.1.1, 4.3, 4.4).
 use Rattle.std.specs.Prelude.{ℕ, Bool, true, false, ◌==◌, if◌then◌else◌, List, [], ◌∷◌, ◌++◌}
 use Rattle.std.specs.Prelude.{length, map, take, drop, flat_map, Option, Some, None}
 use Rattle.packet.specs.declared.packet.Packet.TheVariants as packets
@@ -28,22 +28,22 @@ first_output connection place _ = []
 abbrev pub all_started : ConnectionName → ℕ → List Entry → List Output
 all_started connection place = flat_map (first_output connection place)
 
--- an entry that started below this place, and is not answered, is sent again with DUP 1 (MQTT 4.4)
+-- the retransmission, with DUP 1, of an entry that was sent below this place and is not
+-- acknowledged (MQTT 4.4)
 abbrev pub repeated_output : ConnectionName → ℕ → Entry → List Output
 repeated_output connection place (Entry.Sent made publication id start) =
     if start == place then [] else publish_output connection true id publication ∷ []
 repeated_output connection place _ = []
 
--- What a client that comes back at this place is sent: PUBREL for what is released and not
--- finished, in the order of release; then what was sent before, in order; then what starts now
--- (MQTT 4.4).
+-- What a client that reconnects at this place is sent: PUBREL for each released entry, in the order
+-- of release; then the sent entries, in order; then what starts now (MQTT 4.4).
 abbrev pub resent_outputs : ConnectionName → ℕ → List Entry → List Output
 resent_outputs connection place entries =
     map (λ id. Send connection (packets.Pubrel id)) (released_below place entries)
     ++ flat_map (repeated_output connection place) entries ++ all_started connection place entries
 
 -- What a connection is sent for the copies that this place made, in order: each copy at QoS 0 at
--- once, and each other if its entry starts here. The entries are those that the place made, in
+-- once, and each other one if its entry starts here. The entries are those that the place made, in
 -- order.
 abbrev pub copy_outputs : ConnectionName → ℕ → List Publication → List Entry → List Output
 copy_outputs connection place (publication ∷ copies) entries =
@@ -54,7 +54,7 @@ copy_outputs connection place (publication ∷ copies) entries =
     ∷ copy_outputs connection place copies entries
 copy_outputs connection place [] entries = []
 
--- a client without a connection is sent nothing
+-- the same for a client that may have no connection: then nothing
 abbrev pub handed_to : Option ConnectionName → ℕ → List Publication → List Entry → List Output
 handed_to (Some connection) place copies entries = copy_outputs connection place copies entries
 handed_to None place copies entries = []

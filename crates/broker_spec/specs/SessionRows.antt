@@ -1,5 +1,5 @@
 -- Worked examples: where a session begins and ends, which PUBLISH at QoS 2 is new in it, and which
--- connection of a client is live (MQTT 3.1.2.4, 3.1.4, 4.1, 4.3.3).
+-- connection of a client is current (MQTT 3.1.2.4, 3.1.4, 4.1, 4.3.3).
 use Rattle.std.specs.Prelude.{◌≡◌, ℕ, Bool, true, false, List, [], ◌∷◌, codes, Option, Some, None}
 use Rattle.packet.specs.declared.delivery.Delivery.TheVariants as deliveries
 use Rattle.packet.specs.declared.packet.Packet.TheVariants as packets
@@ -19,7 +19,7 @@ use Rattle.broker_spec.specs.declared.command.Command.TheVariants as commands
 abbrev pub connect_clean : ℕ → Client → Command
 connect_clean number client = commands.Connect (nth number) client true
 
--- after these commands the session of a is the one that began at this place
+-- after these commands, the session of a began at this place
 abbrev pub SessionBegan : List Command → Option ℕ → Type 0
 SessionBegan commands start = session_start (past_of usual_limits commands) a ≡ start
 
@@ -44,7 +44,7 @@ EndsSession earlier next ended =
     ends_session (place_of usual_limits (past_of usual_limits earlier) next)
     (past_of usual_limits earlier) a ≡ ended
 
--- a session ends at a clean Connect, and where a clean one loses its connection
+-- a session ends at a clean Connect, and a clean one where its connection ends
 abbrev pub SessionsEnd : Type 0
 SessionsEnd =
     EndsSession [] (connect 1 a) false × EndsSession (connect 1 a ∷ []) (connect 2 a) false
@@ -55,7 +55,7 @@ SessionsEnd =
     × EndsSession (connect_clean 1 a ∷ []) (commands.Lost (nth 1)) true
     × EndsSession (connect_clean 1 a ∷ []) (commands.Lost (nth 2)) false
 
--- the session of places 0 and 1 is over at place 2, where the next one begins
+-- the session of places 0 and 1 ends at place 2, where the next one begins
 abbrev pub PlacesStandInSessions : Type 0
 PlacesStandInSessions =
     let past = past_of usual_limits (connect 1 a ∷ gets 1 packets.Pingreq ∷ connect_clean 2 a ∷ [])
@@ -64,13 +64,13 @@ PlacesStandInSessions =
 
 -- ---- what counts
 
--- the mark of the next command after the earlier ones
+-- whether the next command brings a new publication after the earlier ones
 abbrev pub IsNewAfter : List Command → Command → Bool → Type 0
 IsNewAfter earlier next new =
     is_new next (mark_of usual_limits (past_of usual_limits earlier) next) ≡ new
 
--- a QoS 2 PUBLISH brings a new publication unless it is a repeat or on no current connection; one
--- at QoS 1 is taken each time, and is not counted as new
+-- a QoS 2 PUBLISH brings a new publication unless it is a repeat or not on a current connection;
+-- one at QoS 1 is taken each time and not counted as new
 abbrev pub NewOnce : Type 0
 NewOnce =
     IsNewAfter (connect 2 a ∷ [])

@@ -1,5 +1,5 @@
--- What a list of commands says about connections and sessions (MQTT 3.1.2.4, 3.1.4, 3.14.4, 4.1).
--- Every question is about a past, so what holds at a place is decided by the places below it.
+-- Connections and sessions of a list of commands (MQTT 3.1.2.4, 3.1.4, 3.14.4, 4.1). Every question
+-- is about a past, so the places below a place decide what holds at it.
 use Rattle.std.specs.Prelude.{◌≡◌, ℕ, ◌-◌, suc, Bool, true, false, ◌&&◌, ◌||◌, not, if◌then◌else◌}
 use Rattle.std.specs.Prelude.{[], ◌∷◌, length, drop, Option, Some, None, is_some}
 use Rattle.broker_spec.specs.Connection.{ConnectionName, same_connection}
@@ -30,7 +30,7 @@ ends (commands.Lost on) mark connection = same_connection on connection
 ends (commands.Start ballot) mark connection = true
 ends (commands.Expel client) mark connection = false
 
--- whether a command ends the client's session, and its connection with it
+-- whether a command expels the client: its session ends, and its connection with it
 abbrev pub expels : Command → Client → Bool
 expels (commands.Expel other) client = same_client other client
 expels _ client = false
@@ -51,7 +51,7 @@ abbrev pub newest_connection : Option (ConnectionName × Bool) → Bool → Opti
 newest_connection (Some opened) over old = Some opened.0
 newest_connection None over old = only_if (not over) old
 
--- the connection on which a client is served: that of its last accepted Connect, unless ended since
+-- a client's current connection: that of its last accepted Connect, unless it has ended since
 unfoldable pub current_connection : Past → Client → Option ConnectionName
 current_connection [] client = None
 current_connection (place ∷ past) client =
@@ -60,8 +60,8 @@ current_connection (place ∷ past) client =
 
 -- ---- sessions
 
--- The session, as its CleanSession flag: an accepted Connect leaves one with its own flag, an Expel
--- of its client none; a clean one ends with its connection.
+-- The session as its CleanSession flag: after an accepted Connect the flag of that one, after an
+-- Expel of the client none; a clean session ends with its connection.
 abbrev pub newest_clean_session : Option (ConnectionName × Bool) → Bool → Bool → Option Bool →
     Option Bool
 newest_clean_session (Some opened) expelled over old = Some opened.1
@@ -69,14 +69,14 @@ newest_clean_session None expelled over (Some clean) =
     only_if (not (expelled || (clean && over))) (Some clean)
 newest_clean_session None expelled over None = None
 
--- the session of a client: its CleanSession flag, or none (MQTT 3.1.2.4)
+-- the CleanSession flag of a client's session, if it has one (MQTT 3.1.2.4)
 unfoldable pub clean_session_of : Past → Client → Option Bool
 clean_session_of [] client = None
 clean_session_of (place ∷ past) client =
     newest_clean_session (accepts place.command place.mark client) (expels place.command client)
     (ends_any place client (current_connection past client)) (clean_session_of past client)
 
--- whether an accepted Connect begins a session: there is no old one, or one of the two is clean
+-- whether an accepted Connect begins a session: there is none, or it or the Connect is clean
 abbrev pub begins_session : Bool → Option Bool → Bool
 begins_session clean None = true
 begins_session clean (Some old) = clean || old
@@ -91,7 +91,7 @@ abbrev pub begins : Place → Past → Client → Bool
 begins place past client =
     is_beginning (accepts place.command place.mark client) (clean_session_of past client)
 
--- the place ends the client's session: another begins, or none is left
+-- the place ends the client's session: another one begins, or none is left
 abbrev pub ends_session : Place → Past → Client → Bool
 ends_session place past client =
     is_some (clean_session_of past client)
@@ -115,6 +115,6 @@ session_start (place ∷ past) client =
 abbrev pub below : ℕ → Past → Past
 below place past = drop (length past - place) past
 
--- this place lies in the client's session that began at `start`; the place that ends it is outside
+-- this place is in the client's session that began at `start`; the place that ends it is not
 abbrev pub StandsIn : Past → ℕ → Client → ℕ → Type 0
 StandsIn past place client start = session_start (below (suc place) past) client ≡ Some start

@@ -14,11 +14,11 @@ use Rattle.session_base.specs.Subscriptions.{without_filters, granted_qos}
 use Rattle.broker_spec.specs.declared.command.Command.{Command}
 use Rattle.broker_spec.specs.declared.command.Command.TheVariants as commands
 
--- a filter of a SUBSCRIBE with the QoS that it asks for, as a session holds it
+-- a requested subscription, as a session holds it
 abbrev pub as_granted : Subscription → GrantedSubscription
 as_granted subscription = (subscription.filter, subscription.qos)
 
--- the QoS at which a session's list has exactly this filter
+-- the QoS of exactly this filter in a list of subscriptions
 abbrev pub qos_asked : List ℕ → List GrantedSubscription → Option QoS
 qos_asked filter (subscription ∷ more) =
     if bytes_eq filter subscription.0 then Some subscription.1 else qos_asked filter more
@@ -44,7 +44,7 @@ subscriptions_after (commands.Packet connection (packets.Unsubscribe unsubscribe
     else subscriptions
 subscriptions_after _ _ client subscriptions = subscriptions
 
--- The subscriptions of a client's session: each filter with the QoS of its last granting, unless it
+-- The subscriptions of a client's session: each filter with the QoS of its last grant, unless it
 -- was removed since; in the order in which they were first granted.
 unfoldable pub subscriptions_of : Past → Client → List GrantedSubscription
 subscriptions_of [] client = []
@@ -52,7 +52,7 @@ subscriptions_of (place ∷ past) client =
     in_session (clean_session_of (place ∷ past) client) (begins place past client) []
     (subscriptions_after place.command place.mark client (subscriptions_of past client))
 
--- the QoS at which a client's session gets a publication, none if no filter of it matches (MQTT
+-- the QoS at which a client's session gets a publication; none if no filter of it matches (MQTT
 -- 3.3.5)
 abbrev pub effective_qos : Past → Client → Publication → Option QoS
 effective_qos past client publication =

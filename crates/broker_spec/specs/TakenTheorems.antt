@@ -1,4 +1,4 @@
--- What readers may want to know about the places that take a publication (MQTT 3.3.5, 4.3.3).
+-- Theorems about the places that take a publication (MQTT 3.3.5, 4.3.3).
 use Rattle.std.specs.Prelude.{◌≡◌, Bool, true, false, List, [], ◌∷◌, length, filter, map}
 use Rattle.std.specs.Prelude.{Option, Some}
 use Rattle.packet_base.specs.declared.qos.QoS.{QoS}
@@ -23,8 +23,8 @@ abbrev pub takes_publication : Command → Mark → Bool
 takes_publication (commands.Packet connection (packets.Publish publish)) (Mark.Taken client) = true
 takes_publication _ _ = false
 
--- a publication as a session gets it at this QoS, if it is queued: its topic and payload, and
--- RETAIN 0 (MQTT 3.3.1.3)
+-- the copy of a publication at this QoS if it is queued: its topic and payload, and RETAIN 0 (MQTT
+-- 3.3.1.3)
 abbrev pub queued_at : Publication → Option QoS → List Publication
 queued_at publication (Some qos_levels.AtLeastOnce) =
     record {

@@ -1,5 +1,4 @@
--- What readers may want to know about the definitions: connections, received identifiers and
--- subscriptions.
+-- Theorems about connections, received identifiers and subscriptions.
 use Rattle.std.specs.Prelude.{◌≡◌, ◌↔◌, ℕ, Bool, true, false, ◌&&◌, ◌==◌, if◌then◌else◌, List, []}
 use Rattle.std.specs.Prelude.{◌∷◌, ◌++◌, bytes_eq, Option, Some, None, option_map}
 use Rattle.std.specs.List.{AllByRecursion, list_any}
@@ -36,7 +35,7 @@ pub record WasOpened (past : Past) (client : Client) (connection : ConnectionNam
   pub opened : accepts place.command place.mark client ≡ Some (connection, clean)
   pub kept : AllByRecursion (KeepsConnection client connection) later
 
--- a client is served on the connection of its last accepted Connect, unless that was ended since
+-- a client's current connection is that of its last accepted Connect, unless it has ended since
 -- (MQTT 3.1.4)
 abbrev pub CurrentIsLastAccepted : Type 0
 CurrentIsLastAccepted =
@@ -50,8 +49,8 @@ abbrev pub brings : ℕ → Delivery → Bool
 brings id (deliveries.ExactlyOnce dup other) = id == other
 brings id _ = false
 
--- what a command does to an identifier: a taken PUBLISH at QoS 2 of the client, a PUBREL of it, or
--- nothing
+-- the effect of a command on an identifier: a taken PUBLISH at QoS 2 of the client (true), a PUBREL
+-- of it (false), or none
 abbrev pub says_of : Command → Mark → Client → ℕ → Option Bool
 says_of (commands.Packet connection (packets.Publish publish)) (Mark.Taken sender) client id =
     if same_client sender client && brings id publish.delivery then Some true else None
@@ -92,7 +91,7 @@ last_qos filter (subscription ∷ more) = either (last_qos filter more)
     (if bytes_eq filter subscription.filter then Some subscription.qos else None)
 last_qos filter [] = None
 
--- what a command does to a filter of the client: granted at a QoS, removed, or nothing
+-- the effect of a command on a filter of the client: granted at a QoS, removed, or none
 abbrev pub word_on : Command → Mark → Client → List ℕ → Option (Option QoS)
 word_on (commands.Packet connection (packets.Subscribe subscribe)) (Mark.Granted sender which)
     client filter =
@@ -105,7 +104,7 @@ word_on (commands.Packet connection (packets.Unsubscribe unsubscribe)) (Mark.Han
     then Some None else None
 word_on _ _ client filter = None
 
--- the QoS of a filter's last granting in the session, none if it was removed since
+-- the QoS of a filter's last grant in the session; none if it was removed since
 unfoldable pub last_granting : Past → Client → List ℕ → Option QoS
 last_granting [] client filter = None
 last_granting (place ∷ past) client filter =
@@ -113,7 +112,7 @@ last_granting (place ∷ past) client filter =
     (newer_of_two (word_on place.command place.mark client filter)
     (last_granting past client filter))
 
--- a session's filters have the QoS of their last granting (MQTT 3.8.4, 3.10.4)
+-- a session's filters have the QoS of their last grant (MQTT 3.8.4, 3.10.4)
 abbrev pub FilterHasLastGranting : Type 0
 FilterHasLastGranting =
     (past : Past) (client : Client) (filter : List ℕ)

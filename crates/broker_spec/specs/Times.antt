@@ -1,4 +1,4 @@
--- When the entries of a session start, are released and finish (MQTT 4.3.2, 4.3.3, 4.4, 4.6).
+-- When the entries of a session start, are released and are done (MQTT 4.3.2, 4.3.3, 4.4, 4.6).
 use Rattle.std.specs.Prelude.{ℕ, ◌-◌, not, ◌&&◌, ◌==◌, nat_lt, if◌then◌else◌, List, [], ◌∷◌, ◌++◌}
 use Rattle.std.specs.Prelude.{length, map, filter, Option, Some, None}
 use Rattle.packet.specs.declared.packet.Packet.TheVariants as packets
@@ -11,7 +11,7 @@ use Rattle.broker_spec.specs.Entries.{Entry, copies_at, queued, is_unfinished}
 use Rattle.broker_spec.specs.declared.command.Command.{Command}
 use Rattle.broker_spec.specs.declared.command.Command.TheVariants as commands
 
--- ---- what the client's answers do, at a place
+-- ---- acknowledgements at a place
 
 -- PUBACK finishes a QoS 1 entry with this identifier (MQTT 4.3.2)
 abbrev pub at_puback : ℕ → ℕ → Entry → Entry
@@ -29,14 +29,14 @@ at_pubrec place id (Entry.Sent made publication other start) =
     else Entry.Sent made publication other start
 at_pubrec place id entry = entry
 
--- PUBCOMP finishes a released one (MQTT 4.3.3)
+-- PUBCOMP finishes a released entry (MQTT 4.3.3)
 abbrev pub at_pubcomp : ℕ → ℕ → Entry → Entry
 at_pubcomp place id (Entry.Released made publication other start release) =
     if id == other then Entry.Done made publication other start (Some release) place
     else Entry.Released made publication other start release
 at_pubcomp place id entry = entry
 
--- an answer of the client at a place
+-- the entries after an acknowledgement of the client at a place
 abbrev pub answered_by : Command → Mark → ℕ → Client → List Entry → List Entry
 answered_by (commands.Packet connection (packets.Puback id)) (Mark.Handled sender)
     place client entries =
@@ -51,9 +51,9 @@ answered_by _ _ place client entries = entries
 
 -- ---- what starts
 
--- Goes along the entries with the identifiers of the earlier unfinished ones. An entry that waits
--- starts if fewer than the window are unfinished before it, with the least identifier that none of
--- them has; otherwise no later one starts (MQTT 4.6).
+-- Goes along the entries with the identifiers of the earlier unfinished ones. A queued entry starts
+-- if fewer than the window are unfinished before it, with the least identifier that none of them
+-- has; otherwise no later one starts (MQTT 4.6).
 abbrev pub start_all : ℕ → ℕ → List ℕ → List Entry → List Entry
 start_all window place busy (Entry.Queued made publication ∷ entries) =
     if nat_lt (length busy) window
@@ -75,12 +75,13 @@ started window place None entries = entries
 
 -- ---- the entries
 
--- how many entries of a session may be in flight at once, after these places
+-- the most entries of a session in flight, after these places
 abbrev pub window_at : Limits → Past → ℕ
 window_at limits past = limits.window past
 
 -- The entries of a client's session, in the order in which they were made. A place first applies
--- the client's answer, then adds the entries that it makes, and then starts what may start.
+-- the client's acknowledgement, then adds the entries that it makes, and then starts what may
+-- start.
 unfoldable pub entries_of : Limits → Past → Client → List Entry
 entries_of limits [] client = []
 entries_of limits (place ∷ past) client =

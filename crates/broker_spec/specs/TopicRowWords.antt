@@ -1,4 +1,4 @@
--- Words of worked examples on several topics and filters.
+-- Definitions for the worked examples on several topics and filters.
 use Rattle.std.specs.Prelude.{ℕ, Bool, true, false, List, map, codes}
 use Rattle.packet_base.specs.declared.qos.QoS.{QoS}
 use Rattle.packet.specs.declared.delivery.Delivery.{Delivery}

@@ -1,4 +1,4 @@
--- The possible windows: how many entries of a session are in flight at most (MQTT 4.6).
+-- The two sizes of the window, the most entries of a session in flight (MQTT 4.6).
 use Rattle.std.specs.Prelude.{ℕ, ◌==◌, ◌||◌, Bool, IsTrue, if◌then◌else◌, Option, Some, None}
 use Rattle.broker_spec.specs.declared.window.TheConstants.{NARROW_WINDOW, WIDE_WINDOW}
 

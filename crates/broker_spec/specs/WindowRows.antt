@@ -13,7 +13,7 @@ abbrev pub routed : ℕ → List Command
 routed many = subscribed_at qos_levels.AtLeastOnce ++ publications many
 
 -- with a window of 16 the 17th publication waits, is sent with the identifier that PUBACK frees,
--- and comes last when b connects again (MQTT 4.4, 4.6)
+-- and comes last when b reconnects (MQTT 4.4, 4.6)
 abbrev pub PubackFreesItsIdentifier : Type 0
 PubackFreesItsIdentifier =
     AreAnswered (limits_from 16) (routed 17) (gets 1 (packets.Puback 5) ∷ connect 3 b ∷ [])

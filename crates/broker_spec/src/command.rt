@@ -1,4 +1,4 @@
-// The commands of the broker's replicated log, and the outputs for them.
+// The commands of the broker's replicated log, and their outputs.
 
 ghost use Rattle.std.specs.Prelude.{◌≡◌, IfOk};
 ghost use Rattle.broker_spec.specs.Logged.{IsBrokerCommand};
@@ -12,16 +12,15 @@ use std::alloc::AllocError;
 /// A command of the broker's log.
 #[derive(Debug, Drop)]
 pub enum Command {
-    /// A client opens a connection by a CONNECT; the flag is CleanSession (MQTT 3.1.2.4).
+    /// A client opened a connection by a CONNECT; the flag is CleanSession (MQTT 3.1.2.4).
     Connect(ConnectionName, ClientId, bool),
     /// A packet arrived on a connection, after the CONNECT that is its first packet.
     Packet(ConnectionName, SizedPacket),
     /// A connection was lost: closed by the client without a DISCONNECT, or by its node.
     Lost(ConnectionName),
-    /// A new ballot begins: the connections of earlier ballots have ended.
+    /// A new ballot begins; the connections of earlier ballots have ended.
     Start(u64),
-    /// An administrator ends the session of this client, if there is one, and its connection with
-    /// it.
+    /// An administrator ends this client's session, if it has one, and its connection.
     Expel(ClientId),
 }
 
@@ -66,11 +65,11 @@ impl Command {
     }
 }
 
-/// An output of the broker for a command.
+/// An output of a command.
 #[derive(Debug, PartialEq, Eq, Drop)]
 pub enum Output {
-    /// The packet goes to the client of this connection.
+    /// Send this packet on this connection.
     Send(ConnectionName, Packet),
-    /// The connection is closed, after what was sent on it before.
+    /// Close this connection after what was sent on it before.
     Close(ConnectionName),
 }

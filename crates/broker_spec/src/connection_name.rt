@@ -1,4 +1,4 @@
-// The name of a Network Connection, which no other connection of any node ever gets.
+// Names of Network Connections, which are never used twice.
 
 ghost use Rattle.std.specs.Prelude.{◌≡◌, ◌<◌, ◌≤◌, ◌^◌, ◌↔◌, IsNone, IfSome, IsSome};
 ghost use Rattle.broker_spec.specs.Connection.{IsConnectionName};
@@ -33,8 +33,8 @@ impl std::marker::Model for ConnectionName {
 }
 
 impl ConnectionName {
-    /// Returns the connection with this number in this ballot, or none if one of them is out of
-    /// range. The range is 1 to 2^32 for the ballot, 1 to 2^40 for the number.
+    /// Returns the connection with this number in this ballot, or `None` if the ballot is not in 1
+    /// to 2^32 or the number not in 1 to 2^40.
     pub fn new(ballot: u64, count: u64) -> Option<ConnectionName>
         ensures named { IfSome result (λ name. name ≡ record { ballot = ballot; count = count }) }
         ensures valid { IsSome result

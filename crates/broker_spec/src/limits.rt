@@ -1,4 +1,4 @@
-// How much a broker holds. What a session and the retained publications hold is in `session_base`
+// The limits of a broker. Those of a session and of the retained publications are in `session_base`
 // and `retained`.
 
 /// The most sessions of a broker.

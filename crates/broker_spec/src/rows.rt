@@ -47,8 +47,8 @@ pub fn publish_reaches_the_subscriber()
     ensures { PublishReachesTheSubscriber }
 {}
 
-/// Shows that a PUBLISH that comes again is a repeat until PUBREL, and not after it, whatever its
-/// DUP flag says (MQTT 3.3.1.1, 4.3.3).
+/// Shows that a retransmitted PUBLISH is a repeat until PUBREL, and not after it, whatever its DUP
+/// flag says (MQTT 3.3.1.1, 4.3.3).
 pub fn a_repeat_before_pubrel()
     ensures repeat { RepeatBeforePubrel }
     ensures other { DupAfterPubrel }
@@ -64,21 +64,21 @@ pub fn retained_at_subscribe()
     ensures { RetainedAtSubscribe }
 {}
 
-/// Shows that two matching filters of a client bring a publication once, at the greater QoS (MQTT
+/// Shows that a client with two matching filters gets a publication once, at the greater QoS (MQTT
 /// 3.3.5).
 pub fn two_filters_one_publication()
     ensures { TwoFiltersOnePublication }
 {}
 
 /// Shows that a publication for which one session has no room is refused and its connection closed,
-/// so that the publisher's later ones cannot pass it.
+/// so that the publisher's later publications cannot overtake it.
 pub fn a_full_queue_keeps_the_order()
     ensures refuses { FullQueueRefuses }
     ensures goes_on { FullQueueGoesOn }
     ensures order { FullQueueKeepsTheOrder }
 {}
 
-/// Shows that PINGREQ and UNSUBSCRIBE are answered, and a violation closes the connection (MQTT
+/// Shows the answers to PINGREQ and UNSUBSCRIBE, and that a violation closes the connection (MQTT
 /// 3.10.4, 3.12.4, 4.8).
 pub fn ping_unsubscribe_and_violations()
     ensures answered { PingAndUnsubscribe }
@@ -91,8 +91,8 @@ pub fn puback_frees_its_identifier()
     ensures { PubackFreesItsIdentifier }
 {}
 
-/// Shows that, with a window of 64, 64 entries of a session are in flight at once. With a window
-/// that grows from 16 at a new ballot, this is so from the first ballot on that begins.
+/// Shows that, with a window of 64, 64 entries of a session are in flight at once; and that a
+/// window of 16 becomes 64 at the first ballot that begins.
 pub fn window_of_64()
     ensures wide { WideWindowSendsAll }
     ensures seventy { WindowOf64 }
@@ -126,8 +126,7 @@ pub fn last_publication_is_retained()
     ensures last { LastPutIsRetained }
 {}
 
-/// Shows that a client that comes back is sent what it has not answered: PUBLISH with DUP 1, or
-/// PUBREL (MQTT 4.4).
+/// Shows the retransmissions for a reconnecting client: PUBLISH with DUP 1, or PUBREL (MQTT 4.4).
 pub fn exactly_once_is_sent_again()
     ensures { ExactlyOnceIsSentAgain }
 {}
@@ -140,8 +139,8 @@ pub fn sessions_begin_and_end()
     ensures places { PlacesStandInSessions }
 {}
 
-/// Shows that an expelled client's connection is closed, and its session is removed with all that
-/// was kept in it: the client finds none when it comes back (MQTT 3.1.2.4, 4.1).
+/// Shows that the connection of an expelled client is closed and its session removed with
+/// everything in it: the client finds none when it reconnects (MQTT 3.1.2.4, 4.1).
 pub fn an_expelled_session_is_gone()
     ensures once { ExpelledOnce }
     ensures nothing { NothingIsLeft }
@@ -156,8 +155,8 @@ pub fn last_connection_is_live()
     ensures violation { ConnectOnACurrentConnection }
 {}
 
-/// Shows that each entry has the places at which it was made, started, was released and finished,
-/// and a QoS 2 publication is new once (MQTT 4.3).
+/// Shows the places at which entries are made, started, released and finished, and that a QoS 2
+/// publication is new only once (MQTT 4.3).
 pub fn entries_have_their_places()
     ensures places { EntriesHaveTheirPlaces }
     ensures new { NewOnce }

@@ -10,11 +10,11 @@ use std::error::Error;
 use std::fmt;
 use std::marker::Model;
 
-/// A packet that can be written down, as a packet in a log has to be: its body has at most
-/// `MAX_BODY` bytes and none of its lists is empty. Its value in contracts is the packet.
+/// A packet that can be encoded, as every packet of a log must be: its body has at most `MAX_BODY`
+/// bytes and none of its lists is empty. Its value in contracts is the packet.
 #[derive(Debug)]
 pub struct SizedPacket {
-    // The packet itself: it has none of the faults of [`Unspellable`].
+    // Satisfies what [`Unspellable`] lists.
     packet: Packet,
 }
 
@@ -35,12 +35,12 @@ impl Model for SizedPacket {
     ghost invariant = { λ sized. IsSized sized.packet };
 }
 
-/// Why a packet cannot be written down.
+/// Why a packet cannot be encoded.
 #[derive(Clone, Copy, Debug, PartialEq, Eq)]
 pub enum Unspellable {
     /// Its body has more than `MAX_BODY` bytes, this broker's own limit.
     TooLarge,
-    /// A SUBSCRIBE, SUBACK or UNSUBSCRIBE without an entry (MQTT 3.8.3, 3.9.3, 3.10.3).
+    /// A SUBSCRIBE, SUBACK or UNSUBSCRIBE with an empty list (MQTT 3.8.3, 3.9.3, 3.10.3).
     Shape,
 }
 
@@ -68,8 +68,8 @@ impl fmt::Display for Unspellable {
 impl Error for Unspellable {}
 
 impl SizedPacket {
-    /// Returns this packet, if it can be written down. `TooLarge` comes exactly if its body has
-    /// more than `MAX_BODY` bytes, `Shape` if only a list of it is empty.
+    /// Returns this packet, if it can be encoded. `TooLarge` comes exactly if its body has more
+    /// than `MAX_BODY` bytes, `Shape` if it has not and a list of it is empty.
     pub fn new(packet: Packet) -> Result<SizedPacket, Unspellable>
         ensures value { IfOk result (λ sized. sized ≡ packet) }
         ensures ok { IsOk result ↔ IsSized packet }

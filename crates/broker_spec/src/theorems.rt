@@ -1,4 +1,4 @@
-// Laws of the definitions, each the contract of a function that does nothing.
+// Theorems about the definitions, each the contract of a function that does nothing.
 
 ghost use Rattle.broker_spec.specs.Theorems.{CurrentIsLastAccepted, FilterHasLastGranting};
 ghost use Rattle.broker_spec.specs.Theorems.{RepeatIsUnreleased};
@@ -18,32 +18,32 @@ pub fn current_is_last_accepted()
     ensures { CurrentIsLastAccepted }
 {}
 
-/// States that each filter of a session has the QoS of its last granting, unless it was removed
-/// since (MQTT 3.8.4, 3.10.4).
+/// States that each filter of a session has the QoS of its last grant, unless it was removed since
+/// (MQTT 3.8.4, 3.10.4).
 pub fn filter_has_last_granting()
     ensures { FilterHasLastGranting }
 {}
 
-/// States that a PUBLISH at QoS 2 is a repeat exactly if the session took one with its identifier,
-/// and no PUBREL with it came after that (MQTT 4.3.3).
+/// States that a PUBLISH at QoS 2 is a repeat exactly if the session took one with its identifier
+/// and no PUBREL with it came since (MQTT 4.3.3).
 pub fn repeat_is_unreleased()
     ensures { RepeatIsUnreleased }
 {}
 
-/// States that an entry waits only if its client has no connection, or if the window is full of the
-/// entries before it (MQTT 4.6).
+/// States that an entry waits only if its client is not connected, or if the entries before it fill
+/// the window (MQTT 4.6).
 pub fn nothing_waits_in_vain()
     ensures { NothingWaitsInVain }
 {}
 
-/// States that while a session lasts its entries keep their order, identifiers and times, an entry
-/// that has started stays started, and new entries are appended.
+/// States that while a session lasts its entries keep their order, identifiers and times, that an
+/// entry that has started stays started, and that new entries are appended.
 pub fn entries_only_grow()
     ensures { EntriesOnlyGrow }
 {}
 
-/// States that the identifiers of what is in flight in a session are distinct, from 1 to the
-/// window, and what waits comes after it (MQTT 2.3.1).
+/// States that the identifiers in flight in a session are distinct and from 1 to the window, and
+/// that waiting entries come after those in flight (MQTT 2.3.1).
 pub fn identifiers_are_distinct()
     ensures distinct { IdentifiersAreDistinct }
     ensures window { IdentifiersAreInTheWindow }
@@ -63,28 +63,28 @@ pub fn publication_enters()
     ensures { PublicationEnters }
 {}
 
-/// States that a publication enters a session at most once, also if several filters match or it is
-/// sent again (MQTT 3.3.5, 4.3.3).
+/// States that a publication enters a session at most once, even if several filters match or it is
+/// retransmitted (MQTT 3.3.5, 4.3.3).
 pub fn enters_once()
     ensures { EntersOnce }
 {}
 
-/// States that a packet on a connection that is no client's current one changes nothing and is not
-/// answered (MQTT 3.1.4).
+/// States that a packet on a connection that is no client's current one changes nothing and has no
+/// answer (MQTT 3.1.4).
 pub fn packet_of_nobody_is_nothing()
     ensures nothing { PacketOfNobodyIsNothing }
     ensures steady { WindowIsSteady }
 {}
 
 /// States that each answer goes to the connection that the command names, or is a PUBLISH or a
-/// Close to some client's current connection.
+/// Close on some client's current connection.
 pub fn answers_are_addressed()
     ensures { AnswersAreAddressed }
 {}
 
-/// States that an entry starts only if its client has a connection and fewer entries than the
-/// window are in flight before it. It gets the least identifier that none of these has (MQTT 2.3.1,
-/// 4.6).
+/// States that an entry starts only if its client is connected and fewer entries than the window
+/// are in flight before it, and that it gets the least identifier that none of these has (MQTT
+/// 2.3.1, 4.6).
 pub fn starts_where_it_may()
     ensures { StartsWhereItMay }
 {}

@@ -1,19 +1,19 @@
-// How many entries of a session are in flight at most.
+// The window: how many entries of a session may be in flight.
 
 ghost use Rattle.std.specs.Prelude.{◌≡◌, ◌≤◌};
 ghost use Rattle.broker_spec.specs.Window.{IsWindowSize, narrow_window, wide_window, window_of};
 
-/// The window of a fresh broker, and of every broker from a `Start` on.
+/// The window of a new broker, and of every broker from a `Start` on.
 const WIDE_WINDOW: u8 = 64;
 
-/// The window of a broker that was read from form 1, until a `Start`.
+/// The window of a broker that was thawed from form 1, until a `Start`.
 const NARROW_WINDOW: u8 = 16;
 
-/// How many entries of a session are in flight at most (MQTT 4.6): 64, or 16 in a broker that was
-/// read from form 1, until a ballot begins.
+/// The most entries of a session in flight (MQTT 4.6): 64, or 16 in a broker that was thawed from
+/// form 1, until a ballot begins.
 #[derive(Clone, Copy, Debug, PartialEq, Eq)]
 pub struct Window {
-    // A number of entries: `WIDE_WINDOW` or `NARROW_WINDOW`.
+    // `WIDE_WINDOW` or `NARROW_WINDOW`.
     size: u8,
 }
 
@@ -31,14 +31,14 @@ impl std::marker::Model for Window {
 }
 
 impl Window {
-    /// Returns the window of a fresh broker, and of every broker from a `Start` on.
+    /// Returns the window of a new broker, and of every broker from a `Start` on.
     pub fn wide() -> Window
         ensures { result ≡ wide_window }
     {
         Window { size: WIDE_WINDOW }
     }
 
-    /// Returns the window of a broker that was read from form 1, until a `Start`.
+    /// Returns the window of a broker that was thawed from form 1, until a `Start`.
     pub fn narrow() -> Window
         ensures { result ≡ narrow_window }
     {
@@ -47,7 +47,7 @@ impl Window {
         }
     }
 
-    /// Returns the window of this size, if there is one.
+    /// Returns the window of this size; `None` unless it is 16 or 64.
     pub fn of(size: u8) -> Option<Window>
         ensures { result ≡ window_of size }
     {
@@ -57,7 +57,7 @@ impl Window {
         None
     }
 
-    /// Returns how many entries it allows: 16 or 64.
+    /// Returns the number of entries, 16 or 64.
     pub fn size(self) -> usize
         ensures value { result ≡ self }
         ensures known { IsWindowSize self }

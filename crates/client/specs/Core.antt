@@ -1,4 +1,5 @@
--- What a `ClientCore` shows: what it keeps, has not yet read, and wrote; and what its calls do.
+-- The value of a `ClientCore` in contracts: its state, its unread bytes and its written bytes; and
+-- what its calls do.
 use Rattle.std.specs.Prelude.{◌≡◌, ℕ, Bool, false, List, [], ◌∷◌, Some, None, Result, Ok, Err}
 use Rattle.packet_base.specs.declared.qos.QoS.{QoS}
 use Rattle.packet.specs.declared.packet.Packet.{Packet}
@@ -16,7 +17,7 @@ pub record Core : Type 0 where
   pub unread : Stream  -- bytes from the server that are not yet handled
   pub out : List ℕ  -- bytes that it wrote and has not yet handed over
 
--- nothing has come yet
+-- no byte was received yet
 abbrev pub nothing_read : Stream
 nothing_read = record { bytes = []; failed = false }
 
@@ -25,35 +26,35 @@ abbrev pub new_core : List ℕ → ℕ → Core
 new_core client keep_alive =
     record { state = new_client_state client keep_alive; unread = nothing_read; out = [] }
 
--- new is old with the spellings of these packets appended, one after another
+-- new is old with the bytes of these packets appended, in order
 abbrev pub AppendsAll : List ℕ → List ℕ → List Packet → Type 0
 AppendsAll old new [] = new ≡ old
 AppendsAll old new (packet ∷ packets) =
     (between : List ℕ) × AppendsSpelling old between packet × AppendsAll between new packets
 
--- the step is done: its state, and its packets appended to what was written
+-- the step is done: its state, and its packets appended to the written bytes
 abbrev pub IsDone : ClientOutcome → Core → Core → Type 0
 IsDone outcome old new =
     (new.state ≡ outcome.state) × AppendsAll old.out new.out outcome.writes
     × (new.unread ≡ old.unread)
 
--- A call is its whole step; it is refused if the step is, and if memory runs out nothing changes.
+-- A call is the whole step with its error; if memory runs out nothing changes.
 abbrev pub AnswersCall : ClientOutcome → Core → Result (Unit {0}) ClientError → Core → Type 0
 AnswersCall outcome old (Ok done) new = (outcome.refusal ≡ None) × IsDone outcome old new
 AnswersCall outcome old (Err errors.Memory) new = new ≡ old
 AnswersCall outcome old (Err cause) new = (outcome.refusal ≡ Some cause) × (new ≡ old)
 
--- the client loses its connection: what it wrote stays, what it has not read is dropped
+-- the connection is lost: written bytes stay, unread ones are dropped
 abbrev pub gone : Core → Core
 gone core = record core { state = lost core.state; unread = nothing_read }
 
--- the client opens a connection: CONNECT is the first that is written on it
+-- the client opens a connection: CONNECT is the first packet that is written on it
 abbrev pub OpensConnection : ClientOutcome → Core → Result (Unit {0}) ClientError → Core → Type 0
 OpensConnection outcome old (Ok done) new =
     (new.state ≡ outcome.state) × AppendsAll [] new.out outcome.writes × (new.unread ≡ nothing_read)
 OpensConnection outcome old (Err cause) new = (cause ≡ errors.Memory) × (new ≡ old)
 
--- the client disconnects: like a call, and what it has not read is dropped
+-- the client disconnects: like a call, and the unread bytes are dropped
 abbrev pub LeavesServer : ClientOutcome → Core → Result (Unit {0}) ClientError → Core → Type 0
 LeavesServer outcome old (Ok done) new =
     (outcome.refusal ≡ None) × (new.state ≡ outcome.state)
@@ -62,7 +63,7 @@ LeavesServer outcome old (Ok done) new =
 LeavesServer outcome old (Err errors.Memory) new = new ≡ old
 LeavesServer outcome old (Err cause) new = (outcome.refusal ≡ Some cause) × (new ≡ old)
 
--- what the client accepted is taken out
+-- the accepted publications are taken
 abbrev pub without_accepted : Core → Core
 without_accepted core = record core { state = record core.state { accepted = [] } }
 

@@ -1,4 +1,4 @@
--- How the bytes from the server are read: packet by packet, up to the first that ends the call.
+-- Reading the server's bytes: packet by packet, up to the first that ends the call.
 use Rattle.std.specs.Prelude.{◌≡◌, ℕ, ◌⊎◌, List, ◌++◌, Some, None, Result, Ok, Err}
 use Rattle.packet.specs.declared.packet.Packet.{Packet}
 use Rattle.packet.specs.declared.error.DecodeFault.{DecodeFault}
@@ -13,20 +13,20 @@ use Rattle.client_base.specs.Answered.{ClientOutcome}
 use Rattle.client_base.specs.Calls.{client_receives}
 use Rattle.client.specs.Core.{Core, IsDone, gone}
 
--- what the server's packet does to a client
+-- the outcome of a packet from the server
 abbrev pub outcome_of_packet : Packet → Core → ClientOutcome
 outcome_of_packet packet core = client_receives packet core.state.stage core.state
 
--- the first whole packet that is not yet read, and the client without it
+-- the first whole packet of the unread bytes, and the client without it
 abbrev pub ReadsPacket : Core → Packet → Core → Type 0
 ReadsPacket old packet new =
     Takes old.unread (Ok (Some packet)) new.unread × (new.state ≡ old.state) × (new.out ≡ old.out)
 
--- Packets, each whole, and none of them refused, lead from the first client to the second.
+-- A sequence of whole packets, none with an error, leads from the first client to the second.
 pub data Handles (start : Core) : Core → Type 0 where
   -- no packet
   none : Handles start start
-  -- one more packet, which is not refused
+  -- one more packet without an error
   more : {before read after : Core} (packet : Packet) → Handles start before
       → ReadsPacket before packet read → (outcome_of_packet packet read).refusal ≡ None
       → IsDone (outcome_of_packet packet read) read after → Handles start after
@@ -37,7 +37,7 @@ abbrev pub cause_of : DecodeFault → ClientError
 cause_of (faults.Malformed kind) = errors.Malformed kind
 cause_of (faults.Refused code) = errors.Protocol
 
--- why the reading stops at this client: for a fault of the stream, or for the next packet
+-- the error with which reading stops here: a fault of the stream, or the error of the next packet
 abbrev pub StopsFor : ClientError → Core → Type 0
 StopsFor cause core =
     ((fault : DecodeFault) × (rest : Stream) × Takes core.unread (Err (cuts.Decode fault)) rest
@@ -45,8 +45,8 @@ StopsFor cause core =
     ⊎ ((packet : Packet) × (next : Core) × ReadsPacket core packet next
     × ((outcome_of_packet packet next).refusal ≡ Some cause))
 
--- How the call ends. The connection survives a lost session, and what comes after its CONNACK is
--- not read; otherwise the connection is lost, and what was handled before remains.
+-- How the call ends. If the session is lost the connection survives, and what follows that CONNACK
+-- stays unread; otherwise the connection is lost. The effects of earlier packets remain.
 abbrev pub EndsWith : Core → Result (Unit {0}) ClientError → Core → Type 0
 EndsWith core (Ok done) new = Takes core.unread (Ok None) core.unread × (new ≡ core)
 EndsWith core (Err errors.Memory) new = new ≡ gone core
@@ -56,11 +56,11 @@ EndsWith core (Err errors.SessionLost) new =
     × IsDone (outcome_of_packet packet next) next new
 EndsWith core (Err cause) new = StopsFor cause core × (new ≡ gone core)
 
--- the piece is appended to what is not yet read
+-- the chunk is appended to the unread bytes
 abbrev pub fed : List ℕ → Core → Core
 fed piece core = record core { unread = record core.unread { bytes = core.unread.bytes ++ piece } }
 
--- what a piece of the server's bytes does to a client
+-- the effect of a chunk of the server's bytes
 abbrev pub OnBytes : List ℕ → Stage → Core → Result (Unit {0}) ClientError → Core → Type 0
 OnBytes piece stages.Closed old result new = (result ≡ Err errors.NotActive) × (new ≡ old)
 OnBytes piece stage old result new =

@@ -1,4 +1,15 @@
-// A client's keeper.
+// The keeper: a client that keeps its side of the handshakes.
+//
+// A `ClientCore` has no socket, clock or thread: calls and the server's bytes come in, bytes to the
+// server and accepted publications go out, and the caller moves them. The fields up to `accepted`
+// are the `ClientState` of client_base, and each call is one of its steps; `cutter` and `out` hold
+// the bytes in either direction. A publication at QoS 1 or 2 enters `queued` or, if the client is
+// online, `sent`, moves to `released` at PUBREC, and is then done. After a CONNACK 0 all three
+// lists are sent: `released` in the order of the PUBRECs, then `sent` and `queued` in the order of
+// the calls. Publications and requests take their identifiers from one pool, so none is used twice.
+// An identifier enters `received` together with its publication in `accepted`, with memory
+// allocated for both first: this makes the delivery exactly once. After `Memory` a call has changed
+// nothing; only `on_bytes` loses the connection.
 
 ghost use Rattle.std.specs.Prelude.{◌≡◌};
 ghost use Rattle.client.specs.Core.{new_core, gone};
@@ -9,38 +20,36 @@ use packet_base::{ClientId, PacketId};
 use std::alloc::Global;
 use std::marker::Model;
 
-/// A client that keeps its side of the handshakes over its connections (MQTT 4.3, 4.4). Its
-/// sessions are never clean. `outgoing` returns the bytes to the server, `on_bytes` takes the bytes
-/// from the server.
+/// A client that keeps its side of the handshakes across connections (MQTT 4.3, 4.4). Its sessions
+/// are never clean. `outgoing` returns the bytes to the server, `on_bytes` takes those from the
+/// server.
 pub struct ClientCore {
-    /// Its Client Identifier. The fields up to `accepted` are those of `ClientState` (client_base,
-    /// `specs/State.antt`).
+    /// The client's identifier. The fields up to `accepted` are those of `ClientState`
+    /// (client_base, `specs/State.antt`).
     pub(crate) client: ClientId,
-    /// Its keep alive, in seconds; 0 means none (MQTT 3.1.2.10).
+    /// Keep Alive, in seconds; 0 means none (MQTT 3.1.2.10).
     pub(crate) keep_alive: u16,
-    /// The identifiers of those publications that had their PUBREC, in the order of these.
+    /// The identifiers of released publications (their PUBREC came), in the order of release.
     pub(crate) released: Vec<PacketId>,
     /// The publications that were sent and are unacknowledged, in the order of their calls.
     pub(crate) sent: Vec<UnacknowledgedPublication>,
-    /// The publications that were published while it was offline, in the order of their calls.
+    /// The publications that were not sent yet, in the order of their calls.
     pub(crate) queued: Vec<UnacknowledgedPublication>,
-    /// The identifiers of QoS 2 publications that it accepted and has no PUBREL for.
+    /// The identifiers of accepted QoS 2 publications whose PUBREL has not come.
     pub(crate) received: Vec<PacketId>,
-    /// The requests that were not answered yet. They end with the connection.
+    /// The requests without an acknowledgement. They end with the connection.
     pub(crate) requests: Vec<Request>,
-    /// How far its connection is.
     pub(crate) stage: Stage,
-    /// The number of its session, up to 2^64 - 1; 0 before the first CONNACK 0.
+    /// The number of the session, up to 2^64 - 1; 0 before the first CONNACK 0.
     pub(crate) session: u64,
-    /// Whether the last CONNACK 0 had Session Present (MQTT 3.2.2.2).
+    /// Session Present of the last CONNACK 0 (MQTT 3.2.2.2).
     pub(crate) session_present: bool,
-    /// The publications that it accepted, and that the caller has not yet taken.
+    /// The publications that were accepted and not yet taken by the caller.
     pub(crate) accepted: Vec<Accepted>,
-    /// The bytes of the server that were not read yet.
+    /// The bytes from the server that were not read yet.
     pub(crate) cutter: Cutter,
-    /// The bytes for the server that were not yet handed over.
+    /// The bytes to the server that were not yet taken by the caller.
     pub(crate) out: Vec<u8>,
-    /// The allocator of packets and lists.
     pub(crate) alloc: Global,
 }
 
@@ -90,10 +99,10 @@ impl Model for ClientCore {
 }
 
 impl ClientCore {
-    /// Returns a client with this identifier that was never connected. The server closes its
-    /// connections after one and a half times the keep alive, in seconds, without a packet; 0 means
-    /// never. No call sends PINGREQ: a caller that may send nothing for longer than the keep alive
-    /// passes 0 (MQTT-3.1.2-23).
+    /// Returns a client that was never connected. The server closes a connection after one and a
+    /// half times the keep alive, in seconds, without a packet; 0 means never. No call sends
+    /// PINGREQ: a caller that may send nothing for longer than the keep alive passes 0
+    /// (MQTT-3.1.2-23).
     pub fn new(alloc: Global, client: ClientId, keep_alive: u16) -> ClientCore
         ensures { result ≡ new_core client keep_alive }
     {
@@ -115,8 +124,8 @@ impl ClientCore {
         }
     }
 
-    /// Marks the connection lost: requests without an answer and bytes that were not read are
-    /// dropped. What is kept stays; what was written stays until `open`. Takes no memory.
+    /// Handles the loss of the connection: drops unacknowledged requests and unread bytes.
+    /// Publications stay, and what was written stays until `open`. Takes no memory.
     pub fn lost(&mut self)
         ensures { self.new ≡ gone self.old }
     {

@@ -15,9 +15,9 @@ use cutter::Cutter;
 use packet::Packet;
 
 impl ClientCore {
-    /// Opens a connection: writes CONNECT, and nothing else until the server has accepted the
-    /// connection. A connection that is still open is lost first. `Memory` is the only error, and
-    /// changes nothing.
+    /// Opens a connection: writes CONNECT, and nothing else until the server has accepted it. A
+    /// connection that is still open is lost first. `Memory` is the only error, and changes
+    /// nothing.
     pub fn open(&mut self) -> Result<(), ClientError>
         ensures { OpensConnection (keeper_step Call.Opens self.old.state) self.old result self.new }
     {
@@ -29,8 +29,8 @@ impl ClientCore {
         Ok(())
     }
 
-    /// Ends the connection: writes DISCONNECT if the server has accepted it, and then it is lost.
-    /// `NotActive` comes exactly if there is no connection; after `Memory` nothing has changed.
+    /// Ends the connection: writes DISCONNECT if the server had accepted it, then handles its loss.
+    /// `NotActive` exactly if there is no connection; after `Memory` nothing has changed.
     pub fn disconnect(&mut self) -> Result<(), ClientError>
         ensures { LeavesServer
             (keeper_step Call.Disconnects self.old.state) self.old result self.new }
@@ -44,9 +44,9 @@ impl ClientCore {
         Ok(())
     }
 
-    /// Handles CONNACK 0: sends again what is kept. If the server has no session any more, drops it
-    /// with [`ClientError::SessionLost`]. [`ClientError::Memory`] comes if memory runs out, and
-    /// then nothing changes.
+    /// Handles CONNACK 0: retransmits what is kept. If the server lost the session, what is kept is
+    /// dropped and [`ClientError::SessionLost`] returned. After [`ClientError::Memory`] nothing has
+    /// changed.
     pub(crate) fn on_connack(&mut self, session_present: bool) -> Result<(), ClientError>
         ensures { Tries (on_connack session_present self.old.state) self.old result self.new }
     {
@@ -65,7 +65,8 @@ impl ClientCore {
         Ok(())
     }
 
-    // Writes what is kept, in order; then all of it is sent. After `Memory` nothing has changed.
+    // Writes what is kept, in order; queued publications become sent. After `Memory` nothing has
+    // changed.
     fn resend(&mut self) -> Result<(), ClientError>
         ensures ok { OnOk result (self.new ≡ all_sent self.new.out self.old) }
         ensures bytes { OnOk result (AppendsAll self.old.out self.new.out (resent self.old.state)) }
@@ -79,7 +80,7 @@ impl ClientCore {
         Ok(())
     }
 
-    // Drops what was kept, and begins the next session.
+    // Drops what is kept and begins the next session.
     fn discard(&mut self)
         ensures { self.new ≡ with_state (discarded self.old.state) self.old }
     {
@@ -90,7 +91,8 @@ impl ClientCore {
         self.session = self.session.saturating_add(1);
     }
 
-    // Returns the bytes of what is kept, in order.
+    // Returns the bytes of what is kept, in order: PUBRELs, PUBLISHes with DUP 1, then those with
+    // DUP 0.
     fn resent(&self) -> Result<Vec<u8>, ClientError>
         ensures ok { IfOk result (λ bytes. AppendsAll [] bytes.items (resent self.now.state)) }
         ensures memory { OnErr result (IsErrOf result ClientError.Memory) }

@@ -1,4 +1,4 @@
-// What a packet of a handshake does to a client (MQTT 4.3).
+// The packets of handshakes (MQTT 4.3).
 
 ghost use Rattle.std.specs.Prelude.{◌≡◌, false};
 ghost use Rattle.lists.specs.Lists.{has_id};
@@ -19,9 +19,8 @@ use packet::{Delivery, Publish};
 use packet_base::PacketId;
 
 impl ClientCore {
-    /// Handles PUBLISH: it is accepted each time at QoS 0 and 1, and at QoS 2 once while its
-    /// identifier is kept. [`ClientError::Memory`] comes if memory runs out, and then nothing
-    /// changes.
+    /// Handles PUBLISH: accepts it each time at QoS 0 and 1, and at QoS 2 unless its identifier is
+    /// kept. After [`ClientError::Memory`] nothing has changed.
     pub(crate) fn on_publish(&mut self, publish: Publish) -> Result<(), ClientError>
         ensures { Tries (on_publish publish publish.delivery self.old.state)
             self.old result self.new }
@@ -34,7 +33,7 @@ impl ClientCore {
         }
     }
 
-    // Handles PUBLISH at QoS 0, which has no answer.
+    // Handles PUBLISH at QoS 0, which has no acknowledgement.
     fn on_at_most_once(&mut self, publish: Publish) -> Result<(), ClientError>
         ensures { Tries (on_publish publish deliveries.AtMostOnce self.old.state)
             self.old result self.new }
@@ -55,7 +54,7 @@ impl ClientCore {
         Ok(())
     }
 
-    // Handles PUBLISH at QoS 2: a repeat is answered, and not accepted again.
+    // Handles PUBLISH at QoS 2: a repeat is acknowledged but not accepted again.
     fn on_exactly_once(&mut self, id: PacketId, publish: Publish) -> Result<(), ClientError>
         ensures { Tries (on_publish publish (deliveries.ExactlyOnce false id) self.old.state)
             self.old result self.new }
@@ -67,8 +66,8 @@ impl ClientCore {
         self.accept_once(id, publish)
     }
 
-    // Accepts what is new at QoS 2, and keeps its identifier. Memory for all of it is allocated
-    // first, so that nothing is accepted whose identifier is not kept.
+    // Accepts a new publication at QoS 2 and keeps its identifier. All memory is allocated first,
+    // so that nothing is accepted whose identifier is not kept.
     fn accept_once(&mut self, id: PacketId, publish: Publish) -> Result<(), ClientError>
         requires { has_id id self.old.state.received ≡ false }
         ensures { Tries (on_publish publish (deliveries.ExactlyOnce false id) self.old.state)
@@ -83,8 +82,8 @@ impl ClientCore {
         Ok(())
     }
 
-    /// Handles PUBREL: the identifier is no longer kept, and PUBCOMP is written.
-    /// [`ClientError::Memory`] comes if memory runs out, and then nothing changes.
+    /// Handles PUBREL: drops the identifier and writes PUBCOMP. After [`ClientError::Memory`]
+    /// nothing has changed.
     pub(crate) fn on_pubrel(&mut self, id: PacketId) -> Result<(), ClientError>
         ensures { Tries (on_pubrel id self.old.state) self.old result self.new }
     {
@@ -100,8 +99,8 @@ impl ClientCore {
         end_acknowledged(&mut self.sent, id);
     }
 
-    /// Handles PUBREC, which releases a publication at QoS 2; for a released one PUBREL is sent
-    /// again. [`ClientError::Memory`] comes if memory runs out, and then nothing changes.
+    /// Handles PUBREC: releases a publication at QoS 2 and writes PUBREL, once more if it is
+    /// released already. After [`ClientError::Memory`] nothing has changed.
     pub(crate) fn on_pubrec(&mut self, id: PacketId) -> Result<(), ClientError>
         ensures { Tries (on_pubrec id self.old.state) self.old result self.new }
     {
@@ -138,7 +137,7 @@ impl ClientCore {
     }
 }
 
-// Returns what is accepted of a PUBLISH, in this session.
+// Returns the accepted publication of a PUBLISH in this session.
 fn accepted_of(session: u64, publish: Publish) -> Accepted
     ensures { result ≡ accepted_of session publish }
 {

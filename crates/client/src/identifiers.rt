@@ -1,4 +1,4 @@
-// Packet Identifiers of a client (MQTT 2.3.1).
+// The Packet Identifiers of a client (MQTT 2.3.1).
 
 ghost use Rattle.std.specs.Prelude.{◌≡◌, ◌==◌, filter, not, IfSome, IsSome, IsTrue, ◌↔◌};
 ghost use Rattle.std.specs.List.{list_any};
@@ -15,8 +15,8 @@ use packet_base::{PacketId, QoS};
 use session_base::least_identifier_is_free;
 
 impl ClientCore {
-    /// Returns the least identifier that no publication and no request has; none if all 65,535 are
-    /// used.
+    /// Returns the least identifier that no publication and no request uses; `None` if all 65,535
+    /// are in use.
     pub(crate) fn free_id(&self) -> Option<PacketId>
         ensures least { IfSome result (λ id. id ≡ next_id self.now.state) }
         ensures found { IsSome result ↔ IsTrue (has_free_id self.now.state) }
@@ -32,7 +32,7 @@ impl ClientCore {
         if self.is_used(last) { None } else { Some(last) }
     }
 
-    // Returns true if a publication or a request has this identifier.
+    // Returns true if a publication or a request uses this identifier.
     #[tactic(auto, using(crate::proofs::Used::used_in_parts))]
     fn is_used(&self, id: PacketId) -> bool
         ensures { result ≡ has_id id (used_ids self.now.state) }
@@ -51,21 +51,20 @@ pub(crate) fn has_id(ids: &[PacketId], id: PacketId) -> bool
     ids.iter().any(|other| id == *other)
 }
 
-// Returns true if a kept publication has it.
+// Returns true if one of these publications uses it.
 fn is_kept(kept: &[UnacknowledgedPublication], id: PacketId) -> bool
     ensures { result ≡ list_any (λ one. id == one.id) kept.now }
 {
     kept.iter().any(|one| id == one.id)
 }
 
-// Returns true if a request has it.
+// Returns true if one of these requests uses it.
 fn is_asked(requests: &[Request], id: PacketId) -> bool
     ensures { result ≡ list_any (λ one. id == id_of_request one) requests.now }
 {
     requests.iter().any(|request| id == id_of(*request))
 }
 
-// Returns the identifier of a request.
 fn id_of(request: Request) -> PacketId
     ensures { result ≡ id_of_request request }
 {
@@ -75,7 +74,7 @@ fn id_of(request: Request) -> PacketId
     }
 }
 
-/// Removes an identifier from these, wherever it is among them.
+/// Removes every occurrence of an identifier.
 pub(crate) fn forget(ids: &mut Vec<PacketId>, id: PacketId)
     ensures { ids.new.items ≡ without_id id ids.old.items }
 {
@@ -123,28 +122,28 @@ pub(crate) fn has_unreleased(kept: &[UnacknowledgedPublication], id: PacketId) -
     kept.iter().any(|one| awaits_pubrec(id, one))
 }
 
-/// Takes out what PUBACK ends.
+/// Removes what PUBACK with this identifier ends.
 pub(crate) fn end_acknowledged(kept: &mut Vec<UnacknowledgedPublication>, id: PacketId)
     ensures { kept.new.items ≡ filter (λ one. not (awaits_puback id one)) kept.old.items }
 {
     kept.retain(|one| !awaits_puback(id, one));
 }
 
-/// Takes out what PUBREC releases.
+/// Removes what PUBREC with this identifier releases.
 pub(crate) fn take_released(kept: &mut Vec<UnacknowledgedPublication>, id: PacketId)
     ensures { kept.new.items ≡ filter (λ one. not (awaits_pubrec id one)) kept.old.items }
 {
     kept.retain(|one| !awaits_pubrec(id, one));
 }
 
-/// Takes out what SUBACK answers.
+/// Removes what SUBACK with this identifier answers.
 pub(crate) fn end_subscribes(requests: &mut Vec<Request>, id: PacketId)
     ensures { requests.new.items ≡ filter (λ one. not (is_subscribe id one)) requests.old.items }
 {
     requests.retain(|one| !is_subscribe(id, *one));
 }
 
-/// Takes out what UNSUBACK answers.
+/// Removes what UNSUBACK with this identifier answers.
 pub(crate) fn end_unsubscribes(requests: &mut Vec<Request>, id: PacketId)
     ensures { requests.new.items ≡ filter (λ one. not (is_unsubscribe id one)) requests.old.items }
 {

@@ -1,4 +1,4 @@
-// Reading what the server sends.
+// Reading the server's bytes.
 
 ghost use Rattle.std.specs.Prelude.{◌≡◌, ◌<◌, length, true, Ok};
 ghost use Rattle.client_base.specs.Calls.{on_first, on_later};
@@ -12,13 +12,13 @@ use cutter::CutError;
 use packet::{Connack, DecodeFault, Packet};
 
 impl ClientCore {
-    /// Takes the next bytes from the server, in pieces of any size, and handles each whole packet.
-    /// `NotActive` comes if there is no connection, and nothing changes, or if the server refused
-    /// the connection; `Protocol` for a packet that may not come there; `Malformed` for bytes that
-    /// are no packet; `Memory`. After these the client is as after `lost`, and the
-    /// effects of earlier packets remain. `SessionLost` comes if the server has lost the session:
-    /// what was kept is dropped and the connection stays open; what came after that packet is
-    /// handled by the next call.
+    /// Reads the next bytes from the server, in chunks of any size, and handles each whole packet.
+    /// `NotActive` if there is no connection, and then nothing changes, or if the server refused
+    /// the connection; `Protocol` for a packet that is not allowed there; `Malformed` for bytes
+    /// that are no packet; `Memory`. After these the client is as after `lost`, and the
+    /// effects of earlier packets remain. `SessionLost` if the server lost the session: what was
+    /// kept is dropped, the connection stays open, and the bytes after that packet are handled by
+    /// the next call.
     pub fn on_bytes(&mut self, piece: &[u8]) -> Result<(), ClientError>
         ensures { OnBytes piece.now self.old.state.stage self.old result self.new }
     {
@@ -32,7 +32,7 @@ impl ClientCore {
         read
     }
 
-    // Takes a piece, and handles each whole packet, up to the first that ends the call.
+    // Appends a chunk and handles each whole packet, up to the first that ends the call.
     fn feed_and_read(&mut self, piece: &[u8]) -> Result<(), ClientError>
         ensures { FeedsAndReads piece.now self.old result self.new }
     {
@@ -42,7 +42,7 @@ impl ClientCore {
         }
     }
 
-    // Appends a piece to what is not yet read.
+    // Appends a chunk to the unread bytes.
     fn feed(&mut self, piece: &[u8]) -> Result<(), ClientError>
         ensures { Feeds piece.now self.old result self.new }
     {
@@ -60,7 +60,7 @@ impl ClientCore {
         Ok(())
     }
 
-    // Handles the next whole packet, if there is one.
+    // Handles the next whole packet; false if there is none.
     fn read_one(&mut self) -> Result<bool, ClientError>
         ensures one { ReadsOne self.old result self.new }
         ensures shorter { result ≡ Ok true →
@@ -76,7 +76,7 @@ impl ClientCore {
         }
     }
 
-    // Takes the next whole packet.
+    // Takes the next whole packet, if there is one.
     fn next_packet(&mut self) -> Result<Option<Packet>, ClientError>
         ensures { TakesNext self.old result self.new }
     {
@@ -87,7 +87,7 @@ impl ClientCore {
         }
     }
 
-    // Handles a packet from the server.
+    // Handles a packet from the server, by the stage of the connection.
     fn handle(&mut self, packet: Packet) -> Result<(), ClientError>
         ensures { Tries (outcome_of_packet packet self.old) self.old result self.new }
     {
@@ -98,7 +98,7 @@ impl ClientCore {
         }
     }
 
-    // Handles the first packet of a connection, which has to be CONNACK.
+    // Handles the first packet of a connection, which must be CONNACK.
     fn handle_first(&mut self, packet: Packet) -> Result<(), ClientError>
         ensures { Tries (on_first packet self.old.state) self.old result self.new }
     {
@@ -109,7 +109,7 @@ impl ClientCore {
         }
     }
 
-    // Handles a later packet. What only a client sends, and a second CONNACK, are not allowed.
+    // Handles a later packet. A second CONNACK and packets that only a client sends are refused.
     fn handle_later(&mut self, packet: Packet) -> Result<(), ClientError>
         ensures { Tries (on_later packet self.old.state) self.old result self.new }
     {
@@ -133,7 +133,7 @@ impl ClientCore {
     }
 }
 
-// Returns why the reading stops at bytes that are no packet.
+// Returns the error for bytes that are no packet.
 fn cut_cause(error: CutError) -> ClientError
     ensures { result ≡ cut_cause error }
 {
@@ -143,8 +143,8 @@ fn cut_cause(error: CutError) -> ClientError
     }
 }
 
-// Returns the cause of a fault. A CONNECT that a server would refuse with a code is a packet that
-// only a client sends.
+// Returns the error for a fault of `decode`. A CONNECT that a server would refuse with a code is a
+// packet that only a client sends.
 fn cause_of(fault: DecodeFault) -> ClientError
     ensures { result ≡ cause_of fault }
 {
@@ -154,7 +154,7 @@ fn cause_of(fault: DecodeFault) -> ClientError
     }
 }
 
-// Returns true if the connection is lost after this answer to a piece.
+// Returns true if the connection is lost after this result of a chunk.
 fn is_fatal(read: Result<(), ClientError>) -> bool
     ensures { result ≡ is_fatal read }
 {

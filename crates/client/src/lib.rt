@@ -1,6 +1,6 @@
-//! A client of an MQTT 3.1.1 server that keeps its side of the handshakes. It takes calls and bytes
-//! from the server, and gives bytes to the server and publications. It knows its own connection and
-//! nothing else.
+//! A client of an MQTT 3.1.1 server that keeps its side of the handshakes. Its input is calls and
+//! the server's bytes, its output is bytes to the server and accepted publications. It knows only
+//! its own connection.
 #![tactic(auto)]
 
 mod client_core;

@@ -1,4 +1,4 @@
-// Packets that a client writes.
+// Writing packets to the server.
 
 ghost use Rattle.std.specs.Prelude.{◌≡◌, false, map, IfOk, OnOk, OnErr, IsErrOf};
 ghost use Rattle.packet.specs.Spelling.{IsListed, AppendsSpelling};
@@ -12,8 +12,8 @@ use packet_base::{ClientId, PacketId};
 use session_base::delivery;
 use std::alloc::AllocError;
 
-/// Appends a packet to what is written. The callers ensure that it is not over the size limit.
-/// [`ClientError::Memory`] comes if memory runs out, and then nothing is written.
+/// Appends a packet to the written bytes. The callers ensure that it is not over the size limit.
+/// After [`ClientError::Memory`] nothing was written.
 pub(crate) fn write(packet: &Packet, out: &mut Vec<u8>) -> Result<(), ClientError>
     requires { IsListed packet.now }
     ensures ok { OnOk result (AppendsSpelling out.old.items out.new.items packet.now) }
@@ -26,8 +26,7 @@ pub(crate) fn write(packet: &Packet, out: &mut Vec<u8>) -> Result<(), ClientErro
     }
 }
 
-/// Writes the CONNECT of a client, whose sessions are never clean. [`ClientError::Memory`] comes if
-/// memory runs out.
+/// Writes the CONNECT of a client, with CleanSession 0. The only error is [`ClientError::Memory`].
 pub(crate) fn write_connect(
     client: &ClientId,
     keep_alive: u16,
@@ -46,7 +45,7 @@ pub(crate) fn write_connect(
     write(&connect, out)
 }
 
-/// Returns the PUBLISH of a kept publication, with this DUP. The only error is that memory ran out.
+/// Returns the PUBLISH of a kept publication with this DUP. The only error is that memory ran out.
 pub(crate) fn publish_again(
     kept: &UnacknowledgedPublication,
     dup: bool,
@@ -62,7 +61,7 @@ pub(crate) fn publish_again(
     }))
 }
 
-/// Writes PUBACK. [`ClientError::Memory`] comes if memory runs out, and then nothing is written.
+/// Writes PUBACK. After [`ClientError::Memory`] nothing was written.
 pub(crate) fn write_puback(id: PacketId, out: &mut Vec<u8>) -> Result<(), ClientError>
     ensures ok { OnOk result (AppendsSpelling out.old.items out.new.items (packets.Puback id)) }
     ensures memory { OnErr result (IsErrOf result ClientError.Memory) }
@@ -71,7 +70,7 @@ pub(crate) fn write_puback(id: PacketId, out: &mut Vec<u8>) -> Result<(), Client
     write(&Packet::Puback(id), out)
 }
 
-/// Writes PUBREC. [`ClientError::Memory`] comes if memory runs out, and then nothing is written.
+/// Writes PUBREC. After [`ClientError::Memory`] nothing was written.
 pub(crate) fn write_pubrec(id: PacketId, out: &mut Vec<u8>) -> Result<(), ClientError>
     ensures ok { OnOk result (AppendsSpelling out.old.items out.new.items (packets.Pubrec id)) }
     ensures memory { OnErr result (IsErrOf result ClientError.Memory) }
@@ -80,7 +79,7 @@ pub(crate) fn write_pubrec(id: PacketId, out: &mut Vec<u8>) -> Result<(), Client
     write(&Packet::Pubrec(id), out)
 }
 
-/// Writes PUBREL. [`ClientError::Memory`] comes if memory runs out, and then nothing is written.
+/// Writes PUBREL. After [`ClientError::Memory`] nothing was written.
 pub(crate) fn write_pubrel(id: PacketId, out: &mut Vec<u8>) -> Result<(), ClientError>
     ensures ok { OnOk result (AppendsSpelling out.old.items out.new.items (packets.Pubrel id)) }
     ensures memory { OnErr result (IsErrOf result ClientError.Memory) }
@@ -89,7 +88,7 @@ pub(crate) fn write_pubrel(id: PacketId, out: &mut Vec<u8>) -> Result<(), Client
     write(&Packet::Pubrel(id), out)
 }
 
-/// Writes PUBCOMP. [`ClientError::Memory`] comes if memory runs out, and then nothing is written.
+/// Writes PUBCOMP. After [`ClientError::Memory`] nothing was written.
 pub(crate) fn write_pubcomp(id: PacketId, out: &mut Vec<u8>) -> Result<(), ClientError>
     ensures ok { OnOk result (AppendsSpelling out.old.items out.new.items (packets.Pubcomp id)) }
     ensures memory { OnErr result (IsErrOf result ClientError.Memory) }
@@ -98,8 +97,8 @@ pub(crate) fn write_pubcomp(id: PacketId, out: &mut Vec<u8>) -> Result<(), Clien
     write(&Packet::Pubcomp(id), out)
 }
 
-/// Writes PUBREL for each of these, in order. [`ClientError::Memory`] comes if memory runs out;
-/// some may have been written then.
+/// Writes PUBREL for each of these, in order. After [`ClientError::Memory`] some may have been
+/// written.
 pub(crate) fn write_pubrels(ids: &[PacketId], out: &mut Vec<u8>) -> Result<(), ClientError>
     ensures ok { OnOk result (AppendsAll out.old.items out.new.items (map packets.Pubrel ids.now)) }
     ensures memory { OnErr result (IsErrOf result ClientError.Memory) }
@@ -110,8 +109,8 @@ pub(crate) fn write_pubrels(ids: &[PacketId], out: &mut Vec<u8>) -> Result<(), C
     Ok(())
 }
 
-/// Writes the PUBLISH of a kept publication, with this DUP. [`ClientError::Memory`] comes if memory
-/// runs out, and then nothing is written.
+/// Writes the PUBLISH of a kept publication with this DUP. After [`ClientError::Memory`] nothing
+/// was written.
 pub(crate) fn write_publish(
     kept: &UnacknowledgedPublication,
     dup: bool,
@@ -126,8 +125,8 @@ pub(crate) fn write_publish(
     write(&packet, out)
 }
 
-/// Writes PUBLISH for each of these, in order, with this DUP. [`ClientError::Memory`] comes if
-/// memory runs out; some may have been written then.
+/// Writes PUBLISH for each of these, in order, with this DUP. After [`ClientError::Memory`] some
+/// may have been written.
 pub(crate) fn write_publishes(
     kept: &[UnacknowledgedPublication],
     dup: bool,

@@ -23,10 +23,10 @@ use topics::TopicName;
 
 impl ClientCore {
     /// Publishes. At QoS 1 and 2 the publication is kept until its handshake has ended. It is sent
-    /// at once if the client is online, otherwise after the next CONNACK. In this order:
-    /// `WindowFull` comes exactly if at QoS 1 or 2 sixty-four publications are kept or no
-    /// identifier is free. `NotActive` comes if the client is offline at QoS 0, `TooLarge` if the
-    /// packet would be over the size limit, `Memory` if memory runs out. A refusal changes nothing.
+    /// at once if the client is online, otherwise after the next CONNACK 0. Errors, in this order:
+    /// `WindowFull` exactly if at QoS 1 or 2 sixty-four publications are kept or no identifier is
+    /// free; `NotActive` if the client is offline at QoS 0; `TooLarge` if the packet would be over
+    /// the size limit; `Memory` if memory runs out. After an error nothing has changed.
     pub fn publish(
         &mut self,
         topic: TopicName,
@@ -90,7 +90,7 @@ impl ClientCore {
         Ok(())
     }
 
-    // Sends a publication, and keeps it as sent.
+    // Writes a publication and keeps it as sent.
     fn send(&mut self, kept: UnacknowledgedPublication) -> Result<(), ClientError>
         ensures { AnswersCall (sent_publication kept self.old.state) self.old result self.new }
     {
@@ -100,8 +100,8 @@ impl ClientCore {
         Ok(())
     }
 
-    /// Returns the identifier of the next publication. [`ClientError::WindowFull`] comes if
-    /// `MAX_KEPT` publications are kept, or no identifier is free.
+    /// Returns the identifier of the next publication. [`ClientError::WindowFull`] if `MAX_KEPT`
+    /// publications are kept or no identifier is free.
     pub(crate) fn publication_id(&self) -> Result<PacketId, ClientError>
         ensures { PublicationId self.now.state result }
     {
@@ -129,7 +129,7 @@ fn packet_once(publication: Publication) -> Packet
     })
 }
 
-// Returns true if the PUBLISH of a publication is over the size limit.
+// Returns true if the PUBLISH of a publication would be over the size limit.
 fn is_too_large(kept: &UnacknowledgedPublication) -> Result<bool, AllocError>
     ensures { IfOk result (λ large. large ≡ is_over_limit (publish_kept false kept.now)) }
 {

@@ -1,4 +1,4 @@
-// What others can read from a client.
+// Reading a client's state and its output.
 
 ghost use Rattle.std.specs.Prelude.{◌≡◌, ◌++◌, [], OnOk, OnErr, IsErrOf, length, min};
 ghost use Rattle.client_base.specs.State.{is_online, kept_count};
@@ -17,13 +17,13 @@ impl ClientCore {
         &self.client
     }
 
-    /// Appends what was written and not yet handed over. If the vector is empty the bytes are not
-    /// copied, which no clause says. After `Memory` nothing has changed.
+    /// Appends the bytes that were written and not yet taken. If `out` is empty no byte is copied,
+    /// which no clause says. After `Memory` nothing has changed.
     pub fn outgoing(&mut self, out: &mut Vec<u8>) -> Result<(), ClientError>
         ensures bytes { OnOk result (out.new.items ≡ out.old.items ++ self.old.out) }
         ensures ok { OnOk result (self.new ≡ record self.old { out = [] }) }
 
-        // Memory may run out, and nothing else may fail.
+        // The only error is that memory ran out.
         ensures memory { OnErr result (IsErrOf result ClientError.Memory) }
         ensures same { OnErr result (self.new ≡ self.old) }
         ensures untouched { OnErr result (out.new.items ≡ out.old.items) }
@@ -37,14 +37,14 @@ impl ClientCore {
         Ok(())
     }
 
-    /// Returns what was accepted and not taken out, in order (MQTT 4.3).
+    /// Returns the publications that were accepted and not yet taken, in order (MQTT 4.3).
     pub fn accepted(&self) -> &[Accepted]
         ensures { result.now ≡ self.now.state.accepted }
     {
         self.accepted.as_slice()
     }
 
-    /// Takes out what was accepted, in order.
+    /// Takes the publications that were accepted, in order.
     pub fn take_accepted(&mut self) -> Vec<Accepted>
         ensures taken { result.items ≡ self.old.state.accepted }
         ensures left { self.new ≡ without_accepted self.old }
@@ -52,7 +52,7 @@ impl ClientCore {
         mem::replace(&mut self.accepted, Vec::new(self.alloc))
     }
 
-    /// Returns how many publications are kept: their handshakes have not ended. At most 64.
+    /// Returns the number of publications whose handshakes have not ended, at most 64.
     pub fn kept(&self) -> usize
         ensures { result ≡ min (kept_count self.now.state) usize.MAX }
     {
@@ -60,15 +60,15 @@ impl ClientCore {
         sent.saturating_add(self.queued.len())
     }
 
-    /// Returns true if the server accepted the connection, and it is still open.
+    /// Returns true if the server accepted the connection and it is still open.
     pub fn connected(&self) -> bool
         ensures { result ≡ is_online self.now.state.stage }
     {
         self.stage == Stage::Online
     }
 
-    /// Returns true if the server reported, on the last accepted connection, that it has a session
-    /// of this client; false before the first.
+    /// Returns Session Present of the last accepted connection: true if the server had a session of
+    /// this client; false before the first.
     pub fn present(&self) -> bool
         ensures { result ≡ self.now.state.session_present }
     {

@@ -1,4 +1,4 @@
-// Which calls a client refuses.
+// Whether a call would be refused.
 
 ghost use Rattle.std.specs.Prelude.{ℕ, ◌≡◌, false};
 ghost use Rattle.std.specs.Option.{is_some};
@@ -13,7 +13,7 @@ use packet_base::QoS;
 use session_base::{Publication, body_length};
 
 impl ClientCore {
-    /// Returns true if [`ClientCore::publish`] refuses a publication for another cause than
+    /// Returns true if [`ClientCore::publish`] would refuse the publication for another cause than
     /// `Memory`. Takes no memory.
     pub fn refuses(&self, publication: &Publication) -> bool
         ensures { result ≡ is_some (publish_refusal publication.now self.now.state) }
@@ -24,8 +24,8 @@ impl ClientCore {
         self.publication_id().is_err() || is_long(publication)
     }
 
-    /// Returns true if [`ClientCore::subscribe`] and [`ClientCore::unsubscribe`] refuse each filter
-    /// for another cause than `Memory`. Takes no memory.
+    /// Returns true if [`ClientCore::subscribe`] and [`ClientCore::unsubscribe`] would refuse every
+    /// filter for another cause than `Memory`. Takes no memory.
     pub fn refuses_requests(&self) -> bool
         ensures { result ≡ is_some (request_refusal self.now.state) }
     {

@@ -1,4 +1,4 @@
-// Requests of a client (MQTT 3.8, 3.10).
+// The requests of a client (MQTT 3.8, 3.10).
 
 ghost use Rattle.std.specs.Prelude.{◌≡◌, [], ◌∷◌, IfOk, OnOk, OnErr, IsErrOf};
 ghost use Rattle.packet.specs.Spelling.{AppendsSpelling};
@@ -16,9 +16,9 @@ use std::alloc::Global;
 use topics::Filter;
 
 impl ClientCore {
-    /// Subscribes to a filter, at most at this QoS. `NotActive` comes exactly if the client is
-    /// offline, otherwise `WindowFull` if no identifier is free, otherwise `Memory` if memory runs
-    /// out; a refusal changes nothing.
+    /// Subscribes to a filter with this maximum QoS. `NotActive` exactly if the client is offline,
+    /// otherwise `WindowFull` if no identifier is free, otherwise `Memory` if memory runs out.
+    /// After an error nothing has changed.
     pub fn subscribe(&mut self, filter: Filter, qos: QoS) -> Result<(), ClientError>
         ensures { AnswersCall (keeper_step (Call.Subscribes filter qos) self.old.state)
             self.old result self.new }
@@ -30,7 +30,7 @@ impl ClientCore {
         Ok(())
     }
 
-    /// Unsubscribes from a filter. It is refused as `subscribe` is.
+    /// Unsubscribes from a filter, with the errors of `subscribe`.
     pub fn unsubscribe(&mut self, filter: Filter) -> Result<(), ClientError>
         ensures { AnswersCall (keeper_step (Call.Unsubscribes filter) self.old.state)
             self.old result self.new }
@@ -42,8 +42,8 @@ impl ClientCore {
         Ok(())
     }
 
-    /// Returns the identifier of the next request. [`ClientError::NotActive`] comes unless the
-    /// client is online, [`ClientError::WindowFull`] if no identifier is free.
+    /// Returns the identifier of the next request. [`ClientError::NotActive`] unless the client is
+    /// online, [`ClientError::WindowFull`] if no identifier is free.
     pub(crate) fn request_id(&self) -> Result<PacketId, ClientError>
         ensures { RequestId self.now.state result }
     {

@@ -1,4 +1,5 @@
--- What a packet of the server does to a client, and which packets answer it (MQTT 3.2, 4.3, 4.4).
+-- The effect of a packet from the server on a client, and the packets that answer it (MQTT 3.2,
+-- 4.3, 4.4).
 use Rattle.std.specs.Prelude.{ℕ, Bool, false, not, ◌&&◌, ◌==◌, if◌then◌else◌, List, [], ◌∷◌, ◌++◌}
 use Rattle.std.specs.Prelude.{filter, Option, Some, None}
 use Rattle.std.specs.List.{list_any}
@@ -18,23 +19,23 @@ use Rattle.client_base.specs.declared.request.Request.TheVariants as requests
 use Rattle.client_base.specs.State.{ClientState, lost}
 use Rattle.session_base.specs.Identifiers.{without_id}
 
--- the state after a step, the packets that it writes, and why it is refused, if it is
+-- the state after a step, the packets that it writes, and the error, if there is one
 pub record ClientOutcome : Type 0 where
   pub state : ClientState
   pub writes : List Packet
   pub refusal : Option ClientError
 
--- nothing is refused
+-- a step without an error
 abbrev pub going_on : ClientState → List Packet → ClientOutcome
 going_on state packets = record { state = state; writes = packets; refusal = None }
 
--- the connection ends for this cause
+-- a step that ends the connection with this error
 abbrev pub ending : ClientError → ClientState → ClientOutcome
 ending cause state = record { state = lost state; writes = []; refusal = Some cause }
 
--- ---- publications of others
+-- ---- publications of other clients
 
--- what is accepted of a PUBLISH, in the session of this number
+-- the accepted publication of a PUBLISH, in the session with this number
 abbrev pub accepted_of : ℕ → Publish → Accepted
 accepted_of session publish =
     record {
@@ -45,12 +46,12 @@ accepted_of session publish =
       payload = publish.payload;
     }
 
--- the publication is accepted, in the session that lasts
+-- the publication is accepted in the current session
 abbrev pub accepting : Publish → ClientState → ClientState
 accepting publish state =
     record state { accepted = state.accepted ++ accepted_of state.session publish ∷ [] }
 
--- a publication at QoS 0 or 1 is accepted each time, one at QoS 2 once while its identifier is kept
+-- a publication at QoS 0 or 1 is accepted each time, one at QoS 2 unless its identifier is kept
 -- (MQTT 4.3)
 abbrev pub on_publish : Publish → Delivery → ClientState → ClientOutcome
 on_publish publish deliveries.AtMostOnce state = going_on (accepting publish state) []
@@ -62,7 +63,7 @@ on_publish publish (deliveries.ExactlyOnce dup id) state =
     else record (accepting publish state) { received = state.received ++ id ∷ [] })
     (packets.Pubrec id ∷ [])
 
--- PUBREL: the identifier is no longer kept, and PUBCOMP answers in any case (MQTT 4.3.3)
+-- PUBREL: the identifier is dropped; PUBCOMP answers in any case (MQTT 4.3.3)
 abbrev pub on_pubrel : ℕ → ClientState → ClientOutcome
 on_pubrel id state =
     going_on (record state { received = without_id id state.received }) (packets.Pubcomp id ∷ [])
@@ -77,13 +78,12 @@ awaits_puback id kept = (id == kept.id) && is_qos1 kept.publication.qos
 abbrev pub awaits_pubrec : ℕ → UnacknowledgedPublication → Bool
 awaits_pubrec id kept = (id == kept.id) && not (is_qos1 kept.publication.qos)
 
--- PUBACK ends a QoS 1 publication that was sent (MQTT 4.3.2)
+-- PUBACK ends a sent QoS 1 publication (MQTT 4.3.2)
 abbrev pub on_puback : ℕ → ClientState → ClientOutcome
 on_puback id state =
     going_on (record state { sent = filter (λ kept. not (awaits_puback id kept)) state.sent }) []
 
--- PUBREC releases a QoS 2 publication that was sent; for a released one PUBREL is sent again (MQTT
--- 4.3.3)
+-- PUBREC releases a sent QoS 2 publication; for a released one PUBREL is written again (MQTT 4.3.3)
 abbrev pub on_pubrec : ℕ → ClientState → ClientOutcome
 on_pubrec id state =
     if list_any (awaits_pubrec id) state.sent
@@ -99,7 +99,7 @@ on_pubrec id state =
 abbrev pub on_pubcomp : ℕ → ClientState → ClientOutcome
 on_pubcomp id state = going_on (record state { released = without_id id state.released }) []
 
--- ---- requests: only an answer of its own kind ends one
+-- ---- requests: each ends only at the acknowledgement of its own kind
 
 -- whether SUBACK with this identifier answers the request
 abbrev pub is_subscribe : ℕ → Request → Bool
@@ -111,7 +111,7 @@ abbrev pub is_unsubscribe : ℕ → Request → Bool
 is_unsubscribe id (requests.Subscribes other) = false
 is_unsubscribe id (requests.Unsubscribes other) = id == other
 
--- the requests that are answered end, and nothing is written
+-- the acknowledged requests end, and nothing is written
 abbrev pub answered : (Request → Bool) → ClientState → ClientOutcome
 answered test state =
     going_on (record state { requests = filter (λ request. not (test request)) state.requests }) []

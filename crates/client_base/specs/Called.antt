@@ -1,4 +1,4 @@
--- What a call does to a client with its history (MQTT 3.1, 3.3, 3.8, 3.10, 3.14).
+-- The effect of a call on a client with its history (MQTT 3.1, 3.3, 3.8, 3.10, 3.14).
 use Rattle.std.specs.Prelude.{ℕ, false, if◌then◌else◌, List, [], ◌∷◌, ◌++◌}
 use Rattle.packet_base.specs.declared.qos.QoS.{QoS}
 use Rattle.packet.specs.declared.packet.Packet.{Packet}
@@ -17,8 +17,8 @@ use Rattle.client_base.specs.Connected.{opened, disconnects}
 
 -- ---- publishing and asking
 
--- a client's own publications after one more: at QoS 0 it is done at once, and else sent if the
--- client is online
+-- a client's publications after one more: at QoS 0 it is done at once, otherwise it is sent if the
+-- client is online and queued if not
 abbrev pub adds_own : Publication → Keeper → Keeper
 adds_own publication keeper =
     record keeper {
@@ -38,7 +38,7 @@ written_for publication keeper =
     ∷ []
     else []
 
--- one request more waits for its answer
+-- one more request waits for its acknowledgement
 abbrev pub with_request : Request → Keeper → Keeper
 with_request request keeper = record keeper { requests = keeper.requests ++ request ∷ [] }
 
@@ -55,10 +55,10 @@ abbrev pub next_unsubscribe : List ℕ → Keeper → Packet
 next_unsubscribe filter keeper =
     packets.Unsubscribe (record { id = least_free (ids_in_use keeper); filters = filter ∷ [] })
 
--- ---- the step: a call that is not refused, or a packet, on the connection that was opened last;
--- one that it opens gets the fresh name
+-- ---- the step: a call without an error, or a packet, on the connection that was opened last; a
+-- connection that it opens gets the fresh name
 
--- what a call does that is not refused
+-- the effect of a call without an error
 abbrev pub keeper_goes : {Name : Type 0} → Name → Call → Side Name → Side Name
 keeper_goes fresh Call.Opens side = opened 0 fresh side.keeper
 keeper_goes fresh (Call.Publishes publication) side =

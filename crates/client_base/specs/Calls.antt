@@ -1,4 +1,4 @@
--- What opening a connection, and each packet from the server, does to a client (MQTT 3, 4.3, 4.4).
+-- The effect of opening a connection, and of each packet from the server (MQTT 3, 4.3, 4.4).
 use Rattle.std.specs.Prelude.{◌+◌, ◌-◌, ◌^◌, Bool, false, not, ◌&&◌, ◌==◌, min, nat_lt}
 use Rattle.std.specs.Prelude.{if◌then◌else◌, [], ◌∷◌, ◌++◌, Some, None}
 use Rattle.packet.specs.declared.connack.Connack.TheVariants as connacks
@@ -13,7 +13,7 @@ use Rattle.client_base.specs.Answered.{ClientOutcome, going_on, ending, on_publi
 use Rattle.client_base.specs.Answered.{on_pubrec, on_pubcomp, is_subscribe}
 use Rattle.client_base.specs.Answered.{is_unsubscribe, answered}
 
--- nothing changes, for this cause
+-- nothing changes, and this error is returned
 abbrev pub refused_call : ClientError → ClientState → ClientOutcome
 refused_call cause state = record { state = state; writes = []; refusal = Some cause }
 
@@ -26,11 +26,11 @@ opened state =
     (packets.Connect
     (record { client = state.client; clean = false; keep_alive = state.keep_alive }) ∷ [])
 
--- whether the server has no session of a client that had one
+-- whether the server lost the session of a client that had one
 abbrev pub loses_session : Bool → ClientState → Bool
 loses_session present state = not present && nat_lt 0 state.session
 
--- what was kept is dropped, and the next session begins; its number stays below 2^64
+-- what is kept is dropped, and the next session begins; its number stays below 2^64
 abbrev pub discarded : ClientState → ClientState
 discarded state =
     record state {
@@ -45,7 +45,7 @@ discarded state =
 abbrev pub numbered : ClientState → ClientState
 numbered state = record state { session = if state.session == 0 then 1 else state.session }
 
--- CONNACK 0: what is in flight is sent again, then what was not sent yet (MQTT 3.2.2, 4.4)
+-- CONNACK 0: what is in flight is retransmitted, then what is queued is sent (MQTT 3.2.2, 4.4)
 abbrev pub on_connack : Bool → ClientState → ClientOutcome
 on_connack present state =
     let lacking = loses_session present state in
@@ -81,7 +81,7 @@ on_later (packets.Unsuback id) state = answered (is_unsubscribe id) state
 on_later packets.Pingresp state = going_on state []
 on_later _ state = ending errors.Protocol state
 
--- a packet of the server, by how far the connection has come
+-- a packet from the server, by the stage of the connection
 abbrev pub client_receives : Packet → Stage → ClientState → ClientOutcome
 client_receives packet stages.Closed state = refused_call errors.NotActive state
 client_receives packet stages.Opened state = on_first packet state

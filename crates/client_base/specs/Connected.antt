@@ -1,4 +1,4 @@
--- How a client with its history opens and leaves a connection.
+-- How a client with its history opens and ends a connection.
 use Rattle.std.specs.Prelude.{ℕ, true, false, if◌then◌else◌, List, [], ◌∷◌}
 use Rattle.packet.specs.declared.packet.Packet.TheVariants as packets
 use Rattle.client_base.specs.Keeper.{Written, ClientConnection, Keeper, Side}
@@ -14,7 +14,7 @@ written_connect keep_alive client =
 abbrev pub opening_connect : List ℕ → Written
 opening_connect = written_connect 0
 
--- a connection of a client, on which nothing but a CONNECT was written
+-- a new connection of a client, on which only a CONNECT was written
 abbrev pub new_connection : {Name : Type 0} → List ℕ → Name → ClientConnection Name
 new_connection client name =
     record {
@@ -26,7 +26,7 @@ new_connection client name =
       accepted = [];
     }
 
--- a client that opens a connection with a keep alive: what it kept stays, requests are given up
+-- a client that opens a connection with this keep alive: what it keeps stays, its requests end
 abbrev pub opened : {Name : Type 0} → ℕ → Name → Keeper → Side Name
 opened keep_alive name keeper =
     record {

@@ -1,4 +1,4 @@
--- What a packet of the server does to a client with its history (MQTT 3.2, 4.3, 4.4).
+-- The effect of a packet from the server on a client with its history (MQTT 3.2, 4.3, 4.4).
 use Rattle.std.specs.Prelude.{ℕ, suc, Bool, true, false, not, ◌&&◌, if◌then◌else◌, [], ◌∷◌, ◌++◌}
 use Rattle.std.specs.Prelude.{map, filter}
 use Rattle.packet.specs.declared.connack.Connack.TheVariants as connacks
@@ -14,12 +14,12 @@ use Rattle.client_base.specs.Handshakes.{own_at_puback, own_at_pubcomp, pubrec_a
 
 -- ---- CONNACK 0, and the end of a connection
 
--- what a client published stays in its history
+-- the session is lost; what the client published stays in its history
 abbrev pub discarded : Keeper → Keeper
 discarded keeper =
     record keeper { earlier = all_own keeper; own = []; releases = []; received = [] }
 
--- what was kept is lost with its session
+-- a CONNACK 0: what was kept is dropped if the server lost the session, and sent otherwise
 abbrev pub confirmed : {Name : Type 0} → Bool → Side Name → Side Name
 confirmed present side =
     let kept =
@@ -32,7 +32,7 @@ confirmed present side =
       };
     }
 
--- a client without its connection: requests are given up, all else is kept
+-- a client without its connection: its requests end, the rest stays
 abbrev pub lost : Keeper → Keeper
 lost keeper = record keeper { requests = []; is_open = false; is_online = false }
 

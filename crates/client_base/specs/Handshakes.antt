@@ -1,4 +1,4 @@
--- What a packet of the server does to the handshakes of a client with its history (MQTT 4.3).
+-- The effect of a packet from the server on the handshakes of a client with its history (MQTT 4.3).
 use Rattle.std.specs.Prelude.{ℕ, Bool, false, not, ◌&&◌, ◌||◌, ◌==◌, if◌then◌else◌, List, [], ◌∷◌}
 use Rattle.std.specs.Prelude.{◌++◌, map}
 use Rattle.packet.specs.declared.delivery.Delivery.{Delivery}
@@ -32,14 +32,14 @@ own_at_pubcomp given (Own.Released number publication id) =
     if given == id then Own.Done number publication else Own.Released number publication id
 own_at_pubcomp given own = own
 
--- whether a publication of QoS 2 with this identifier waits for PUBREC
+-- whether a sent publication of QoS 2 has this identifier
 abbrev pub is_sent_with : ℕ → List Own → Bool
 is_sent_with given (Own.Sent number publication id ∷ own) =
     ((given == id) && not (is_qos1 publication.qos)) || is_sent_with given own
 is_sent_with given (_ ∷ own) = is_sent_with given own
 is_sent_with given [] = false
 
--- PUBREC is answered by PUBREL, the first time and again
+-- PUBREC is answered by PUBREL, each time
 abbrev pub pubrec_answered : {Name : Type 0} → ℕ → Side Name → Side Name
 pubrec_answered id side =
     if is_sent_with id side.keeper.own
@@ -53,8 +53,8 @@ pubrec_answered id side =
     else if has_id id side.keeper.releases then writing (plain (packets.Pubrel id) ∷ []) side
     else side
 
--- a publication of the server: at QoS 1 and 2 it is answered, and a repeat at QoS 2 is not accepted
--- again
+-- a publication from the server: at QoS 1 and 2 it is acknowledged, and a repeat at QoS 2 is not
+-- accepted again
 abbrev pub takes_in : {Name : Type 0} → Delivery → Publication → Side Name → Side Name
 takes_in deliveries.AtMostOnce publication side = side
 takes_in (deliveries.AtLeastOnce dup id) publication side =

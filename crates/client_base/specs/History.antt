@@ -1,4 +1,4 @@
--- When the client that keeps no history corresponds to the one with it.
+-- When a client without history stands for the one with it.
 use Rattle.std.specs.Prelude.{◌≡◌, ℕ, true, nat_lt, List, [], ◌∷◌, ◌++◌, map}
 use Rattle.packet.specs.declared.packet.Packet.{Packet}
 use Rattle.lists.specs.Lists.{has_id}
@@ -6,16 +6,16 @@ use Rattle.client_base.specs.declared.unacknowledged_publication.UnacknowledgedP
 use Rattle.client_base.specs.State.{ClientState, is_open, is_online}
 use Rattle.client_base.specs.Keeper.{Own, Written, ClientConnection, Keeper}
 
--- ---- what is kept of all that was published
+-- ---- what is kept of all publications
 
--- the publications that were sent and are not acknowledged yet
+-- the sent publications, which are not acknowledged yet
 abbrev pub sent_of : List Own → List UnacknowledgedPublication
 sent_of (Own.Sent number publication id ∷ own) =
     record { id = id; publication = publication } ∷ sent_of own
 sent_of (_ ∷ own) = sent_of own
 sent_of [] = []
 
--- the publications that were not sent yet
+-- the queued publications
 abbrev pub queued_of : List Own → List UnacknowledgedPublication
 queued_of (Own.Queued number publication id ∷ own) =
     record { id = id; publication = publication } ∷ queued_of own
@@ -28,15 +28,15 @@ released_of (Own.Released number publication id ∷ own) = id ∷ released_of ow
 released_of (_ ∷ own) = released_of own
 released_of [] = []
 
--- after one that was not sent, none was
+-- after a queued publication all are queued
 abbrev pub IsSentFirst : List Own → Type 0
 IsSentFirst (Own.Queued number publication id ∷ own) = (sent_of own ≡ []) × IsSentFirst own
 IsSentFirst (_ ∷ own) = IsSentFirst own
 IsSentFirst [] = Unit {0}
 
--- ---- what corresponds to what
+-- ---- which state stands for which history
 
--- a client without history keeps what the one with history says is kept
+-- the client without history keeps what the history says is kept
 pub record KeeperStandsFor (keeper : Keeper) (state : ClientState) : Type 0 where
   pub client : state.client ≡ keeper.client
   pub released : state.released ≡ keeper.releases
@@ -52,7 +52,7 @@ pub record KeeperStandsFor (keeper : Keeper) (state : ClientState) : Type 0 wher
   pub sent_first : IsSentFirst keeper.own
   pub online_sent : keeper.is_online ≡ true → queued_of keeper.own ≡ []
 
--- what was written more on a connection is, packet by packet, what the step writes
+-- the packets that were appended to a connection's are those that the step writes
 abbrev pub WritesMore : {Name : Type 0} → ClientConnection Name → ClientConnection Name →
     List Packet → Type 0
 WritesMore before after packets =

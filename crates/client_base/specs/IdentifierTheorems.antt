@@ -4,7 +4,7 @@ use Rattle.lists.specs.Lists.{has_id, IsDistinct}
 use Rattle.client_base.specs.State.{new_client_state, publication_ids, request_ids, used_ids}
 use Rattle.client_base.specs.Steps.{Call, state_after}
 
--- whatever the client is asked for and the server sends, no identifier is in flight twice
+-- whatever is called and whatever the server sends, no identifier is in flight twice
 abbrev pub UsedIdentifiersAreDistinct : Type 0
 UsedIdentifiersAreDistinct =
     (calls : List Call) (client : List ℕ) (keep_alive : ℕ) →

@@ -1,5 +1,5 @@
 -- A client with its history: all that it published, and what it wrote on which connection (MQTT
--- 4.3, 4.4).
+-- 4.3, 4.4). The history is a device of the statements about many clients; the code keeps none.
 use Rattle.std.specs.Prelude.{ℕ, ◌+◌, Bool, false, List, [], ◌∷◌, ◌++◌, length, map, Option}
 use Rattle.packet.specs.declared.packet.Packet.{Packet}
 use Rattle.session_base.specs.declared.publication.Publication.{Publication}
@@ -9,16 +9,16 @@ use Rattle.client_base.specs.State.{id_of_request}
 -- A publication of the client, with the number of its call and its state. One at QoS 0 is done at
 -- once.
 pub data Own : Type 0 where
-  -- its PUBLISH was not written on a connection that is online
+  -- its PUBLISH was not written on an accepted connection
   Queued : (number : ℕ) → (publication : Publication) → (id : ℕ) → Own
-  -- it was, and no PUBREC or PUBACK came
+  -- its PUBLISH was written, and no PUBREC or PUBACK came
   Sent : (number : ℕ) → (publication : Publication) → (id : ℕ) → Own
   -- PUBREC came, and no PUBCOMP
   Released : (number : ℕ) → (publication : Publication) → (id : ℕ) → Own
-  -- nothing more is to come for it
+  -- its handshake has ended
   Done : (number : ℕ) → (publication : Publication) → Own
 
--- A packet that the client wrote, and its publication. History: the bytes do not say it.
+-- A packet that the client wrote, and its publication. History: the bytes do not have it.
 pub record Written : Type 0 where
   pub packet : Packet
   pub number : Option ℕ
@@ -34,7 +34,7 @@ pub record ClientConnection (Name : Type 0) : Type 0 where
   pub confirmed : Bool
   pub accepted : List Publication
 
--- The client: all its publications, and of the rest what it keeps.
+-- The client: all its publications, and its state.
 pub record Keeper : Type 0 where
   pub client : List ℕ
   -- all that it published in sessions that it lost, in order; history: no field keeps it
@@ -48,7 +48,7 @@ pub record Keeper : Type 0 where
   pub is_online : Bool  -- whether a CONNACK 0 came on the open connection
   pub was_served : Bool  -- whether a CONNACK 0 came before
 
--- a client that published nothing and never was connected
+-- a client that has published nothing and was never connected
 abbrev pub new_keeper : List ℕ → Keeper
 new_keeper client =
     record {

@@ -1,4 +1,4 @@
--- What publishing does to a client, and when it is refused (MQTT 4.3).
+-- The effect of publishing on a client, and when it is refused (MQTT 4.3).
 use Rattle.std.specs.Prelude.{ℕ, Bool, false, not, ◌+◌, ◌&&◌, nat_lt, if◌then◌else◌, [], ◌∷◌, ◌++◌}
 use Rattle.std.specs.Prelude.{length, Option, Some, None}
 use Rattle.packet.specs.declared.packet.Packet.{Packet}
@@ -34,8 +34,8 @@ publish_packet publication state = packets.Publish (publish_for false (next_id s
 abbrev pub is_over_limit : Packet → Bool
 is_over_limit packet = nat_lt max_body (length (body packet))
 
--- why a publication is refused: at QoS 1 and 2 if `max_kept` are kept or no identifier is free, at
--- QoS 0 while the client is offline, or as too large
+-- the error of a publication: at QoS 1 and 2 if `max_kept` are kept or no identifier is free, at
+-- QoS 0 if the client is offline, or if it is too large
 abbrev pub publish_refusal : Publication → ClientState → Option ClientError
 publish_refusal publication state =
     if is_answered publication.qos && not (nat_lt (kept_count state) max_kept && has_free_id state)

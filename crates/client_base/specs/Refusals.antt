@@ -1,4 +1,4 @@
--- The numbers of what a client refuses.
+-- The numbers of a client's errors.
 use Rattle.std.specs.Prelude.{ℕ}
 use Rattle.topics.specs.Refusals.{malformed_number}
 use Rattle.client_base.specs.declared.error.ClientError.{ClientError}

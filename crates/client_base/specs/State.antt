@@ -1,4 +1,10 @@
--- What a client keeps, over its connections (MQTT 4.1, 4.3, 4.4).
+-- The state of a client, across connections (MQTT 4.1, 4.3, 4.4).
+-- The unfinished publications are three lists by state: released, of which only the identifiers are
+-- left, sent, and queued; a done one is in none. They, the received identifiers and the accepted
+-- publications outlive a connection; requests end with theirs. A CONNACK 0 without Session Present,
+-- to a client that had a session, drops what was kept and begins the next session, so an accepted
+-- publication says in which session it came. Publications and requests take identifiers from one
+-- pool.
 use Rattle.std.specs.Prelude.{ℕ, ◌+◌, Bool, true, false, List, [], ◌++◌, length, map}
 use Rattle.packet.specs.declared.packet.Packet.{Packet}
 use Rattle.packet.specs.declared.packet.Packet.TheVariants as packets
@@ -10,7 +16,7 @@ use Rattle.client_base.specs.declared.request.Request.TheVariants as requests
 use Rattle.client_base.specs.declared.stage.Stage.{Stage}
 use Rattle.client_base.specs.declared.stage.Stage.TheVariants as stages
 
--- A client between two calls. Its kept publications are the released, the sent and the unsent ones,
+-- A client between two calls. Its kept publications are the released, the sent and the queued ones,
 -- in this order.
 pub record ClientState : Type 0 where
   pub client : List ℕ  -- its Client Identifier
@@ -25,7 +31,7 @@ pub record ClientState : Type 0 where
   pub session_present : Bool  -- of the last CONNACK 0 (MQTT 3.2.2.2)
   pub accepted : List Accepted  -- not taken out yet
 
--- a client that never was connected
+-- a client that was never connected
 abbrev pub new_client_state : List ℕ → ℕ → ClientState
 new_client_state client keep_alive =
     record {
@@ -81,14 +87,14 @@ request_ids state = map id_of_request state.requests
 abbrev pub used_ids : ClientState → List ℕ
 used_ids state = publication_ids state ++ request_ids state
 
--- ---- what is kept is sent again (MQTT 4.4)
+-- ---- what is sent after a CONNACK 0 (MQTT 4.4)
 
 -- the PUBLISH of a kept publication, with this DUP
 abbrev pub publish_kept : Bool → UnacknowledgedPublication → Packet
 publish_kept dup kept = packets.Publish (publish_for dup kept.id kept.publication)
 
--- after a CONNACK 0: PUBREL for what is released, PUBLISH with DUP 1 for what was sent, then what
--- was not
+-- after a CONNACK 0: PUBREL for each released publication, PUBLISH with DUP 1 for each sent one,
+-- then the queued ones with DUP 0
 abbrev pub resent : ClientState → List Packet
 resent state =
     map packets.Pubrel state.released
@@ -97,6 +103,6 @@ resent state =
 
 -- ---- the end of a connection
 
--- the connection ends: requests are dropped, all else stays
+-- the connection ends: requests are dropped, the rest stays
 abbrev pub lost : ClientState → ClientState
 lost state = record state { requests = []; stage = stages.Closed }

@@ -1,4 +1,4 @@
--- The keeper's step: one call of a client, or one packet of the server (MQTT 3, 4.3, 4.4).
+-- The keeper's step: a call of the client, or a packet from the server (MQTT 3, 4.3, 4.4).
 use Rattle.std.specs.Prelude.{ℕ, not, if◌then◌else◌, List, [], ◌∷◌, ◌++◌, Option, Some, None}
 use Rattle.packet_base.specs.declared.qos.QoS.{QoS}
 use Rattle.packet.specs.declared.packet.Packet.{Packet}
@@ -17,13 +17,13 @@ use Rattle.client_base.specs.Publications.{next_id, has_free_id, publish_refusal
 
 -- ---- requests (MQTT 3.8, 3.10)
 
--- why a request is refused
+-- the error of a request, if it is refused
 abbrev pub request_refusal : ClientState → Option ClientError
 request_refusal state =
     if not (is_online state.stage) then Some errors.NotActive else
     if not (has_free_id state) then Some errors.WindowFull else None
 
--- a request is sent, and is in flight until its answer comes
+-- a request is written, and is in flight until its acknowledgement
 abbrev pub asked : Request → Packet → ClientState → ClientOutcome
 asked request packet state =
     going_on (record state { requests = state.requests ++ request ∷ [] }) (packet ∷ [])
@@ -51,7 +51,7 @@ disconnected stages.Online state = going_on (lost state) (packets.Disconnect ∷
 
 -- ---- the step
 
--- what a client is called for, or meets
+-- the calls of a client, and what happens to it
 pub data Call : Type 0 where
   Opens : Call  -- a connection is opened, on which it writes CONNECT
   Publishes : (publication : Publication) → Call  -- it is to publish this
@@ -61,12 +61,12 @@ pub data Call : Type 0 where
   Loses : Call  -- its connection is lost
   Disconnects : Call  -- it is to end its connection
 
--- what a call does, unless it is refused for a cause
+-- the step, unless it is refused with an error
 abbrev pub unless_refused : Option ClientError → ClientOutcome → ClientState → ClientOutcome
 unless_refused (Some cause) outcome state = refused_call cause state
 unless_refused None outcome state = outcome
 
--- what each call does to a client
+-- the step of each call
 abbrev pub keeper_step : Call → ClientState → ClientOutcome
 keeper_step Call.Opens state = opened state
 keeper_step (Call.Publishes publication) state =

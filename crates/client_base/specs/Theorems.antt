@@ -1,4 +1,4 @@
--- What is accepted at QoS 2 is accepted once for each identifier kept (MQTT 4.3.3).
+-- Under a kept identifier no publication at QoS 2 is accepted once more (MQTT 4.3.3).
 use Rattle.std.specs.Prelude.{◌≡◌, ℕ, Bool, true, false, ◌⊎◌}
 use Rattle.packet.specs.declared.connack.Connack.TheVariants as connacks
 use Rattle.packet.specs.declared.delivery.Delivery.TheVariants as deliveries
@@ -9,8 +9,8 @@ use Rattle.client_base.specs.State.{ClientState}
 use Rattle.client_base.specs.Answered.{on_publish, accepting}
 use Rattle.client_base.specs.Steps.{Call, keeper_step}
 
--- Under an identifier that is kept nothing is accepted; under another the publication is, and it is
--- kept then.
+-- Under a kept identifier nothing is accepted; under any other the publication is, and the
+-- identifier is kept from then on.
 abbrev pub AcceptsUnlessKept : Type 0
 AcceptsUnlessKept =
     (publish : Publish) (dup : Bool) (id : ℕ) (state : ClientState) →
@@ -19,7 +19,7 @@ AcceptsUnlessKept =
     × (has_id id state.received ≡ false → after.accepted ≡ (accepting publish state).accepted)
     × (has_id id after.received ≡ true)
 
--- An identifier stays kept until its PUBREL comes, or a CONNACK 0 without a session.
+-- An identifier stays kept until its PUBREL, or a CONNACK 0 without a session.
 abbrev pub StaysKept : Type 0
 StaysKept =
     (id : ℕ) (call : Call) (state : ClientState) → has_id id state.received ≡ true →

@@ -1,4 +1,4 @@
-// Why a call of a client is refused, or ends its connection.
+// The errors of a client.
 
 ghost use Rattle.std.specs.Prelude.{◌≡◌};
 ghost use Rattle.client_base.specs.Refusals.{client_number};
@@ -11,18 +11,18 @@ use topics::MalformedKind;
 /// Why a call of a client is refused, or ends its connection.
 #[derive(Clone, Copy, Debug, PartialEq, Eq)]
 pub enum ClientError {
-    /// The client is not connected, or the server did not accept its connection.
+    /// The client is not connected, or the server refused its connection.
     NotActive,
-    /// Sixty-four publications are kept, or no Packet Identifier is free.
+    /// Sixty-four publications are kept, or all Packet Identifiers are in use.
     WindowFull,
     /// The packet would be over the size limit.
     TooLarge,
-    /// The server has no session of a client that had one: what was kept is dropped, and the
-    /// connection continues.
+    /// The server lost the client's session: what was kept is dropped, and the connection stays
+    /// open.
     SessionLost,
     /// The server sent a packet that is not allowed there.
     Protocol,
-    /// The server's bytes are no packet. The kind is never that memory ran out.
+    /// The server's bytes are no packet. The kind is never `Memory`.
     Malformed(MalformedKind),
     /// Memory ran out.
     Memory,

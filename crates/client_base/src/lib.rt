@@ -1,5 +1,5 @@
-//! A client that keeps its side of the handshakes: what it keeps, and what each call and each
-//! packet from the server does to it (MQTT 4.1, 4.3, 4.4).
+//! A client that keeps its side of the handshakes: its state, and what each call and each packet
+//! from the server does to it (MQTT 4.1, 4.3, 4.4).
 #![tactic(auto)]
 
 mod accepted;

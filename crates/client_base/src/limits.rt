@@ -1,4 +1,4 @@
-// How much a client keeps.
+// The limits of a client.
 
-/// The most publications at QoS 1 or 2 that a client keeps.
+/// The most unfinished publications at QoS 1 or 2 of a client.
 pub const MAX_KEPT: usize = 64;

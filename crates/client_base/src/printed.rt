@@ -1,4 +1,4 @@
-//! How a publication is printed on one line, and a text by bytes that can be read.
+//! Printing a publication on one line, and a text with its other bytes escaped.
 
 mod lines;
 

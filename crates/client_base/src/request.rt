@@ -1,8 +1,8 @@
-// A request that the server has not answered yet.
+// A request that the server has not acknowledged yet.
 
 use packet_base::PacketId;
 
-/// A request of a client that waits for its answer, with its Packet Identifier.
+/// A request that waits for its acknowledgement, with its Packet Identifier.
 #[derive(Clone, Copy, Debug, PartialEq, Eq)]
 pub enum Request {
     /// A SUBSCRIBE, which waits for SUBACK (MQTT 3.8.4).

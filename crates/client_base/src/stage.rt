@@ -1,12 +1,12 @@
-// How far a client's connection is.
+// The stage of a client's connection.
 
-/// How far a client's connection is (MQTT 3.1, 3.2).
+/// The stage of a client's connection (MQTT 3.1, 3.2).
 #[derive(Clone, Copy, Debug, PartialEq, Eq)]
 pub enum Stage {
-    /// There is none.
+    /// There is no connection.
     Closed,
     /// CONNECT was written, and CONNACK is awaited.
     Opened,
-    /// The server accepted it.
+    /// The server accepted the connection.
     Online,
 }

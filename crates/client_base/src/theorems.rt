@@ -1,4 +1,5 @@
-// Laws of the keeper's steps. The calls do nothing but call those that their laws rest on.
+// Theorems about the keeper's steps. The functions only call those whose theorems they need; their
+// contracts are the theorems.
 
 ghost use Rattle.client_base.specs.HistoryTheorems.{CallsFollow};
 ghost use Rattle.client_base.specs.IdentifierTheorems.{UsedIdentifiersAreDistinct, RequestsAreApart};
@@ -7,24 +8,23 @@ ghost use Rattle.client_base.specs.Theorems.{AcceptsUnlessKept, StaysKept};
 
 use session_base::least_identifier_is_free;
 
-/// States that a publication at QoS 2 is accepted once for each identifier kept. An identifier that
-/// is kept accepts nothing more until its PUBREL, or until the session is lost (MQTT 4.3.3).
+/// States that a publication at QoS 2 is accepted exactly if its identifier is not kept, and that
+/// the identifier is then kept until its PUBREL or the loss of the session (MQTT 4.3.3).
 pub fn accepted_once_an_identifier()
     ensures accepts { AcceptsUnlessKept }
     ensures stays { StaysKept }
 {}
 
-/// States that a client that keeps no history does the same as the one with it, call by call and
-/// packet by packet. What it keeps is what the history says is kept, in order, and it writes the
-/// same.
+/// States that the client without a history does the same as the one with it, call by call and
+/// packet by packet: it keeps what the history says is kept, in order, and writes the same packets.
 pub fn history_is_followed()
     ensures { CallsFollow }
 {
     least_identifier_is_free();
 }
 
-/// States that no identifier is in flight twice, and none is a publication's and a request's at
-/// once, whatever a client is asked for and the server sends (MQTT 2.3.1).
+/// States that no identifier is in flight twice, and that a publication and a request never share
+/// one, whatever is called and whatever the server sends (MQTT 2.3.1).
 pub fn used_identifiers_are_distinct()
     ensures distinct { UsedIdentifiersAreDistinct }
     ensures apart { RequestsAreApart }
@@ -32,8 +32,8 @@ pub fn used_identifiers_are_distinct()
     least_identifier_is_free();
 }
 
-/// States that publications keep the numbers of their calls, and after each CONNACK 0 those that
-/// were not released are sent in this order (MQTT 4.4, 4.6).
+/// States that publications are numbered in the order of their calls, and that after each CONNACK 0
+/// those that are not released are sent in this order (MQTT 4.4, 4.6).
 pub fn publishing_order_is_kept()
     ensures stay { NumbersStay }
     ensures order { GoesOutInOrder }

@@ -1,4 +1,4 @@
--- The numbers of what a cutter refuses.
+-- The numbers of a cutter's errors.
 use Rattle.std.specs.Prelude.{ℕ, Option, Some}
 use Rattle.packet.specs.Refusals.{decode_number}
 use Rattle.cutter.specs.declared.error.CutError.{CutError}

@@ -11,33 +11,33 @@ use Rattle.packet.specs.declared.error.DecodeFault.TheVariants as faults
 use Rattle.cutter.specs.declared.error.CutError.{CutError}
 use Rattle.cutter.specs.declared.error.CutError.TheVariants as errors
 
--- the bytes that came and are not taken yet, and whether a fault was found
+-- the bytes that were received and not yet taken, and whether a fault was found
 pub record Stream : Type 0 where
   pub bytes : List ℕ
   pub failed : Bool
 
--- the bytes begin with the spelling of this packet, and these follow
+-- the bytes are the spelling of this packet, followed by these
 abbrev pub GoesOnWith : List ℕ → Packet → List ℕ → Type 0
 GoesOnWith bytes packet rest =
     (front : List ℕ) × Spells packet front × IsPacket packet × (bytes ≡ front ++ rest)
 
--- the bytes begin with no whole packet
+-- the bytes do not begin with a whole packet
 abbrev pub HasNoFront : List ℕ → Type 0
 HasNoFront bytes = (packet : Packet) (rest : List ℕ) → GoesOnWith bytes packet rest → ⊥
 
--- the whole packets with which the bytes begin, as many as there are, and the bytes after them
+-- the whole packets at the front of the bytes, as many as there are, and the bytes after them
 abbrev pub CutsInto : List ℕ → List Packet → List ℕ → Type 0
 CutsInto bytes [] rest = (bytes ≡ rest) × HasNoFront rest
 CutsInto bytes (packet ∷ packets) rest =
     (left : List ℕ) × GoesOnWith bytes packet left × CutsInto left packets rest
 
--- a fault of the stream; that memory ran out is none
+-- `decode` finds a fault of the stream; running out of memory is none
 abbrev pub IsFault : DecodeFault → List ℕ → Type 0
 IsFault (faults.Malformed kind) bytes =
     (kind ≢ kinds.Memory) × (verdict bytes ≡ Err (stops.Malformed kind))
 IsFault (faults.Refused code) bytes = verdict bytes ≡ Err (stops.Refused code)
 
--- what a call of `next` answers, and what is not taken after it
+-- the result of `next`, and the stream after it
 abbrev pub Takes : Stream → Result (Option Packet) CutError → Stream → Type 0
 Takes old (Ok (Some packet)) new =
     (old.failed ≡ false) × (verdict old.bytes ≡ Ok (packet, new.bytes))

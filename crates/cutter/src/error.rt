@@ -1,4 +1,4 @@
-// Why no packet is taken from a stream.
+// The errors of a `Cutter`.
 
 ghost use Rattle.std.specs.Prelude.{◌≡◌};
 ghost use Rattle.cutter.specs.Refusals.{cut_number};
@@ -8,20 +8,20 @@ use std::alloc::AllocError;
 use std::error::Error;
 use std::fmt;
 
-/// Why a call of a [`crate::Cutter`] gives nothing.
+/// Why a call of a [`crate::Cutter`] fails.
 #[derive(Clone, Copy, Debug, PartialEq, Eq)]
 pub enum CutError {
-    /// The stream continues with bytes that begin no packet, or with a CONNECT that is to be
-    /// refused. It is never that memory ran out.
+    /// The stream continues with bytes that are no packet, or with a CONNECT that is to be refused.
+    /// Never that memory ran out.
     Decode(DecodeFault),
-    /// Memory ran out; the cutter is as it was.
+    /// Memory ran out; the cutter is unchanged.
     Memory,
-    /// An earlier call answered a fault of the stream.
+    /// An earlier call reported a fault of the stream.
     Failed,
 }
 
 impl CutError {
-    /// Returns the number of the refusal; a CONNECT that is answered with a code has none.
+    /// Returns the number of the refusal; a CONNECT that is answered by a CONNACK has none.
     pub fn number(self) -> Option<u8>
         ensures { result ≡ cut_number self }
     {

@@ -1,4 +1,4 @@
-//! Packets of a stream of bytes, which comes in pieces of any size.
+//! Splits a stream of bytes, which arrives in chunks of any size, into packets.
 #![tactic(auto)]
 
 mod error;

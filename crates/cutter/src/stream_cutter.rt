@@ -1,4 +1,13 @@
 // Taking packets from the front of a stream.
+//
+// A cutter is a buffer of the bytes that are not taken yet, which begins at a packet boundary, and
+// a flag. The packets that come out depend on the bytes alone and not on how they were split into
+// chunks: `decode` is stateless, and each call of `next` starts at the front of the buffer. A fault
+// of the stream is final, since no boundary after it is known: it is reported once, the bytes stay,
+// and every later call is `Failed`. That memory ran out is no fault: the buffer is unchanged and
+// the call can be repeated. Taking a packet advances the front of a `BytesMut` and moves no byte.
+// The cutter does not bound its buffer; `decode` refuses a packet over the limit by its length, and
+// whoever feeds decides how much to read.
 
 ghost use Rattle.std.specs.Prelude.{◌≡◌, ◌++◌, ◌<◌, ◌↔◌, [], true, false, length, OnOk};
 ghost use Rattle.std.specs.Prelude.{OnErr, IsErrOf};
@@ -11,14 +20,13 @@ use std::alloc::Global;
 use std::marker::Model;
 use topics::MalformedKind;
 
-/// The bytes of a stream that came and are not taken yet. How the stream is split into pieces makes
-/// no difference to the packets that are taken.
+/// The bytes of a stream that were received and not yet taken. The packets do not depend on how the
+/// stream is split into chunks.
 pub struct Cutter {
-    // From the first byte of the next packet on.
+    // From the first byte of the next packet.
     bytes: BytesMut,
-    // Whether the stream had a fault. From then on no bytes come in, and no packet is taken.
+    // True once the stream had a fault. From then on no bytes are accepted and no packet is taken.
     failed: bool,
-    // The allocator of the packets that are taken.
     alloc: Global,
 }
 
@@ -52,15 +60,15 @@ impl Cutter {
         }
     }
 
-    /// Returns how many bytes came and are not taken yet.
+    /// Returns how many bytes were received and not yet taken.
     pub fn len(&self) -> usize
         ensures { result ≡ length self.now.bytes }
     {
         self.bytes.len()
     }
 
-    /// Appends the next piece of the stream. After `Memory`, which a piece without bytes never
-    /// gets, nothing has changed; `Failed` comes exactly after a fault of the stream.
+    /// Appends the next chunk of the stream. After `Memory`, which an empty chunk never gets,
+    /// nothing has changed; `Failed` comes exactly after a fault of the stream.
     pub fn feed(&mut self, piece: &[u8]) -> Result<(), CutError>
         ensures ok { OnOk result
             (self.new ≡ record self.old { bytes = self.old.bytes ++ piece.now }) }
@@ -76,9 +84,9 @@ impl Cutter {
         Ok(())
     }
 
-    /// Takes the next packet, if the whole of it came. A fault of the stream is answered once, and
-    /// `Failed` from then on; after `Memory`, which only comes if `decode` asks for memory, nothing
-    /// has changed.
+    /// Takes the next packet, if all of it was received. A fault of the stream is returned once,
+    /// and `Failed` from then on. After `Memory`, which comes only if `decode` needs memory,
+    /// nothing has changed.
     pub fn next(&mut self) -> Result<Option<Packet>, CutError>
         ensures { Takes self.old result self.new }
     {

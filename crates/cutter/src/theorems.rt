@@ -1,19 +1,20 @@
-// Laws of streams. The calls do nothing but call those that their laws rest on.
+// Theorems about streams. The functions only call those whose theorems they need; their contracts
+// are the theorems.
 
 ghost use Rattle.cutter.specs.Theorems.{CuttingsAgree, EveryStreamIsCut, NoPacketIsLeft};
 ghost use Rattle.cutter.specs.Theorems.{OneCut, PacketsOfTheStream};
 
 use packet::no_spelling_begins_another;
 
-/// States that a stream is split into packets and a rest in one way only.
+/// States that a stream is split into packets and a rest in only one way.
 pub fn one_cut()
     ensures { OneCut }
 {
     no_spelling_begins_another();
 }
 
-/// States that however the calls of a cutter follow each other, what it has given is a prefix of
-/// the packets of all bytes that it was fed.
+/// States that, after any sequence of calls, the packets that a cutter returned are a prefix of the
+/// packets of all bytes that it was fed.
 pub fn packets_of_the_stream()
     ensures { PacketsOfTheStream }
 {
@@ -26,9 +27,9 @@ pub fn every_stream_is_cut()
     ensures { EveryStreamIsCut }
 {}
 
-/// States that after an answer that no whole packet is there, a cutter has given all packets of the
-/// bytes that it was fed and holds the rest. So two that were fed the same bytes, split anywhere,
-/// gave the same.
+/// States that once `next` returns no packet, a cutter has returned all packets of the bytes that
+/// it was fed and holds the rest. So two cutters that were fed the same bytes, split anywhere,
+/// returned the same packets.
 pub fn no_packet_is_left()
     ensures none { NoPacketIsLeft }
     ensures agree { CuttingsAgree }

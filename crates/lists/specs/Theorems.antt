@@ -1,4 +1,4 @@
--- What readers may want to know about these definitions.
+-- Theorems about prefixes and identifiers, proved by `src/theorems.rt`.
 use Rattle.std.specs.Prelude.{◌≡◌, ℕ, ◌⊎◌, false, List, [], ◌∷◌, ◌++◌}
 use Rattle.lists.specs.Lists.{IsPrefixOf, has_id, IsDistinct}
 

@@ -1,5 +1,5 @@
-//! Definitions on lists that several crates share, and laws about them: prefixes, members, and
-//! identifiers that are distinct. Its functions do nothing; their contracts are the laws.
+//! Definitions on lists that several crates share (prefixes, members, distinct identifiers), and
+//! theorems about them. Its functions do nothing; their contracts are the theorems.
 #![tactic(auto)]
 
 mod theorems;

@@ -1,4 +1,5 @@
-// Laws of the definitions on lists. The calls do nothing; their contracts are the laws.
+// Theorems about the definitions on lists. The functions do nothing; their contracts are the
+// theorems.
 
 ghost use Rattle.lists.specs.Theorems.{IdentifiersStayApart, PrefixesJoin, PrefixesMeet};
 

@@ -1,10 +1,10 @@
--- A machine given only by its rules, and what a list of commands does to it.
+-- The rules of a machine, and what a list of commands does to it.
 use Rattle.std.specs.Prelude.{ℕ, List, [], ◌∷◌, Option}
 use Rattle.machine.specs.declared.error.ThawFault.{ThawFault}
 use Rattle.machine.specs.declared.error.ThawFault.TheVariants.{Shape, Memory}
 
--- the opening state, the command that begins a ballot, what a command does to a state, and its
--- outputs there; the bytes to which a state is frozen, and the state that is thawed from bytes
+-- the opening state; the command that begins a ballot; the state after a command, and its outputs;
+-- the bytes to which a state is frozen, and the state to which bytes are thawed
 pub record Rules (S C O : Type 0) : Type 0 where
   pub opening : S
   pub start_of : ℕ → C
@@ -13,17 +13,17 @@ pub record Rules (S C O : Type 0) : Type 0 where
   pub frozen : S → List ℕ
   pub thawed : List ℕ → Option S
 
--- the state after commands that were done one after another from this state
+-- the state after commands that are applied to this state, oldest first
 abbrev pub replay_from : {S C O : Type 0} → Rules S C O → S → List C → S
 replay_from rules state [] = state
 replay_from rules state (command ∷ commands) =
     replay_from rules (rules.after state command) commands
 
--- the state after commands that were done one after another from the beginning
+-- the state after commands that are applied to the opening state, oldest first
 abbrev pub replay : {S C O : Type 0} → Rules S C O → List C → S
 replay rules commands = replay_from rules rules.opening commands
 
--- the numbers of the refusals, as in the table of refusals
+-- the number of each error, as in the table of refusals
 abbrev pub thaw_number : ThawFault → ℕ
 thaw_number Shape = 10
 thaw_number Memory = 12

@@ -17,7 +17,7 @@ abbrev pub totals_given : ℕ → TallyCommand → List ℕ
 totals_given total (Add number) = total_after total (Add number) ∷ []
 totals_given total (Start ballot) = []
 
--- the numbers of commands have 64 bits
+-- a number in a command has 64 bits
 abbrev pub IsTallyCommand : TallyCommand → Type 0
 IsTallyCommand (Add number) = number < 2 ^ 64
 IsTallyCommand (Start ballot) = ballot < 2 ^ 64
@@ -26,7 +26,7 @@ IsTallyCommand (Start ballot) = ballot < 2 ^ 64
 abbrev pub total_bytes : ℕ → List ℕ
 total_bytes total = to_be_bytes w64 total
 
--- the tally of eight bytes; no other bytes thaw
+-- the tally that is frozen to these eight bytes; no other bytes thaw
 abbrev pub tally_of : List ℕ → Option Tally
 tally_of bytes =
     if length bytes == 8 then Some (record { total = from_be_bytes w64 bytes }) else None

@@ -1,4 +1,4 @@
-// What a machine's calls can return in place of a value.
+// The errors of a machine's calls.
 
 ghost use Rattle.std.specs.Prelude.{◌≡◌};
 ghost use Rattle.machine.specs.Machine.{thaw_number};
@@ -40,9 +40,9 @@ impl<T: Drop> From<AllocFailed<T>> for Memory {
     }
 }
 
-/// Memory ran out in the middle of a command: the machine may have done a part of it and is not
-/// used again. A replica also answers so once its node has crashed, and its text then names memory,
-/// too.
+/// Memory ran out in the middle of a command: a part of it may have been applied, and the machine
+/// must not be used again. A replica returns this, too, once its node has crashed; the text names
+/// memory in that case as well.
 #[derive(Clone, Copy, Debug, PartialEq, Eq)]
 pub struct Halted;
 
@@ -81,7 +81,7 @@ impl From<Memory> for Halted {
     }
 }
 
-/// Why frozen bytes do not thaw to a machine.
+/// Why bytes cannot be thawed to a machine.
 #[derive(Clone, Copy, Debug, PartialEq, Eq)]
 pub enum ThawFault {
     /// The bytes are not of the frozen form.

@@ -1,5 +1,5 @@
-//! What a replicated state machine is, with its laws, and a small machine that satisfies them: it
-//! adds numbers.
+//! What a replicated state machine is, with its laws, and `Tally`, a small machine that satisfies
+//! them.
 #![tactic(auto)]
 
 mod ballots;

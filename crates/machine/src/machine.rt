@@ -1,4 +1,12 @@
-// What a machine must be for its replicas to agree.
+// What a machine must satisfy for its replicas to agree.
+//
+// The trait says everything that replication knows about a machine. `rules` is one record of pure
+// functions; each call is specified by one of them, so a replica's contract can speak of the
+// machine of any type. Three laws are proved once for each machine: the opening state is a state, a
+// command leads from states to states, and a frozen state is thawed as the same state. The last one
+// makes a snapshot as good as the commands that it stands for. A call either has its whole effect
+// or reports that memory ran out; only `apply` may then leave the machine half changed, so its
+// replica halts and never uses it again.
 
 ghost use Rattle.std.specs.Prelude.{ℕ, List, Option, Some, None, ◌≡◌, ◌++◌, IfOk, OnOk, OnErr};
 ghost use Rattle.machine.specs.Machine.{Rules};
@@ -7,18 +15,18 @@ use crate::error::{Halted, Memory, ThawFault};
 use std::alloc::Global;
 
 /// A deterministic machine: its next state and its outputs depend only on its state and the
-/// command. So replicas that take the same commands in the same order stay equal.
+/// command. So replicas that apply the same commands in the same order stay equal.
 ///
-/// `rules` gives the first state of every machine, the command that begins a ballot, what a command
-/// does to a state, its outputs, and the bytes of a state. `IsState` and `IsCommand` hold for every
-/// value in a program: they say which numbers and sizes there are.
+/// `rules` has the opening state, the command that begins a ballot, the state after a command and
+/// its outputs, and the bytes of a state. `IsState` and `IsCommand` hold for every value in a
+/// program: they bound its numbers and sizes.
 pub trait Machine: Drop {
-    /// A command, which the log holds.
+    /// A command of the log.
     type Command: Drop;
     /// An output of a command.
     type Output: Drop;
 
-    // The rules, as one record.
+    // The opening state, the step and the frozen form, as one record.
     ghost rules: { Rules Self Self.Command Self.Output };
 
     ghost IsState: { Self → Type 0 };
@@ -30,12 +38,12 @@ pub trait Machine: Drop {
         ensures same { IfOk result (λ copied. copied ≡ command.now) }
         ensures valid { IsCommand command.now };
 
-    /// Returns a machine in its first state. All of them are equal; the only error is that memory
+    /// Returns a machine in the opening state. All of them are equal; the only error is that memory
     /// ran out.
     fn fresh(alloc: Global) -> Result<Self, Memory>
         ensures { IfOk result (λ machine. machine ≡ rules.opening) };
 
-    /// Returns the command that each log takes at the start of a ballot after the first.
+    /// Returns the command that is appended to the log at the start of each ballot after the first.
     fn start(ballot: u64) -> Self::Command
         ensures { result ≡ rules.start_of ballot };
 

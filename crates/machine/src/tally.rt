@@ -1,13 +1,13 @@
-// A machine that adds numbers: a small one that shows that the laws can be satisfied.
+// A machine that adds numbers: an example that shows that the laws can be satisfied.
 
 use crate::error::{Halted, Memory, ThawFault};
 use crate::machine::Machine;
 use std::alloc::Global;
 
-/// Adds the numbers that it is given, modulo 2^64.
+/// The sum of the numbers that it was given, modulo 2^64.
 #[derive(Debug, Drop, PartialEq, Eq)]
 pub struct Tally {
-    // The sum of all numbers so far, modulo 2^64.
+    // Modulo 2^64.
     total: u64,
 }
 

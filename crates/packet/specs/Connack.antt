@@ -9,12 +9,12 @@ use Rattle.packet_base.specs.Readers.{◌>>=◌, ◌>>◌, malformed, byte_at, e
 use Rattle.packet.specs.declared.connack.Connack.{Connack}
 use Rattle.packet.specs.declared.connack.Connack.TheVariants as connacks
 
--- session present, which goes only with code 0, and the code (MQTT 3.2.2)
+-- Session Present, which is 0 unless the code is 0, then the code (MQTT 3.2.2)
 abbrev pub connack_body : Connack → List ℕ
 connack_body (connacks.Accepted present) = bit present ∷ 0 ∷ []
 connack_body (connacks.Refused code) = 0 ∷ code_number code ∷ []
 
--- what a code says if no session is present (MQTT 3.2.2.3, table 3.1)
+-- the CONNACK with this code and no session present (MQTT 3.2.2.3, table 3.1)
 abbrev pub coded : ℕ → Result Connack Stop
 coded code =
     if code == 0 then Ok (connacks.Accepted false) else
@@ -25,7 +25,7 @@ coded code =
     if code == 5 then Ok (connacks.Refused codes.NotAuthorized) else
     malformed kinds.Shape
 
--- what the two bytes say
+-- the CONNACK of these two bytes
 abbrev pub answer_of : ℕ → ℕ → Result Connack Stop
 answer_of present code =
     if present == 1 then (if code == 0 then Ok (connacks.Accepted true) else malformed kinds.Shape)

@@ -5,8 +5,8 @@ use Rattle.packet_base.specs.declared.refusal_code.RefusalCode.TheVariants as re
 use Rattle.packet_base.specs.declared.stop.Stop.TheVariants as stops
 use Rattle.packet.specs.FaultRows.{FaultRow}
 
--- the name, that level and flags are present, the level, the flags, keep alive, identifier, what is
--- left over, the identifier's length (MQTT 3.1)
+-- in order: the name, whether level and flags are present, the level, the flags, the keep alive,
+-- the identifier, bytes left over, the identifier's length (MQTT 3.1)
 abbrev pub connect_rows : List FaultRow
 connect_rows = (
   0x10 ∷ 0x07 ∷ 0x00 ∷ 0x04 ∷ 0x4D ∷ 0x51 ∷ 0x54 ∷ 0x58 ∷ 0x05 ∷ [],

@@ -34,13 +34,13 @@ delivery_id deliveries.AtMostOnce = []
 delivery_id (deliveries.AtLeastOnce dup id) = number id
 delivery_id (deliveries.ExactlyOnce dup id) = number id
 
--- the identifier is in its range
+-- the identifier, if there is one, is in its range
 abbrev pub FitsDelivery : Delivery → Type 0
 FitsDelivery deliveries.AtMostOnce = Unit {0}
 FitsDelivery (deliveries.AtLeastOnce dup id) = IsId id
 FitsDelivery (deliveries.ExactlyOnce dup id) = IsId id
 
--- the identifier that these flags ask for, and the bytes after it
+-- the identifier if these flags have one, and the bytes after it
 unfoldable pub delivery_at : DeliveryFlags → List ℕ → Result (Delivery × List ℕ) Stop
 delivery_at flags.AtMostOnce bytes = Ok (deliveries.AtMostOnce, bytes)
 delivery_at (flags.AtLeastOnce dup) bytes =

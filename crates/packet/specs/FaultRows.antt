@@ -1,4 +1,4 @@
--- Bytes with two faults, and the one that counts: `decode` checks in one order.
+-- Worked examples: bytes with two faults, and the one that `decode` reports.
 use Rattle.std.specs.Prelude.{◌≡◌, ℕ, List, [], ◌∷◌, Err}
 use Rattle.std.specs.List.{AllByRecursion}
 use Rattle.topics.specs.declared.malformed.MalformedKind.TheVariants as kinds
@@ -6,11 +6,11 @@ use Rattle.packet_base.specs.declared.stop.Stop.{Stop}
 use Rattle.packet_base.specs.declared.stop.Stop.TheVariants as stops
 use Rattle.packet.specs.Verdict.{verdict}
 
--- bytes, and the fault that counts for them
+-- bytes, and the fault that is reported for them
 abbrev pub FaultRow : Type 0
 FaultRow = List ℕ × Stop
 
--- each of these faults counts
+-- each of these faults is reported
 abbrev pub AllCount : List FaultRow → Type 0
 AllCount rows = AllByRecursion (λ row. verdict row.0 ≡ Err row.1) rows
 
@@ -25,7 +25,7 @@ first_byte_rows =
     ∷ (0x3E ∷ 0x80 ∷ 0x00 ∷ [], stops.Malformed kinds.Qos)
     ∷ []
 
--- the length comes before the limit, the limit before what is missing, and that before the fields
+-- the length comes before the limit, the limit before missing bytes, and those before the fields
 -- (MQTT 2.2.3)
 abbrev pub length_rows : List FaultRow
 length_rows =
@@ -37,7 +37,7 @@ length_rows =
     ∷ (0x10 ∷ 0x0D ∷ 0x58 ∷ [], stops.More)
     ∷ []
 
--- a topic that does not fit, its bytes, its text, its levels, the identifier (MQTT 3.3)
+-- in order: a topic that does not fit, its bytes, its text, its levels, the identifier (MQTT 3.3)
 abbrev pub publish_rows : List FaultRow
 publish_rows =
     (0x30 ∷ 0x03 ∷ 0x00 ∷ 0x05 ∷ 0x00 ∷ [], stops.Malformed kinds.Shape)
@@ -59,7 +59,7 @@ publish_rows =
     ∷ (0x32 ∷ 0x03 ∷ 0x00 ∷ 0x01 ∷ 0x61 ∷ [], stops.Malformed kinds.Shape)
     ∷ []
 
--- an identifier comes before what is left over, and before a list (MQTT 2.3.1)
+-- an identifier comes before bytes left over, and before a list (MQTT 2.3.1)
 abbrev pub id_rows : List FaultRow
 id_rows =
     (0x40 ∷ 0x01 ∷ 0x00 ∷ [], stops.Malformed kinds.Shape)
@@ -69,7 +69,8 @@ id_rows =
     ∷ (0xA2 ∷ 0x02 ∷ 0x00 ∷ 0x00 ∷ [], stops.Malformed kinds.Identifier)
     ∷ []
 
--- an empty list; the items one by one, a filter before its QoS (MQTT 3.8.3, 3.9.3, 3.10.3)
+-- in order: an empty list; the items one by one, a filter before its QoS (MQTT 3.8.3, 3.9.3,
+-- 3.10.3)
 abbrev pub list_rows : List FaultRow
 list_rows =
     (0x82 ∷ 0x02 ∷ 0x00 ∷ 0x01 ∷ [], stops.Malformed kinds.Shape)

@@ -17,7 +17,7 @@ publish_body publish = text publish.topic ++ delivery_id publish.delivery ++ pub
 abbrev pub FitsPublish : Publish → Type 0
 FitsPublish publish = IsTrue (is_topic publish.topic) × FitsDelivery publish.delivery
 
--- a body after these flags, or its first fault; the payload is all that is left
+-- a body after these flags, or its first fault; the payload is the rest of the body
 unfoldable pub publish_of : DeliveryFlags → Bool → List ℕ → Result Publish Stop
 publish_of flags retain body = do
   topic ← topic_at body

@@ -6,12 +6,12 @@ use Rattle.packet.specs.declared.error.DecodeFault.TheVariants as faults
 use Rattle.packet.specs.declared.error.EncodeFault.{EncodeFault}
 use Rattle.packet.specs.declared.error.EncodeFault.TheVariants as encode_faults
 
--- a malformed packet has its kind's number, a refused CONNECT has none
+-- the number of the malformed kind; a refused CONNECT has none
 abbrev pub decode_number : DecodeFault → Option ℕ
 decode_number (faults.Malformed kind) = Some (malformed_number kind)
 decode_number (faults.Refused code) = None
 
--- a packet that cannot be encoded has the number of its fault
+-- the number of a packet that cannot be encoded
 abbrev pub encode_number : EncodeFault → ℕ
 encode_number encode_faults.TooLarge = 4
 encode_number encode_faults.Memory = 12

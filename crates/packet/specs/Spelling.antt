@@ -15,7 +15,7 @@ use Rattle.packet.specs.Subscribe.{subscribe_body, FitsSubscribe}
 use Rattle.packet.specs.Suback.{suback_body, FitsSuback}
 use Rattle.packet.specs.Unsubscribe.{unsubscribe_body, FitsUnsubscribe}
 
--- what the first byte of a packet says (MQTT 2.2)
+-- the type and flags of a packet, which its first byte has (MQTT 2.2)
 abbrev pub header : Packet → Header
 header (packets.Connect connect) = headers.Connect
 header (packets.Connack connack) = headers.Connack
@@ -32,7 +32,7 @@ header packets.Pingreq = headers.Pingreq
 header packets.Pingresp = headers.Pingresp
 header packets.Disconnect = headers.Disconnect
 
--- what comes after the Remaining Length: variable header and payload (MQTT 3)
+-- the bytes after the Remaining Length: variable header and payload (MQTT 3)
 abbrev pub body : Packet → List ℕ
 body (packets.Connect connect) = connect_body connect
 body (packets.Connack connack) = connack_body connack
@@ -55,7 +55,7 @@ Spells packet bytes =
     (len : List ℕ) × IsLength len (length (body packet))
     × (bytes ≡ first_byte (header packet) ∷ len ++ body packet)
 
--- the bytes of a packet: the one list of bytes that spells it
+-- the bytes of a packet: the only list of bytes that spells it
 unfoldable pub spelling : Packet → List ℕ
 spelling packet =
     first_byte (header packet) ∷ remaining_length (length (body packet)) ++ body packet
@@ -64,7 +64,7 @@ spelling packet =
 abbrev pub spelled_len : Packet → ℕ
 spelled_len packet = 1 + length_bytes (length (body packet)) + length (body packet)
 
--- each field is in its range, as it is in every packet of a program
+-- each field is in its range, as in every packet of a program
 abbrev pub Fits : Packet → Type 0
 Fits (packets.Connect connect) = FitsConnect connect
 Fits (packets.Connack connack) = Unit {0}

@@ -10,16 +10,16 @@ use Rattle.packet.specs.declared.suback.SubackCode.TheVariants as return_codes
 use Rattle.packet.specs.declared.suback.Suback.{Suback}
 use Rattle.packet_base.specs.QoS.{qos_number, qos_of}
 
--- the granted QoS, or 0x80 for a failure (MQTT 3.9.3)
+-- the return code: the granted QoS, or 0x80 for a failure (MQTT 3.9.3)
 abbrev pub granted_number : SubackCode → ℕ
 granted_number (return_codes.Granted qos) = qos_number qos
 granted_number return_codes.Failure = 0x80
 
--- an answer as a byte
+-- a return code as a byte
 abbrev pub granted : SubackCode → List ℕ
 granted code = granted_number code ∷ []
 
--- identifier, answers
+-- identifier, return codes
 abbrev pub suback_body : Suback → List ℕ
 suback_body suback = number suback.id ++ flat_map granted suback.codes
 
@@ -27,13 +27,13 @@ suback_body suback = number suback.id ++ flat_map granted suback.codes
 abbrev pub FitsSuback : Suback → Type 0
 FitsSuback suback = IsId suback.id
 
--- the answer of a byte
+-- the return code of a byte
 abbrev pub suback_code_of : ℕ → Result SubackCode Stop
 suback_code_of byte =
     if byte == 0x80 then Ok return_codes.Failure else
     qos_of byte >>= (λ qos. Ok (return_codes.Granted qos))
 
--- an answer, and the bytes after it
+-- a return code, and the bytes after it
 unfoldable pub granted_at : List ℕ → Result (SubackCode × List ℕ) Stop
 granted_at bytes = do
   byte ← byte_at bytes

@@ -11,7 +11,7 @@ use Rattle.packet.specs.declared.subscribe.Subscription.{Subscription}
 use Rattle.packet.specs.declared.subscribe.Subscribe.{Subscribe}
 use Rattle.packet_base.specs.QoS.{qos_number, qos_of}
 
--- a filter, and the greatest QoS that is asked for (MQTT 3.8.3)
+-- a filter and its requested QoS (MQTT 3.8.3)
 abbrev pub subscription : Subscription → List ℕ
 subscription asked = text asked.filter ++ qos_number asked.qos ∷ []
 

@@ -1,4 +1,4 @@
--- The laws of the grammar that `src/laws.rt` proves.
+-- Theorems about the grammar, proved by `src/theorems.rt`.
 use Rattle.std.specs.Prelude.{◌≡◌, ◌≢◌, ℕ, List, ◌∷◌, ◌++◌, Err}
 use Rattle.packet_base.specs.declared.stop.Stop.{Stop}
 use Rattle.packet_base.specs.declared.stop.Stop.TheVariants as stops
@@ -6,7 +6,7 @@ use Rattle.packet.specs.declared.packet.Packet.{Packet}
 use Rattle.packet.specs.Spelling.{Spells, IsPacket, spelling}
 use Rattle.packet.specs.Verdict.{verdict, IsUnfinished}
 
--- each packet has a spelling, and no other
+-- each packet has exactly one spelling
 abbrev pub HasOneSpelling : Type 0
 HasOneSpelling = (packet : Packet) → IsPacket packet → (bytes : List ℕ) × Spells packet bytes
     × ((other : List ℕ) → Spells packet other → other ≡ bytes)
@@ -24,7 +24,7 @@ NoneBeginsAnother = (packet other : Packet) (bytes other_bytes rest other_rest :
     → Spells packet bytes → Spells other other_bytes
     → bytes ++ rest ≡ other_bytes ++ other_rest → (packet ≡ other) × (bytes ≡ other_bytes)
 
--- a spelling whose last bytes are missing is less than a packet
+-- a proper prefix of a spelling is no whole packet and has no fault
 abbrev pub FrontsAreUnfinished : Type 0
 FrontsAreUnfinished = (packet : Packet) (front more : List ℕ) (next : ℕ) → IsPacket packet
     → Spells packet (front ++ next ∷ more) → IsUnfinished front

@@ -1,4 +1,4 @@
--- What is at the front of bytes: a packet, less than one, or the first fault from the left.
+-- The front of bytes: a packet, less than one, or the first fault from the left.
 use Rattle.std.specs.Prelude.{◌≡◌, ℕ, ◌≤◌, nat_le, Bool, true, false, is_ok, List, [], ◌∷◌, ◌++◌}
 use Rattle.std.specs.Prelude.{length, take, drop, Result, Ok, Err}
 use Rattle.topics.specs.declared.malformed.MalformedKind.TheVariants as kinds
@@ -30,7 +30,7 @@ use Rattle.packet.specs.Unsubscribe.{unsubscribe_of}
 abbrev pub empty_of : Packet → List ℕ → Result Packet Stop
 empty_of packet body = ended body >> Ok packet
 
--- the body after a first byte that says this
+-- the body of a packet with this header
 abbrev pub body_of : Header → List ℕ → Result Packet Stop
 body_of headers.Connect body = connect_of body >>= (λ connect. Ok (packets.Connect connect))
 body_of headers.Connack body = connack_of body >>= (λ connack. Ok (packets.Connack connack))
@@ -66,9 +66,9 @@ verdict (first ∷ bytes) = do
 abbrev pub IsUnfinished : List ℕ → Type 0
 IsUnfinished bytes = verdict bytes ≡ Err stops.More
 
--- Whether memory is needed, and so whether the fields before the first text or list are right.
--- These are all of a CONNECT, the topic of a PUBLISH, the identifier of a packet with a list, which
--- is not empty. No other packet has a text or a list.
+-- Whether memory is needed: the fields before the first text or list have no fault. These are all
+-- fields of a CONNECT, the topic of a PUBLISH, and the identifier of a packet with a list, which is
+-- not empty. No other packet has a text or a list.
 abbrev pub asks_in_body : Header → List ℕ → Bool
 asks_in_body headers.Connect body = is_ok (connect_of body)
 asks_in_body (headers.Publish flags retain) body = is_ok (topic_at body)
@@ -91,7 +91,7 @@ asks_memory (first ∷ bytes) = do
 abbrev pub MayNeedMemory : List ℕ → Type 0
 MayNeedMemory bytes = asks_memory bytes ≡ Ok true
 
--- the answer of `decode` is the verdict, except that memory may run out
+-- the result of `decode` is the verdict, except that memory may run out
 abbrev pub Decodes : List ℕ → Result Step DecodeFault → Type 0
 Decodes bytes (Ok (steps.Whole packet len)) = verdict bytes ≡ Ok (packet, drop len bytes)
 Decodes bytes (Ok steps.More) = verdict bytes ≡ Err stops.More
@@ -103,12 +103,12 @@ abbrev pub IsWithin : List ℕ → Step → Type 0
 IsWithin bytes (steps.Whole packet len) = len ≤ length bytes
 IsWithin bytes steps.More = Unit {0}
 
--- a packet that was read has this spelling
+-- a packet that was read is spelled by the bytes that it takes
 abbrev pub IsSpelledSo : List ℕ → Step → Type 0
 IsSpelledSo bytes (steps.Whole packet len) = Spells packet (take len bytes) × IsPacket packet
 IsSpelledSo bytes steps.More = Unit {0}
 
--- the answer is this packet with this length, except that memory may run out
+-- the result is this packet with this length, except that memory may run out
 abbrev pub ReadsWhole : Packet → ℕ → Result Step DecodeFault → Type 0
 ReadsWhole packet len (Ok step) = step ≡ steps.Whole packet len
 ReadsWhole packet len (Err fault) = fault ≡ faults.Malformed kinds.Memory

@@ -10,14 +10,14 @@ use topics::MalformedKind;
 /// The answer to a CONNECT (MQTT 3.2).
 #[derive(Clone, Copy, Debug, PartialEq, Eq)]
 pub enum Connack {
-    /// The connection is accepted; the flag says whether the server kept a session of the client.
+    /// The connection is accepted; the flag is Session Present (MQTT 3.2.2.2).
     Accepted(bool),
     /// The connection is refused, and no session is present (MQTT 3.2.2.2).
     Refused(RefusalCode),
 }
 
 impl Connack {
-    /// Reads the body of a CONNACK (MQTT 3.2). The first fault that is met stops it.
+    /// Reads the body of a CONNACK (MQTT 3.2), up to its first fault.
     #[tactic(auto, unfolding(crate::specs::Connack::connack_of))]
     pub(crate) fn read(body: &mut Reader) -> Result<Connack, Stop>
         ensures exact { Gives (λ value. value) result (connack_of body.old) }
@@ -30,14 +30,14 @@ impl Connack {
         Ok(connack)
     }
 
-    /// Returns how many bytes the body has.
+    /// Returns the length of the body in bytes.
     pub(crate) fn body_len(self) -> usize
         ensures { result ≡ min (length (connack_body self)) usize.MAX }
     {
         2
     }
 
-    /// Writes the body.
+    /// Appends the body. The caller has reserved the capacity.
     pub(crate) fn put(self, out: &mut Vec<u8>)
         requires { vec_len out.old + length (connack_body self) ≤ vec_capacity out.old }
         ensures { out.new.items ≡ out.old.items ++ connack_body self }
@@ -55,7 +55,7 @@ impl Connack {
     }
 }
 
-// Returns the answer with these two bytes as its body.
+// Decodes the two bytes of the body.
 fn answer(present: u8, code: u8) -> Result<Connack, Stop>
     ensures exact { result ≡ answer_of present code }
     ensures memory { TakesNoMemory result }

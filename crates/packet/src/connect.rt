@@ -12,7 +12,7 @@ use packet_base::{
 use std::alloc::Global;
 use topics::MalformedKind;
 
-/// What each CONNECT begins with: the text `MQTT` (MQTT 3.1.2.1).
+/// The first field of each CONNECT: the text `MQTT` (MQTT 3.1.2.1).
 const PROTOCOL: [u8; 6] = [0x00, 0x04, 0x4D, 0x51, 0x54, 0x54];
 
 /// The protocol level of MQTT 3.1.1 (MQTT 3.1.2.2).
@@ -29,12 +29,12 @@ pub struct Connect {
     pub client: ClientId,
     /// CleanSession: whether the session begins afresh, and ends with the connection.
     pub clean: bool,
-    /// The most seconds between two packets of the client; 0 for no limit (MQTT 3.1.2.10).
+    /// The most seconds between two packets of the client; 0 means no limit (MQTT 3.1.2.10).
     pub keep_alive: u16,
 }
 
 impl Connect {
-    /// Reads the body of a CONNECT (MQTT 3.1). The first fault that is met stops it.
+    /// Reads the body of a CONNECT (MQTT 3.1), up to its first fault.
     #[tactic(auto, unfolding(crate::specs::Connect::connect_of), using(packet_base::proofs::Clients::client_checked))]
     pub(crate) fn read(alloc: Global, body: &mut Reader) -> Result<Connect, Stop>
         ensures exact { Gives (λ value. value) result (connect_of body.old) }
@@ -63,14 +63,14 @@ impl Connect {
         })
     }
 
-    /// Returns how many bytes the body has.
+    /// Returns the length of the body in bytes.
     pub(crate) fn body_len(&self) -> usize
         ensures { result ≡ min (length (connect_body self.now)) usize.MAX }
     {
         12 + self.client.as_str().len()
     }
 
-    /// Writes the body.
+    /// Appends the body. The caller has reserved the capacity.
     pub(crate) fn put(&self, out: &mut Vec<u8>)
         requires { vec_len out.old + length (connect_body self.now) ≤ vec_capacity out.old }
         ensures { out.new.items ≡ out.old.items ++ connect_body self.now }
@@ -91,7 +91,7 @@ impl Connect {
     }
 }
 
-// Returns CleanSession of connect flags, of which no other may be set (MQTT 3.1.2.3).
+// Returns CleanSession; any other connect flag that is set is a fault (MQTT 3.1.2.3).
 fn clean_of(flags: u8) -> Result<bool, Stop>
     ensures exact { Gives (λ value. value) result (clean_of flags) }
     ensures memory { TakesNoMemory result }

@@ -1,4 +1,12 @@
 // Reading the packet at the front of a slice.
+//
+// `decode` is stateless: it looks at the bytes from their beginning and returns a whole packet with
+// its length, `More`, or the first fault from the left. First byte, Remaining Length, the limit on
+// the body, the presence of the whole body and its fields are checked in this order. So a packet
+// over the limit is refused as soon as its length is there, before its body was received or any
+// memory taken, and a fault stays the same whatever bytes follow (`faults_stay`). Each packet has
+// one spelling and no spelling is a prefix of another, so a packet that is returned does not depend
+// on the bytes after it.
 
 ghost use Rattle.std.specs.Prelude.{◌≤◌, length, drop, ◌∷◌, IfOk, IsErrOf};
 ghost use Rattle.packet_base.specs.Outcome.{Gives, IsOutOfMemory};
@@ -11,29 +19,29 @@ use packet_base::{Header, Reader, Stop, take_length};
 use std::alloc::Global;
 use topics::MalformedKind;
 
-/// What is at the front of a slice.
+/// The result of looking at the front of a slice.
 #[derive(Debug, PartialEq, Eq, Drop)]
 pub enum Step {
-    /// A whole packet, and how many bytes it takes.
+    /// A whole packet, and its length in bytes.
     Whole(Packet, usize),
     /// Less than a packet, which more bytes may complete.
     More,
 }
 
-/// Reads the packet at the front of the bytes; bytes may follow it.
+/// Reads the packet at the front of the bytes; more bytes may follow it.
 ///
-/// The first fault from the left is answered. Of the first byte it is `PacketType`, `Qos` or
-/// `Flags`. Of the Remaining Length it is `Length`, or `TooLarge` if it is over `MAX_BODY`.
+/// The first fault from the left is returned. In the first byte it is `PacketType`, `Qos` or
+/// `Flags`; in the Remaining Length it is `Length`, or `TooLarge` if it is over `MAX_BODY`.
 ///
-/// Once the whole body is there, its fields are looked at in their order:
+/// Once the whole body is there, its fields are checked in order:
 ///
-/// - `Protocol` and `Refused` are faults of a CONNECT, of which a refused length of the Client
-///   Identifier comes last.
-/// - `Text` is a fault of any text, and `Topic`, `Filter` and `TooDeep` are faults of a Topic Name
-///   or a Topic Filter.
-/// - `Identifier` is a fault of a Packet Identifier.
-/// - `Qos` is a fault of the QoS of a filter, and of a return code of a SUBACK.
-/// - `Shape` is a field that does not fit, bytes left over, an empty list, or a byte of a CONNACK
+/// - `Protocol` and `Refused`: a CONNECT; a length of the Client Identifier that is refused comes
+///   last.
+/// - `Text`: any text. `Topic`, `Filter` and `TooDeep`: a Topic Name or a Topic Filter.
+/// - `Identifier`: a Packet Identifier.
+/// - `Qos`: the QoS of a filter, or a return code of a SUBACK.
+/// - `Shape`: a field that does not fit, bytes left over, an empty list, or a byte of a CONNACK
+///   outside its table.
 ///   outside its table.
 ///
 /// `Memory` may come once the whole body is there, and only for a packet with a text or a list. It
@@ -54,7 +62,7 @@ pub fn decode(alloc: Global, bytes: &[u8]) -> Result<Step, DecodeFault>
     front_step(alloc, bytes)
 }
 
-// Reads the packet at the front of the bytes; its clauses give the exact answer, not its spelling.
+// Reads the packet at the front of the bytes; its clauses give the exact result, not its spelling.
 #[tactic(auto, unfolding(crate::specs::Verdict::verdict))]
 fn front_step(alloc: Global, bytes: &[u8]) -> Result<Step, DecodeFault>
     ensures exact { Decodes bytes.now result }
@@ -73,7 +81,8 @@ fn front_step(alloc: Global, bytes: &[u8]) -> Result<Step, DecodeFault>
     }
 }
 
-// Returns the packet of a first byte and the bytes after it, and how many of these it takes.
+// Reads the packet that begins with `first` from the bytes after it, `more`, and returns with it
+// how many bytes of `more` it takes.
 #[tactic(auto, unfolding(crate::specs::Verdict::verdict, crate::specs::Verdict::asks_memory))]
 fn front_packet(alloc: Global, first: u8, more: &[u8]) -> Result<(Packet, usize), Stop>
     ensures exact { Gives (λ front. (front.0, drop front.1 more.now)) result

@@ -1,4 +1,4 @@
-// How a PUBLISH is delivered.
+// QoS, DUP and Packet Identifier of a PUBLISH.
 
 ghost use Rattle.std.specs.Prelude.{◌≡◌, ◌+◌, ◌≤◌, ◌++◌, length, vec_len, vec_capacity};
 ghost use Rattle.packet_base.specs.Outcome.{Reads, TakesNoMemory};
@@ -13,11 +13,11 @@ ghost use Rattle.packet.specs.Delivery.{
 
 use packet_base::{DeliveryFlags, PacketId, QoS, Reader, Stop, put_number};
 
-/// The QoS of a PUBLISH, with DUP and the Packet Identifier if its QoS has them (MQTT 3.3.1,
-/// 3.3.2.2). The bool is DUP: whether this may be a repeat of an earlier delivery.
+/// The QoS of a PUBLISH, with DUP and the Packet Identifier if the QoS has them (MQTT 3.3.1,
+/// 3.3.2.2). The bool is DUP: true if this may be a retransmission.
 #[derive(Clone, Copy, Debug, PartialEq, Eq)]
 pub enum Delivery {
-    /// QoS 0: no identifier, and no repeat.
+    /// QoS 0: neither an identifier nor DUP.
     AtMostOnce,
     /// QoS 1.
     AtLeastOnce(bool, PacketId),
@@ -48,7 +48,7 @@ impl Delivery {
         }
     }
 
-    /// Returns the flags of the first byte.
+    /// Returns DUP and QoS as the first byte has them.
     pub(crate) fn flags(self) -> DeliveryFlags
         ensures { result ≡ delivery_flags self }
     {
@@ -59,7 +59,7 @@ impl Delivery {
         }
     }
 
-    /// Reads the identifier that these flags ask for. The first fault that is met stops it.
+    /// Reads the identifier if these flags have one, up to the first fault.
     #[tactic(auto, unfolding(crate::specs::Delivery::delivery_at))]
     pub(crate) fn read(flags: DeliveryFlags, body: &mut Reader) -> Result<Delivery, Stop>
         ensures exact { Reads (λ value. value) result body.new (delivery_at flags body.old) }
@@ -72,7 +72,7 @@ impl Delivery {
         }
     }
 
-    /// Returns how many bytes the identifier takes.
+    /// Returns how many bytes the identifier takes: 2, or 0 at QoS 0.
     pub(crate) fn id_len(self) -> usize
         ensures { result ≡ length (delivery_id self) }
     {

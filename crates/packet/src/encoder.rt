@@ -9,9 +9,9 @@ use crate::error::EncodeFault;
 use crate::packet::{MAX_BODY, Packet};
 use packet_base::{length_size, put_byte, put_length};
 
-/// Appends the spelling of a packet to the vector. `TooLarge` comes exactly if the body has more
-/// than [`MAX_BODY`] bytes, and before memory is needed; `Memory` if the vector had too little
-/// capacity and could not grow. After an error the vector is unchanged.
+/// Appends the bytes of a packet to the vector. `TooLarge` comes exactly if the body has more than
+/// [`MAX_BODY`] bytes, and before memory is needed; `Memory` if the vector had too little capacity
+/// and could not grow. After an error the vector is unchanged.
 pub fn encode(packet: &Packet, out: &mut Vec<u8>) -> Result<(), EncodeFault>
     requires listed { IsListed packet.now }
     ensures ok { OnOk result (AppendsSpelling out.old.items out.new.items packet.now) }

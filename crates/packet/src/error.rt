@@ -1,4 +1,4 @@
-// Why a packet is not read or written.
+// The errors of `decode` and `encode`.
 
 ghost use Rattle.std.specs.Prelude.{◌≡◌};
 ghost use Rattle.packet.specs.Refusals.{decode_number, encode_number};
@@ -9,17 +9,17 @@ use std::error::Error;
 use std::fmt;
 use topics::MalformedKind;
 
-/// Why no packet is read from the front of a slice.
+/// Why `decode` returns no packet.
 #[derive(Clone, Copy, Debug, PartialEq, Eq)]
 pub enum DecodeFault {
     /// The bytes begin no packet, or memory ran out.
     Malformed(MalformedKind),
-    /// A CONNECT that is to be answered by a CONNACK with this code.
+    /// A CONNECT that is answered by a CONNACK with this code.
     Refused(RefusalCode),
 }
 
 impl DecodeFault {
-    /// Returns the number of the refusal; a CONNECT that is answered with a code has none.
+    /// Returns the number of the refusal; a CONNECT that is answered by a CONNACK has none.
     pub fn number(self) -> Option<u8>
         ensures { result ≡ decode_number self }
     {
@@ -41,7 +41,7 @@ impl fmt::Display for DecodeFault {
 
 impl Error for DecodeFault {}
 
-/// Why a packet is not written.
+/// Why `encode` does not write a packet.
 #[derive(Clone, Copy, Debug, PartialEq, Eq)]
 pub enum EncodeFault {
     /// The packet is over this broker's limit of 1,048,576 bytes.

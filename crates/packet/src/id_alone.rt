@@ -7,8 +7,7 @@ ghost use Rattle.packet.specs.IdAlone.{id_alone_of};
 
 use packet_base::{PacketId, Reader, Stop};
 
-/// Reads a body that is a Packet Identifier alone (MQTT 3.4.2). The first fault that is met stops
-/// it.
+/// Reads a body that is a Packet Identifier alone (MQTT 3.4.2), up to its first fault.
 #[tactic(auto, unfolding(crate::specs::IdAlone::id_alone_of))]
 pub(crate) fn read_id_alone(body: &mut Reader) -> Result<PacketId, Stop>
     ensures exact { Gives (λ value. value) result (id_alone_of body.old) }

@@ -1,5 +1,5 @@
 //! MQTT 3.1.1 Control Packets and their bytes: `decode` reads the packet at the front of a slice,
-//! `encode` appends the one spelling of a packet to a vector.
+//! `encode` appends a packet to a vector.
 #![tactic(auto)]
 
 mod connack;

@@ -29,8 +29,8 @@ use crate::unsubscribe::Unsubscribe;
 use packet_base::{Header, PacketId, Reader, Stop, put_number};
 use std::alloc::{AllocError, Global};
 
-/// The most bytes of a body, after the Remaining Length. It is this broker's own limit: with the
-/// first byte and three of length a packet has at most 2^20 bytes.
+/// The most bytes of a body, which is what follows the Remaining Length. This broker's own limit:
+/// with the first byte and three bytes of length a packet has at most 2^20 bytes.
 pub const MAX_BODY: usize = 1_048_572;
 
 /// A Control Packet (MQTT 2). What MQTT's table of packets does not allow cannot be built, except
@@ -39,29 +39,29 @@ pub const MAX_BODY: usize = 1_048_572;
 pub enum Packet {
     /// A client asks for a connection (MQTT 3.1).
     Connect(Connect),
-    /// The server's answer to CONNECT (MQTT 3.2).
+    /// The acknowledgement of a CONNECT (MQTT 3.2).
     Connack(Connack),
     /// A publication (MQTT 3.3).
     Publish(Publish),
-    /// The answer to a PUBLISH at QoS 1 (MQTT 3.4).
+    /// The acknowledgement of a PUBLISH at QoS 1 (MQTT 3.4).
     Puback(PacketId),
-    /// The first answer to a PUBLISH at QoS 2 (MQTT 3.5).
+    /// The first acknowledgement of a PUBLISH at QoS 2 (MQTT 3.5).
     Pubrec(PacketId),
-    /// The answer to PUBREC (MQTT 3.6).
+    /// The response to a PUBREC (MQTT 3.6).
     Pubrel(PacketId),
-    /// The answer to PUBREL (MQTT 3.7).
+    /// The response to a PUBREL, which completes QoS 2 (MQTT 3.7).
     Pubcomp(PacketId),
     /// A client subscribes (MQTT 3.8).
     Subscribe(Subscribe),
-    /// The answer to SUBSCRIBE (MQTT 3.9).
+    /// The acknowledgement of a SUBSCRIBE (MQTT 3.9).
     Suback(Suback),
     /// A client unsubscribes (MQTT 3.10).
     Unsubscribe(Unsubscribe),
-    /// The answer to UNSUBSCRIBE (MQTT 3.11).
+    /// The acknowledgement of an UNSUBSCRIBE (MQTT 3.11).
     Unsuback(PacketId),
     /// A client shows that it is alive (MQTT 3.12).
     Pingreq,
-    /// The answer to PINGREQ (MQTT 3.13).
+    /// The response to a PINGREQ (MQTT 3.13).
     Pingresp,
     /// A client ends the connection (MQTT 3.14).
     Disconnect,
@@ -95,8 +95,7 @@ impl Packet {
         }
     }
 
-    /// Returns true if `encode` would answer `TooLarge`: whether the body has more than
-    /// [`MAX_BODY`] bytes.
+    /// Returns true if `encode` would return `TooLarge`: the body has more than [`MAX_BODY`] bytes.
     pub fn is_too_large(&self) -> bool
         ensures { IsTrue result ↔ IsTooLarge self.now }
     {
@@ -115,7 +114,7 @@ impl Packet {
         }
     }
 
-    /// Returns what the first byte says.
+    /// Returns the type and the flags, which the first byte has.
     pub(crate) fn header(&self) -> Header
         ensures { result ≡ header self.now }
     {
@@ -137,7 +136,7 @@ impl Packet {
         }
     }
 
-    /// Reads the body of a packet whose first byte says this. The first fault that is met stops it.
+    /// Reads the body of a packet with this header, up to its first fault.
     pub(crate) fn read(alloc: Global, header: Header, body: &mut Reader) -> Result<Packet, Stop>
         ensures exact { Gives (λ value. value) result (body_of header body.old) }
         ensures memory { IsOutOfMemory result → asks_in_body header body.old ≡ true }
@@ -162,7 +161,7 @@ impl Packet {
         })
     }
 
-    /// Returns how many bytes the body has, as far as a `usize` counts.
+    /// Returns the length of the body in bytes, saturating at `usize::MAX`.
     pub(crate) fn body_len(&self) -> usize
         ensures { result ≡ min (length (body self.now)) usize.MAX }
     {
@@ -182,7 +181,7 @@ impl Packet {
         }
     }
 
-    /// Writes the body.
+    /// Appends the body. The caller has reserved the capacity.
     pub(crate) fn put_body(&self, out: &mut Vec<u8>)
         requires { vec_len out.old + length (body self.now) ≤ vec_capacity out.old }
         ensures { out.new.items ≡ out.old.items ++ body self.now }
@@ -204,14 +203,14 @@ impl Packet {
     }
 }
 
-// Ensures that the identifier is in its range.
+// Ensures, for a proof, that the identifier is in its range.
 fn ensure_id_range(id: PacketId)
     ensures { IsId id }
 {
     let _number = id.number();
 }
 
-// Returns a packet whose body is empty.
+// Returns the packet if its body is empty, as it has to be.
 fn empty(packet: Packet, body: &mut Reader) -> Result<Packet, Stop>
     ensures exact { Gives (λ value. value) result (empty_of packet body.old) }
     ensures memory { TakesNoMemory result }

@@ -27,16 +27,15 @@ pub struct Publish {
     pub topic: TopicName,
     /// QoS, DUP and Packet Identifier.
     pub delivery: Delivery,
-    /// RETAIN: to the server, that it is to be kept for later subscribers; from the server, that it
-    /// was kept (MQTT 3.3.1.3).
+    /// RETAIN: to the server, store this for later subscribers; from the server, this had been
+    /// stored (MQTT 3.3.1.3).
     pub retain: bool,
-    /// The payload.
+    /// What the publication carries.
     pub payload: Payload,
 }
 
 impl Publish {
-    /// Reads the body of a PUBLISH, after a first byte with these flags (MQTT 3.3). The first fault
-    /// that is met stops it.
+    /// Reads the body of a PUBLISH with these flags (MQTT 3.3), up to its first fault.
     #[tactic(auto, unfolding(crate::specs::Publish::publish_of))]
     pub(crate) fn read(
         alloc: Global,
@@ -58,7 +57,7 @@ impl Publish {
         })
     }
 
-    /// Returns how many bytes the body has.
+    /// Returns the length of the body in bytes.
     pub(crate) fn body_len(&self) -> usize
         ensures { result ≡ min (length (publish_body self.now)) usize.MAX }
     {
@@ -66,7 +65,7 @@ impl Publish {
         names.saturating_add(self.payload.as_slice().len())
     }
 
-    /// Writes the body.
+    /// Appends the body. The caller has reserved the capacity.
     pub(crate) fn put(&self, out: &mut Vec<u8>)
         requires { vec_len out.old + length (publish_body self.now) ≤ vec_capacity out.old }
         ensures { out.new.items ≡ out.old.items ++ publish_body self.now }

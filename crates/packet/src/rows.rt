@@ -1,4 +1,4 @@
-// Rows of the definitions. The calls do nothing; their contracts are the rows.
+// Worked examples of the definitions. The functions do nothing; their contracts are the examples.
 
 ghost use Rattle.std.specs.Prelude.{◌≡◌};
 ghost use Rattle.packet.specs.Spelling.{max_body};
@@ -6,7 +6,7 @@ ghost use Rattle.packet.specs.FaultRows.{AllCount, first_byte_rows, length_rows,
 ghost use Rattle.packet.specs.FaultRows.{id_rows, list_rows};
 ghost use Rattle.packet.specs.ConnectFaultRows.{connect_rows};
 
-/// Shows which fault counts if bytes have two.
+/// Shows which of two faults is reported.
 pub fn first_fault_counts()
     ensures first_byte { AllCount first_byte_rows }
     ensures length { AllCount length_rows }

@@ -1,4 +1,4 @@
-// SUBACK: the server's answer to a SUBSCRIBE (MQTT 3.9).
+// SUBACK: the server's acknowledgement of a SUBSCRIBE (MQTT 3.9).
 
 ghost use Rattle.std.specs.Prelude.{
   ◌≡◌,
@@ -26,17 +26,17 @@ ghost use Rattle.packet.specs.Suback.{
 use packet_base::{ListItem, PacketId, PacketList, QoS, Reader, Stop, put_byte, put_number};
 use std::alloc::Global;
 
-/// The answer to one filter of a SUBSCRIBE (MQTT 3.9.3).
+/// The return code of one filter of a SUBSCRIBE (MQTT 3.9.3).
 #[derive(Clone, Copy, Debug, PartialEq, Eq)]
 pub enum SubackCode {
-    /// The subscription is granted, at most at this QoS.
+    /// The subscription is granted with this maximum QoS.
     Granted(QoS),
-    /// It is not granted.
+    /// The subscription is refused.
     Failure,
 }
 
 impl SubackCode {
-    /// Returns the byte of this answer: 0 to 2, or 0x80.
+    /// Returns the return code: 0 to 2, or 0x80.
     pub fn number(self) -> u8
         ensures { result ≡ granted_number self }
     {
@@ -46,7 +46,7 @@ impl SubackCode {
         }
     }
 
-    // Returns the answer of a byte.
+    // Decodes a return code; any other byte is `Qos`.
     fn of(byte: u8) -> Result<SubackCode, Stop>
         ensures { result ≡ suback_code_of byte }
     {
@@ -81,18 +81,18 @@ impl ListItem for SubackCode {
     fn ensure_ranges(&self) {}
 }
 
-/// The answer to a SUBSCRIBE (MQTT 3.9). The list is not empty in a packet that was read, and must
-/// not be empty in one that is written.
+/// The acknowledgement of a SUBSCRIBE (MQTT 3.9). `decode` returns no empty list, and `encode`
+/// requires that there is none.
 #[derive(Clone, Debug, PartialEq, Eq, Drop)]
 pub struct Suback {
     /// The identifier of the SUBSCRIBE.
     pub id: PacketId,
-    /// An answer to each of its filters, in order.
+    /// The return code of each of its filters, in order.
     pub codes: PacketList<SubackCode>,
 }
 
 impl Suback {
-    /// Reads the body of a SUBACK (MQTT 3.9). The first fault that is met stops it.
+    /// Reads the body of a SUBACK (MQTT 3.9), up to its first fault.
     #[tactic(auto, unfolding(crate::specs::Suback::suback_of))]
     pub(crate) fn read(alloc: Global, body: &mut Reader) -> Result<Suback, Stop>
         ensures exact { Gives (λ value. value) result (suback_of body.old) }
@@ -103,14 +103,14 @@ impl Suback {
         Ok(Suback { id, codes })
     }
 
-    /// Returns how many bytes the body has.
+    /// Returns the length of the body in bytes.
     pub(crate) fn body_len(&self) -> usize
         ensures { result ≡ min (length (suback_body self.now)) usize.MAX }
     {
         self.codes.len_after(2)
     }
 
-    /// Writes the body.
+    /// Appends the body. The caller has reserved the capacity.
     pub(crate) fn put(&self, out: &mut Vec<u8>)
         requires { vec_len out.old + length (suback_body self.now) ≤ vec_capacity out.old }
         ensures { out.new.items ≡ out.old.items ++ suback_body self.now }

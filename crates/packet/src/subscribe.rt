@@ -27,13 +27,13 @@ use packet_base::{
 use std::alloc::{AllocError, Global};
 use topics::Filter;
 
-/// A filter that a client subscribes to, and the greatest QoS at which it is to be sent
-/// publications (MQTT 3.8.3).
+/// A filter that a client subscribes to, and the maximum QoS at which it is sent publications (MQTT
+/// 3.8.3).
 #[derive(Debug, PartialEq, Eq, Drop)]
 pub struct Subscription {
-    /// The filter.
+    /// The Topic Filter.
     pub filter: Filter,
-    /// The greatest QoS.
+    /// The requested maximum QoS.
     pub qos: QoS,
 }
 
@@ -78,18 +78,18 @@ impl ListItem for Subscription {
     }
 }
 
-/// A client subscribes (MQTT 3.8). The list is not empty in a packet that was read, and must not be
-/// empty in one that is written.
+/// A client subscribes (MQTT 3.8). `decode` returns no empty list, and `encode` requires that there
+/// is none.
 #[derive(Clone, Debug, PartialEq, Eq, Drop)]
 pub struct Subscribe {
-    /// The identifier that the SUBACK will have.
+    /// The identifier, which the SUBACK repeats.
     pub id: PacketId,
-    /// The subscriptions that are asked for, in the order in which they are answered.
+    /// The requested subscriptions; SUBACK has its return codes in the same order.
     pub filters: PacketList<Subscription>,
 }
 
 impl Subscribe {
-    /// Reads the body of a SUBSCRIBE (MQTT 3.8). The first fault that is met stops it.
+    /// Reads the body of a SUBSCRIBE (MQTT 3.8), up to its first fault.
     #[tactic(auto, unfolding(crate::specs::Subscribe::subscribe_of))]
     pub(crate) fn read(alloc: Global, body: &mut Reader) -> Result<Subscribe, Stop>
         ensures exact { Gives (λ value. value) result (subscribe_of body.old) }
@@ -100,14 +100,14 @@ impl Subscribe {
         Ok(Subscribe { id, filters })
     }
 
-    /// Returns how many bytes the body has.
+    /// Returns the length of the body in bytes.
     pub(crate) fn body_len(&self) -> usize
         ensures { result ≡ min (length (subscribe_body self.now)) usize.MAX }
     {
         self.filters.len_after(2)
     }
 
-    /// Writes the body.
+    /// Appends the body. The caller has reserved the capacity.
     pub(crate) fn put(&self, out: &mut Vec<u8>)
         requires { vec_len out.old + length (subscribe_body self.now) ≤ vec_capacity out.old }
         ensures { out.new.items ≡ out.old.items ++ subscribe_body self.now }

@@ -1,4 +1,5 @@
-// Laws of the grammar of packets. The calls do nothing; their contracts are the laws.
+// Theorems about the grammar of packets. The functions do nothing; their contracts are the
+// theorems.
 
 ghost use Rattle.packet.specs.Theorems.{
   HasOneSpelling,
@@ -13,18 +14,18 @@ pub fn one_spelling()
     ensures { HasOneSpelling }
 {}
 
-/// States that `spelling` gives the bytes of a packet, for all fourteen.
+/// States that `spelling` returns the bytes of a packet, for all fourteen packets.
 pub fn spelling_spells()
     ensures { SpellingSpells }
 {}
 
-/// States that no spelling is a prefix of another one, so packets that are joined can be told
-/// apart.
+/// States that no spelling is a prefix of another one, so the boundaries in a sequence of packets
+/// are determined.
 pub fn no_spelling_begins_another()
     ensures { NoneBeginsAnother }
 {}
 
-/// States that each proper prefix of a spelling is less than a packet, so it has no fault.
+/// States that a proper prefix of a spelling is no whole packet yet and has no fault.
 pub fn fronts_are_unfinished()
     ensures { FrontsAreUnfinished }
 {}

@@ -19,18 +19,18 @@ use packet_base::{PacketId, PacketList, Reader, Stop, put_number};
 use std::alloc::Global;
 use topics::Filter;
 
-/// A client unsubscribes (MQTT 3.10). The list is not empty in a packet that was read, and must not
-/// be empty in one that is written.
+/// A client unsubscribes (MQTT 3.10). `decode` returns no empty list, and `encode` requires that
+/// there is none.
 #[derive(Clone, Debug, PartialEq, Eq, Drop)]
 pub struct Unsubscribe {
-    /// The identifier that the UNSUBACK will have.
+    /// The identifier, which the UNSUBACK repeats.
     pub id: PacketId,
     /// The filters to unsubscribe from.
     pub filters: PacketList<Filter>,
 }
 
 impl Unsubscribe {
-    /// Reads the body of an UNSUBSCRIBE (MQTT 3.10). The first fault that is met stops it.
+    /// Reads the body of an UNSUBSCRIBE (MQTT 3.10), up to its first fault.
     #[tactic(auto, unfolding(crate::specs::Unsubscribe::unsubscribe_of))]
     pub(crate) fn read(alloc: Global, body: &mut Reader) -> Result<Unsubscribe, Stop>
         ensures exact { Gives (λ value. value) result (unsubscribe_of body.old) }
@@ -41,14 +41,14 @@ impl Unsubscribe {
         Ok(Unsubscribe { id, filters })
     }
 
-    /// Returns how many bytes the body has.
+    /// Returns the length of the body in bytes.
     pub(crate) fn body_len(&self) -> usize
         ensures { result ≡ min (length (unsubscribe_body self.now)) usize.MAX }
     {
         self.filters.len_after(2)
     }
 
-    /// Writes the body.
+    /// Appends the body. The caller has reserved the capacity.
     pub(crate) fn put(&self, out: &mut Vec<u8>)
         requires { vec_len out.old + length (unsubscribe_body self.now) ≤ vec_capacity out.old }
         ensures { out.new.items ≡ out.old.items ++ unsubscribe_body self.now }

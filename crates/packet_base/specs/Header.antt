@@ -9,7 +9,7 @@ use Rattle.packet_base.specs.declared.header.Header.{Header}
 use Rattle.packet_base.specs.declared.header.Header.TheVariants as headers
 use Rattle.packet_base.specs.Spelling.{bit}
 
--- the flags DUP, 8, and QoS, twice its number (MQTT 3.3.1)
+-- DUP (8) and QoS (twice its number), as bits of the first byte (MQTT 3.3.1)
 abbrev pub delivery_bits : DeliveryFlags → ℕ
 delivery_bits deliveries.AtMostOnce = 0
 delivery_bits (deliveries.AtLeastOnce dup) = 2 + 8 * bit dup
@@ -32,12 +32,12 @@ first_byte headers.Pingreq = 0xC0
 first_byte headers.Pingresp = 0xD0
 first_byte headers.Disconnect = 0xE0
 
--- a type whose flags are always the same (MQTT 2.2.2)
+-- the header if the flags are the ones that its type always has (MQTT 2.2.2)
 abbrev pub plain_header : Header → ℕ → ℕ → Result Header Stop
 plain_header header wanted flags =
     if flags == wanted then Ok header else Err (stops.Malformed kinds.Flags)
 
--- QoS at the second and third bit, DUP from 8 on, RETAIN if the number is odd (MQTT 3.3.1)
+-- bit 3 is DUP, bits 2 and 1 are the QoS, bit 0 is RETAIN (MQTT 3.3.1)
 abbrev pub publish_header : ℕ → Result Header Stop
 publish_header flags =
     let dup = nat_lt 7 flags in
@@ -48,7 +48,7 @@ publish_header flags =
     if dup then Err (stops.Malformed kinds.Flags) else
     Ok (headers.Publish deliveries.AtMostOnce retain)
 
--- the type and its flags, with the types in the order of their numbers (MQTT 2.2.1, table 2.1)
+-- the header of a type with its flags, in the order of the types (MQTT 2.2.1, table 2.1)
 abbrev pub typed_header : ℕ → ℕ → Result Header Stop
 typed_header type flags =
     if type == 1 then plain_header headers.Connect 0 flags else
@@ -67,6 +67,6 @@ typed_header type flags =
     if type == 14 then plain_header headers.Disconnect 0 flags else
     Err (stops.Malformed kinds.PacketType)
 
--- what a first byte says
+-- the header that a first byte encodes
 abbrev pub header_of : ℕ → Result Header Stop
 header_of first = typed_header (first / 16) (first % 16)

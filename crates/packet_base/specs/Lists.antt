@@ -1,4 +1,4 @@
--- Lists that go to the end of a body.
+-- Lists that fill the rest of a body.
 use Rattle.std.specs.Prelude.{Bool, is_ok, ℕ, zero, suc, ◌==◌, not, if◌then◌else◌, List, [], ◌∷◌}
 use Rattle.std.specs.Prelude.{length, Result, Ok}
 use Rattle.topics.specs.declared.malformed.MalformedKind.TheVariants as kinds
@@ -6,11 +6,11 @@ use Rattle.packet_base.specs.declared.stop.Stop.{Stop}
 use Rattle.packet_base.specs.declared.stop.Stop.TheVariants as stops
 use Rattle.packet_base.specs.Readers.{◌>>=◌, ◌>>◌, check, byte_at, id_at}
 
--- how an item is read: its value, and the bytes after it
+-- reading an item: its value, and the bytes after it
 abbrev pub ItemAt : Type 0 → Type 0
 ItemAt A = List ℕ → Result (A × List ℕ) Stop
 
--- at most this many items, one after another, to the end of the bytes
+-- at most this many items in sequence, up to the end of the bytes
 unfoldable pub items_of : {A : Type 0} → ItemAt A → ℕ → List ℕ → Result (List A) Stop
 items_of item zero bytes = Ok []
 items_of item (suc most) bytes =
@@ -18,11 +18,11 @@ items_of item (suc most) bytes =
     item bytes >>= (λ first.
     items_of item most first.1 >>= (λ others. Ok (first.0 ∷ others)))
 
--- all the items to the end of the bytes, each of at least one byte
+-- all items up to the end of the bytes, each of at least one byte
 abbrev pub items_at : {A : Type 0} → ItemAt A → List ℕ → Result (List A) Stop
 items_at item bytes = items_of item (length bytes) bytes
 
--- all the items to the end of the bytes, of which there has to be one (MQTT 3.8.3, 3.9.3, 3.10.3)
+-- all items up to the end of the bytes, at least one (MQTT 3.8.3, 3.9.3, 3.10.3)
 abbrev pub list_of : {A : Type 0} → ItemAt A → List ℕ → Result (List A) Stop
 list_of item bytes = do
   items ← items_at item bytes

@@ -1,4 +1,4 @@
--- Reading from left to right, with the first fault that is met.
+-- Reading from left to right, up to the first fault.
 use Rattle.std.specs.Prelude.{ℕ, ◌+◌, ◌-◌, ◌*◌, ◌<◌, nat_lt, ◌==◌, Bool, true, false, not, ◌&&◌}
 use Rattle.std.specs.Prelude.{if◌then◌else◌, List, [], ◌∷◌, length, get_or, take, drop, Result, Ok, Err}
 use Rattle.std.specs.Int.{w16, from_be_bytes}
@@ -21,12 +21,12 @@ abbrev pub ◌>>◌ : {A B : Type 0} → Result A Stop → Result B Stop → Res
 (Ok read) >> next = next
 (Err stop) >> next = Err stop
 
--- continues if the test is true, and stops in this way if it is not
+-- continues if the test is true, and stops for this reason otherwise
 abbrev pub check : Bool → Stop → Result (Unit {0}) Stop
 check true stop = Ok tt
 check false stop = Err stop
 
--- a fault of the bytes
+-- stops at malformed bytes
 abbrev pub malformed : {A : Type 0} → MalformedKind → Result A Stop
 malformed kind = Err (stops.Malformed kind)
 
@@ -39,7 +39,7 @@ abbrev pub byte_at : List ℕ → Result (ℕ × List ℕ) Stop
 byte_at [] = malformed kinds.Shape
 byte_at (byte ∷ rest) = Ok (byte, rest)
 
--- this many bytes, and those after them
+-- the next `n` bytes, and the bytes after them
 abbrev pub front_at : ℕ → List ℕ → Result (List ℕ × List ℕ) Stop
 front_at len bytes =
     if nat_lt (length bytes) len then malformed kinds.Shape else Ok (take len bytes, drop len bytes)
@@ -50,7 +50,7 @@ number_at bytes = do
   front ← front_at 2 bytes
   Ok (from_be_bytes w16 front.0, front.1)
 
--- a Packet Identifier is not zero (MQTT 2.3.1)
+-- a Packet Identifier, which is not zero (MQTT 2.3.1)
 unfoldable pub id_at : List ℕ → Result (ℕ × List ℕ) Stop
 id_at bytes = do
   id ← number_at bytes
@@ -61,7 +61,7 @@ id_at bytes = do
 abbrev pub is_text : List ℕ → Bool
 is_text bytes = is_utf8 bytes && not (contains_byte 0 bytes)
 
--- bytes that have to be a text
+-- bytes as a text
 abbrev pub text_of : List ℕ → Result (List ℕ) Stop
 text_of bytes = do
   check (is_text bytes) (stops.Malformed kinds.Text)
@@ -75,7 +75,7 @@ text_at bytes = do
   text ← text_of front.0
   Ok (text, front.1)
 
--- no bytes are left over
+-- `Shape` if bytes are left over
 abbrev pub ended : List ℕ → Result (Unit {0}) Stop
 ended [] = Ok tt
 ended (byte ∷ bytes) = malformed kinds.Shape

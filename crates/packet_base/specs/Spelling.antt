@@ -28,7 +28,7 @@ use Rattle.std.specs.Int.{w16, to_be_bytes}
 abbrev pub number : ℕ → List ℕ
 number value = to_be_bytes w16 value
 
--- how many bytes it has, then the bytes (MQTT 1.5.3)
+-- the length in two bytes, then the bytes (MQTT 1.5.3)
 abbrev pub text : List ℕ → List ℕ
 text bytes = number (length bytes) ++ bytes
 

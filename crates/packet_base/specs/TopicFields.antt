@@ -5,7 +5,7 @@ use Rattle.topics.specs.declared.malformed.MalformedKind.{MalformedKind}
 use Rattle.packet_base.specs.declared.stop.Stop.{Stop}
 use Rattle.packet_base.specs.Readers.{◌>>=◌, ◌>>◌, malformed, text_at}
 
--- a text that its own checks passed, or the first of them that failed
+-- no fault, or the malformed kind of the first one
 abbrev pub faultless : Option MalformedKind → Result (Unit {0}) Stop
 faultless None = Ok tt
 faultless (Some kind) = malformed kind

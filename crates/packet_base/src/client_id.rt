@@ -1,4 +1,4 @@
-// The Client Identifier, by which the server finds a client's session.
+// The Client Identifier, the key of a client's session.
 
 ghost use Rattle.std.specs.Prelude.{◌≡◌, None, Some, IfOk, OnOk, IfErr, IsTrue, true};
 ghost use Rattle.packet_base.specs.ClientId.{client_fault, has_client_length, is_client};
@@ -9,7 +9,7 @@ use std::fmt;
 use std::marker::Model;
 use topics::{MalformedKind, Text};
 
-/// The most bytes of a Client Identifier.
+/// The most bytes of a Client Identifier, this broker's own limit.
 const MAX_CLIENT_BYTES: usize = 64;
 
 /// A Client Identifier of 1 to 64 bytes (MQTT 3.1.3.1; 64 is this broker's own limit). It is
@@ -53,7 +53,7 @@ impl ClientId {
         Ok(ClientId::of_checked(alloc, text)?)
     }
 
-    /// Returns the Client Identifier of a text without a fault. The only error is that memory ran
+    /// Returns the Client Identifier of a text that has no fault. The only error is that memory ran
     /// out.
     pub fn of_checked(alloc: Global, text: &str) -> Result<ClientId, AllocError>
         requires { is_client text.now ≡ true }

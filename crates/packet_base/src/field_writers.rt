@@ -1,5 +1,5 @@
-// Appending the fields of a packet to a vector. Their capacity is reserved before, so that none of
-// these calls needs memory.
+// Appending the fields of a packet to a vector. The caller has reserved the capacity, so none of
+// these functions allocates.
 
 ghost use Rattle.std.specs.Prelude.{
   ◌≡◌,
@@ -16,7 +16,7 @@ ghost use Rattle.std.specs.Prelude.{
 };
 ghost use Rattle.packet_base.specs.Spelling.{number, text};
 
-/// Writes a byte at the end.
+/// Appends a byte.
 pub fn put_byte(out: &mut Vec<u8>, byte: u8)
     requires { vec_len out.old + 1 ≤ vec_capacity out.old }
     ensures items { out.new.items ≡ out.old.items ++ byte ∷ [] }
@@ -26,7 +26,7 @@ pub fn put_byte(out: &mut Vec<u8>, byte: u8)
     out.push_reserved(byte);
 }
 
-/// Writes these bytes at the end.
+/// Appends these bytes.
 pub fn put_bytes(out: &mut Vec<u8>, bytes: &[u8])
     requires { vec_len out.old + length bytes.now ≤ vec_capacity out.old }
     ensures items { out.new.items ≡ out.old.items ++ bytes.now }
@@ -36,7 +36,7 @@ pub fn put_bytes(out: &mut Vec<u8>, bytes: &[u8])
     out.extend_from_slice(bytes).unwrap();
 }
 
-/// Writes a number of two bytes, the high one first (MQTT 1.5.2).
+/// Appends a number of two bytes, the high one first (MQTT 1.5.2).
 pub fn put_number(out: &mut Vec<u8>, value: u16)
     requires { vec_len out.old + 2 ≤ vec_capacity out.old }
     ensures items { out.new.items ≡ out.old.items ++ number value }
@@ -46,7 +46,7 @@ pub fn put_number(out: &mut Vec<u8>, value: u16)
     put_bytes(out, &value.to_be_bytes());
 }
 
-/// Writes a text with its length before it (MQTT 1.5.3).
+/// Appends a text, its length in two bytes before it (MQTT 1.5.3).
 pub fn put_text(out: &mut Vec<u8>, value: &str)
     requires short { length value.now < 2 ^ 16 }
     requires room { vec_len out.old + (2 + length value.now) ≤ vec_capacity out.old }

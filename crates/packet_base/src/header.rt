@@ -37,14 +37,14 @@ impl DeliveryFlags {
     }
 }
 
-/// What the first byte of a packet says: its type and its flags (MQTT 2.2.1, 2.2.2).
+/// The first byte of a packet, decoded: its type and its flags (MQTT 2.2.1, 2.2.2).
 #[derive(Clone, Copy, Debug, PartialEq, Eq)]
 pub enum Header {
     /// CONNECT, type 1.
     Connect,
     /// CONNACK, type 2.
     Connack,
-    /// PUBLISH, type 3, and whether it has RETAIN.
+    /// PUBLISH, type 3: DUP and QoS, and RETAIN.
     Publish(DeliveryFlags, bool),
     /// PUBACK, type 4.
     Puback,
@@ -71,9 +71,9 @@ pub enum Header {
 }
 
 impl Header {
-    /// Returns what a first byte says. A reserved type answers `PacketType`. A PUBLISH of QoS 3
-    /// answers `Qos`, and one of QoS 0 with DUP `Flags`. For any other type, flags that are not
-    /// those of the type answer `Flags`.
+    /// Decodes a first byte. A reserved type is `PacketType`. A PUBLISH of QoS 3 is `Qos`, and one
+    /// of QoS 0 with DUP `Flags`. For any other type, flags that are not those of the type are
+    /// `Flags`.
     pub fn of(first: u8) -> Result<Header, Stop>
         ensures exact { result ≡ header_of first }
         ensures memory { TakesNoMemory result }
@@ -98,7 +98,7 @@ impl Header {
         }
     }
 
-    /// Returns the first byte that says this.
+    /// Returns the first byte of such a packet.
     pub fn first_byte(self) -> u8
         ensures { result ≡ first_byte self }
     {
@@ -121,7 +121,7 @@ impl Header {
     }
 }
 
-// Returns a type whose flags are always the same.
+// Returns the header if the flags are the ones that its type always has.
 fn plain(header: Header, wanted: u8, flags: u8) -> Result<Header, Stop>
     ensures exact { result ≡ plain_header header wanted flags }
     ensures memory { TakesNoMemory result }
@@ -132,7 +132,7 @@ fn plain(header: Header, wanted: u8, flags: u8) -> Result<Header, Stop>
     Err(Stop::Malformed(MalformedKind::Flags))
 }
 
-// Returns the flags of a PUBLISH: DUP, two bits of QoS, RETAIN.
+// Decodes the flags of a PUBLISH: DUP, two bits of QoS, RETAIN.
 fn publish(flags: u8) -> Result<Header, Stop>
     ensures exact { result ≡ publish_header flags }
     ensures memory { TakesNoMemory result }

@@ -23,23 +23,23 @@ use topics::Filter;
 /// An item of a list that fills the rest of a body, such as a filter of an UNSUBSCRIBE (MQTT 3.8.3,
 /// 3.9.3, 3.10.3). Each is read and written on its own, and takes at least one byte.
 pub trait ListItem: Drop {
-    // The bytes of an item, how one is read from the front of bytes, and what holds for each item
-    // in a program.
+    // The bytes of an item, how one is read from the front of bytes, and the range in which each
+    // item of a program is.
     ghost spelled: { Self → List ℕ };
 
     ghost item_at: { ItemAt Self };
 
     ghost Fits: { Self → Type 0 };
 
-    /// Reads an item.
+    /// Reads one item.
     fn read(alloc: Global, body: &mut Reader) -> Result<Self, Stop>
         ensures { Reads (λ value. value) result body.new (item_at body.old) };
 
-    /// Returns how many bytes it takes.
+    /// Returns how many bytes the item takes.
     fn spelled_len(&self) -> usize
         ensures { result ≡ length (spelled self.now) };
 
-    /// Writes it, into capacity that was reserved before.
+    /// Appends the item. The caller has reserved the capacity.
     fn put(&self, out: &mut Vec<u8>)
         requires { vec_len out.old + length (spelled self.now) ≤ vec_capacity out.old }
         ensures items { out.new.items ≡ out.old.items ++ spelled self.now }

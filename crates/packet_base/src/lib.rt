@@ -1,5 +1,5 @@
-//! The fields of MQTT packets (MQTT 3.1.1, sections 1.5 and 2): a reader over the bytes that are
-//! left, and the calls that append a field to a vector.
+//! The fields of MQTT packets (MQTT 3.1.1, sections 1.5 and 2): a reader over the unread bytes of a
+//! packet, and functions that append a field to a vector.
 #![tactic(auto)]
 
 mod client_id;

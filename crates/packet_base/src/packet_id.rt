@@ -1,4 +1,4 @@
-// The number that an answer and its packet share.
+// Packet Identifiers, which match a packet with its acknowledgements.
 
 ghost use Rattle.std.specs.Prelude.{◌≡◌, ◌<◌, ◌^◌};
 
@@ -8,7 +8,7 @@ use std::marker::Model;
 /// A Packet Identifier: 1 to 65,535 (MQTT 2.3.1). Its value in contracts is its number.
 #[derive(Clone, Copy, Debug, PartialEq, Eq, PartialOrd, Ord, Hash)]
 pub struct PacketId {
-    // Any number but 0, which no identifier is.
+    // Never 0, which is no identifier.
     number: u16,
 }
 

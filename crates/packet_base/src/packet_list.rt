@@ -29,7 +29,7 @@ use topics::MalformedKind;
 /// its items. Making it from a vector and getting the vector back take no memory.
 #[derive(Debug)]
 pub struct PacketList<T> {
-    // In the order in which they are spelled. The list may be empty.
+    // In the order of their bytes in the packet. The list may be empty.
     items: Vec<T>,
 }
 
@@ -64,7 +64,7 @@ impl<T> PacketList<T> {
 }
 
 impl<T: ListItem> PacketList<T> {
-    /// Reads items to the end of the body. An empty list is `Shape`, and takes no memory (MQTT
+    /// Reads items up to the end of the body. An empty list is `Shape`, and takes no memory (MQTT
     /// 3.8.3, 3.9.3, 3.10.3).
     pub fn read(alloc: Global, body: &mut Reader) -> Result<PacketList<T>, Stop>
         ensures exact { Gives (λ value. value) result (list_of T.item_at body.old) }
@@ -77,7 +77,7 @@ impl<T: ListItem> PacketList<T> {
         Ok(PacketList { items })
     }
 
-    /// Returns `before` and the bytes of the list together, but no more than `usize::MAX`.
+    /// Returns `before` plus the length of the list in bytes, saturating at `usize::MAX`.
     pub fn len_after(&self, before: usize) -> usize
         ensures { result ≡ min (before + length (flat_map T.spelled self.now)) usize.MAX }
     {
@@ -88,7 +88,7 @@ impl<T: ListItem> PacketList<T> {
         len
     }
 
-    /// Writes the items one after another, into capacity that was reserved before.
+    /// Appends the items in order. The caller has reserved the capacity.
     pub fn put(&self, out: &mut Vec<u8>)
         requires { vec_len out.old + length (flat_map T.spelled self.now) ≤ vec_capacity out.old }
         ensures { out.new.items ≡ out.old.items ++ flat_map T.spelled self.now }
@@ -108,13 +108,13 @@ impl<T: ListItem> PacketList<T> {
     }
 }
 
-// Reads items to the end of the body.
+// Reads items up to the end of the body.
 fn read_items<T: ListItem>(alloc: Global, body: &mut Reader) -> Result<Vec<T>, Stop>
     ensures exact { Gives (λ read. read.items) result (items_at T.item_at body.old) }
     ensures memory { IsOutOfMemory result → IsOk (byte_at body.old) }
 {
     let mut items = Vec::new(alloc);
-    // Each takes at least one byte, so there are no more items than bytes.
+    // Each item takes at least one byte, so there are no more items than bytes.
     for _ in 0..body.len() {
         if body.is_empty() {
             return Ok(items);

@@ -1,4 +1,4 @@
-// What a publication carries.
+// The payload of a publication.
 
 ghost use Rattle.std.specs.Prelude.{◌≡◌, IfOk, length, bytes_eq};
 ghost use Rattle.std.specs.Cmp;

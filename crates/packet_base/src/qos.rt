@@ -10,16 +10,16 @@ use topics::MalformedKind;
 /// their numbers.
 #[derive(Clone, Copy, Debug, PartialEq, Eq, PartialOrd, Ord, Hash)]
 pub enum QoS {
-    /// At most once: there is no answer.
+    /// At most once: not acknowledged.
     AtMostOnce,
-    /// At least once: answered by PUBACK.
+    /// At least once: acknowledged by PUBACK.
     AtLeastOnce,
-    /// Exactly once: answered by PUBREC, then PUBREL and PUBCOMP.
+    /// Exactly once: PUBREC, then PUBREL and PUBCOMP.
     ExactlyOnce,
 }
 
 impl QoS {
-    /// Returns the QoS of this number; above 2 there is none (MQTT 3.3.1.2, 3.8.3).
+    /// Returns the QoS with this number; above 2 it is `Qos` (MQTT 3.3.1.2, 3.8.3).
     pub fn of(number: u8) -> Result<QoS, Stop>
         ensures { result ≡ qos_of number }
     {
@@ -31,7 +31,7 @@ impl QoS {
         }
     }
 
-    /// Returns its number, 0 to 2.
+    /// Returns the number, 0 to 2.
     pub fn number(self) -> u8
         ensures { result ≡ qos_number self }
     {
@@ -42,7 +42,7 @@ impl QoS {
         }
     }
 
-    /// Returns the lower of two.
+    /// Returns the lower of the two.
     pub fn lower(self, other: QoS) -> QoS
         ensures { result ≡ lower_qos self other }
     {
@@ -53,7 +53,7 @@ impl QoS {
         }
     }
 
-    /// Returns the greater of two, of which the second may be missing.
+    /// Returns the greater of the two; `None` is below every QoS.
     pub fn greater(self, other: Option<QoS>) -> QoS
         ensures { result ≡ greater_qos self other }
     {

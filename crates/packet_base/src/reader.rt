@@ -1,4 +1,12 @@
 // A cursor over the bytes of a packet.
+//
+// A reader holds the bytes that are not read yet, and a field that was read is dropped from their
+// front, so a contract speaks of one list of bytes and of no index. Each call reads one field from
+// left to right and reports its first fault; a decoder is a sequence of such calls, so that the
+// first fault of the packet counts. Texts are borrowed from the input and checked in place: only
+// what stays in a packet (names, filters, Client Identifiers, payloads) is copied. A missing byte
+// inside a body is `Shape`: the length of the body is known before a reader is made, so more input
+// cannot help.
 
 ghost use Rattle.std.specs.Prelude.{◌≡◌, ◌<◌, true, IfOk, IsOk, IsTrue, ◌==◌, nat_eq, length, drop};
 ghost use Rattle.std.specs.List.{starts_with};
@@ -14,11 +22,11 @@ use std::alloc::Global;
 use std::marker::Model;
 use topics::{Filter, MalformedKind, TopicName};
 
-/// The bytes of a packet that are not yet read, which are its value in contracts. A field that does
-/// not fit into them is `Shape`; after an error the reader must not be used.
+/// The unread bytes of a packet, which are its value in contracts. A field that does not fit into
+/// them is `Shape`; after an error the reader must not be used.
 #[derive(Drop)]
 pub struct Reader<'a> {
-    // From the next field on, to the end of the packet.
+    // From the next field to the end of the packet.
     rest: &'a [u8],
 }
 
@@ -38,7 +46,7 @@ impl<'a> Reader<'a> {
         Reader { rest: bytes }
     }
 
-    /// Returns true if all bytes are read.
+    /// Returns true if all bytes have been read.
     pub fn is_empty(&self) -> bool
         ensures { result ≡ (length self.now == 0) }
     {
@@ -52,7 +60,7 @@ impl<'a> Reader<'a> {
         self.rest.len()
     }
 
-    /// Skips these bytes if the bytes left begin with them. Returns whether they do.
+    /// Skips `prefix` if the unread bytes begin with it, and returns whether they do.
     pub fn skip(&mut self, prefix: &[u8]) -> bool
         ensures found { result ≡ starts_with nat_eq self.old prefix.now }
         ensures past { IsTrue result → self.new ≡ drop (length prefix.now) self.old }
@@ -64,7 +72,7 @@ impl<'a> Reader<'a> {
         true
     }
 
-    /// Removes the next byte and returns it. `Shape` says that none is left.
+    /// Reads the next byte; `Shape` if none is left.
     pub fn byte(&mut self) -> Result<u8, Stop>
         ensures exact { Reads (λ value. value) result self.new (byte_at self.old) }
         ensures memory { TakesNoMemory result }
@@ -156,14 +164,14 @@ impl<'a> Reader<'a> {
         topic_filter(alloc, bytes)
     }
 
-    /// Returns all the bytes that are left.
+    /// Returns all unread bytes, without reading them.
     pub fn rest(&self) -> &'a [u8]
         ensures { result.now ≡ self.now }
     {
         self.rest
     }
 
-    /// Checks that no bytes are left over; if some are, that is `Shape`.
+    /// Returns `Shape` if bytes are left over.
     pub fn end(&self) -> Result<(), Stop>
         ensures exact { Gives (λ value. value) result (ended self.now) }
         ensures memory { TakesNoMemory result }
@@ -175,7 +183,7 @@ impl<'a> Reader<'a> {
     }
 }
 
-// Returns the bytes as a text, if they are one.
+// Returns the bytes as a text if they are well-formed UTF-8 without U+0000, and `Text` otherwise.
 #[tactic(auto, using(crate::proofs::Texts::text_tests))]
 fn checked_text(bytes: &[u8]) -> Result<&str, Stop>
     ensures exact { Gives (λ text. text.now) result (text_of bytes.now) }
@@ -191,7 +199,7 @@ fn checked_text(bytes: &[u8]) -> Result<&str, Stop>
     Ok(text)
 }
 
-// Returns the bytes as a Topic Name. The name's own checks make sure that it has no U+0000.
+// Returns the bytes as a Topic Name. `TopicName::new` rejects U+0000.
 #[tactic(auto, using(crate::proofs::Texts::name_tests))]
 fn topic_name(alloc: Global, bytes: &[u8]) -> Result<TopicName, Stop>
     ensures exact { Gives (λ value. value) result (name_of bytes.now) }
@@ -203,7 +211,7 @@ fn topic_name(alloc: Global, bytes: &[u8]) -> Result<TopicName, Stop>
     Ok(TopicName::new(alloc, text)?)
 }
 
-// Returns the bytes as a Topic Filter. Its own checks make sure that it has no U+0000.
+// Returns the bytes as a Topic Filter. `Filter::new` rejects U+0000.
 #[tactic(auto, using(crate::proofs::Texts::pattern_tests))]
 fn topic_filter(alloc: Global, bytes: &[u8]) -> Result<Filter, Stop>
     ensures exact { Gives (λ value. value) result (pattern_of bytes.now) }

@@ -1,4 +1,4 @@
-// The codes by which a CONNACK refuses a connection.
+// The Connect Return Codes that refuse a connection.
 
 ghost use Rattle.std.specs.Prelude.{◌≡◌};
 ghost use Rattle.packet_base.specs.RefusalCode.{code_number};
@@ -12,7 +12,7 @@ pub enum RefusalCode {
     ProtocolVersion,
     /// The Client Identifier is not allowed by the server.
     IdentifierRejected,
-    /// The connection has been made, but MQTT is not served now.
+    /// The Network Connection is there, but the MQTT service is unavailable.
     ServerUnavailable,
     /// The user name or the password is malformed.
     BadUserNameOrPassword,
@@ -21,7 +21,7 @@ pub enum RefusalCode {
 }
 
 impl RefusalCode {
-    /// Returns the code in a CONNACK, 1 to 5.
+    /// Returns the Connect Return Code, 1 to 5.
     pub fn number(self) -> u8
         ensures { result ≡ code_number self }
     {

@@ -9,9 +9,9 @@ ghost use Rattle.packet_base.specs.Inside.{length_limit};
 use crate::stop::Stop;
 use topics::MalformedKind;
 
-/// Returns the Remaining Length at the front, and the bytes after it. A fourth byte after which
-/// another would follow, or a longer spelling than needed, is `Length`; bytes that end before the
-/// length does are `More`.
+/// Reads the Remaining Length at the front and returns it with the bytes after it. `Length` if a
+/// fourth byte says that another follows, or if the number is not in its shortest form; `More` if
+/// the bytes end before the length does.
 pub fn take_length(bytes: &[u8]) -> Result<(u32, &[u8]), Stop>
     ensures exact { Gives (λ taken. (taken.0, taken.1.now)) result (length_at 3 bytes.now) }
     ensures small { IfOk result (λ taken. taken.0 < 2 ^ 28) }
@@ -20,8 +20,7 @@ pub fn take_length(bytes: &[u8]) -> Result<(u32, &[u8]), Stop>
     length_from(bytes, 3)
 }
 
-// Returns the length at the front, and the bytes after it, if at most `follow` bytes may follow the
-// next one.
+// Reads a length of which at most `follow` bytes may come after the next one.
 #[tactic(auto, unfolding(crate::specs::Readers::length_at), using(crate::proofs::Lengths::limits))]
 fn length_from(bytes: &[u8], follow: u8) -> Result<(u32, &[u8]), Stop>
     requires { follow < 4 }
@@ -62,7 +61,7 @@ pub fn length_size(length: u32) -> usize
     }
 }
 
-/// Writes the Remaining Length at the end, in its one spelling.
+/// Appends the Remaining Length, in its shortest form.
 pub fn put_length(out: &mut Vec<u8>, length: u32)
     requires small { length < 2 ^ 28 }
     requires room { vec_len out.old + length_bytes length ≤ vec_capacity out.old }

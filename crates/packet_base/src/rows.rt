@@ -1,4 +1,4 @@
-// Rows of the definitions. The calls do nothing; their contracts are the rows.
+// Worked examples of the definitions. The functions do nothing; their contracts are the examples.
 
 ghost use Rattle.std.specs.Prelude.{◌≡◌, ℕ, true, false, List, length};
 ghost use Rattle.packet_base.specs.ClientId.{has_client_length};

@@ -1,4 +1,4 @@
-// Why reading stops before a packet is whole.
+// Why a decoder stops before the end of a packet.
 
 ghost use Rattle.std.specs.Prelude.{◌≡◌};
 
@@ -6,18 +6,18 @@ use crate::refusal_code::RefusalCode;
 use std::alloc::{AllocError, AllocFailed};
 use topics::MalformedKind;
 
-/// Why reading a packet stops before it is whole.
+/// Why reading a packet stops before its end.
 #[derive(Clone, Copy, Debug, PartialEq, Eq)]
 pub enum Stop {
     /// The bytes end before the packet does.
     More,
     /// No packet begins with these bytes, or memory ran out.
     Malformed(MalformedKind),
-    /// A CONNECT that is answered with this code.
+    /// A CONNECT that is answered by a CONNACK with this code.
     Refused(RefusalCode),
 }
 
-/// Stops a reading because memory ran out.
+/// Memory ran out.
 pub const OUT_OF_MEMORY: Stop = Stop::Malformed(MalformedKind::Memory);
 
 impl From<MalformedKind> for Stop {

@@ -1,4 +1,4 @@
--- The numbers of the refusals of the store.
+-- The numbers of the store's errors.
 use Rattle.std.specs.Prelude.{ℕ}
 use Rattle.retained.specs.declared.error.RetainedError.{RetainedError}
 use Rattle.retained.specs.declared.error.RetainedError.TheVariants.{RetainedFull, Memory}

@@ -1,4 +1,4 @@
--- Laws of what is retained, in the terms of MQTT 3.3.1.3.
+-- Theorems about what is retained, in the terms of MQTT 3.3.1.3; proved by `src/theorems.rt`.
 use Rattle.std.specs.Prelude.{◌≡◌, ◌≤◌, ℕ, Bool, false, List, [], ◌∷◌, ◌++◌, length, reverse}
 use Rattle.std.specs.Prelude.{Option, Some, None}
 use Rattle.std.specs.List.{find}
@@ -16,7 +16,7 @@ pub record Put : Type 0 where
   pub qos : QoS
   pub payload : List ℕ
 
--- A store that began empty, after publications that it took, the last one at the end. A refused one
+-- A store after a sequence of publications that it took, the last one at the end. A refused one
 -- changes nothing and needs no case.
 pub data After : List Put → RetainedTopics → Type 0 where
   -- no publication yet
@@ -35,22 +35,22 @@ is_on topic publication = is_at (slice_cmp nat_cmp topic) publication.topic
 abbrev pub last_on : List ℕ → List Put → Option Put
 last_on topic puts = find (is_on topic) (reverse puts)
 
--- what a publication leaves retained on its topic: nothing if its payload is empty
+-- what a publication leaves retained on its topic; nothing if its payload is empty
 abbrev pub kept_of_payload : QoS → List ℕ → Option RetainedPublication
 kept_of_payload qos [] = None
 kept_of_payload qos (byte ∷ payload) = Some (record { qos = qos; payload = byte ∷ payload })
 
--- what is retained of a publication, if there is one
+-- what the last publication, if there is one, leaves retained
 abbrev pub kept_of : Option Put → Option RetainedPublication
 kept_of (Some publication) = kept_of_payload publication.qos publication.payload
 kept_of None = None
 
--- what is retained of a topic is its last publication, and nothing if that had no payload
+-- the retained publication of a topic is its last publication; there is none if that had no payload
 abbrev pub LastIsRetained : Type 0
 LastIsRetained = (puts : List Put) (content : RetainedTopics) → After puts content
     → (topic : List ℕ) → publication_on topic content ≡ kept_of (last_on topic puts)
 
--- the topics come in rising order, each once, and are 16,384 at most
+-- the topics are in ascending order, each once, and at most 16,384
 abbrev pub StaysInBounds : Type 0
 StaysInBounds = (puts : List Put) (content : RetainedTopics) → After puts content
     → IsRising content × (length content ≤ max_topics)

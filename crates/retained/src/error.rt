@@ -1,4 +1,4 @@
-// Why the store refused a publication.
+// The errors of the store.
 
 ghost use Rattle.std.specs.Prelude.{◌≡◌};
 ghost use Rattle.retained.specs.Refusals.{retained_error_number};
@@ -7,7 +7,7 @@ use std::alloc::{AllocError, AllocFailed};
 use std::error::Error;
 use std::fmt;
 
-/// Why a publication was not retained. The store is as it was before.
+/// Why a publication was not retained. The store is unchanged.
 #[derive(Clone, Copy, Debug, PartialEq, Eq)]
 pub enum RetainedError {
     /// The topic would be the 16,385th retained one.

@@ -1,16 +1,16 @@
-// What is kept of a publication.
+// The part of a publication that is retained.
 
 ghost use Rattle.std.specs.Prelude.{◌≡◌};
 
 use packet_base::{Payload, QoS};
 use std::alloc::AllocError;
 
-/// What is kept of a topic's last publication.
+/// The last publication of a topic, without the topic.
 #[derive(Debug, Drop)]
 pub struct RetainedPublication {
-    /// The QoS at which it was published, 0 included.
+    /// The QoS at which it was published, 0 to 2.
     pub qos: QoS,
-    /// Its payload, which is not empty in a store.
+    /// The payload, which is never empty in a store.
     pub payload: Payload,
 }
 

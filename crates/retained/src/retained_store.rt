@@ -1,4 +1,13 @@
 // The store of retained publications.
+//
+// A topic is in the store exactly if its last publication with RETAIN 1 that was not refused had a
+// payload; an empty payload removes it. So no entry has an empty payload, and the number of entries
+// is the number of retained topics, at most `MAX_TOPICS`. The limit counts topics and not bytes:
+// replacing the publication of a topic is never refused and takes no memory. The entries are
+// ordered by the bytes of their topics, since `matching` has to return them in one order on every
+// replica, and since a filter that begins with plain levels then needs to be compared only with one
+// range of topics. Every refusal leaves the store as it was. `refuses` says beforehand whether
+// `put` would return `RetainedFull`; after it, `keep` can only run out of memory.
 
 ghost use Rattle.std.specs.Prelude.{◌≡◌, ◌++◌, ◌↔◌, [], length, take, Err, IsErr, IsOk, IsNone};
 ghost use Rattle.std.specs.Prelude.{true, false, IsTrue, OnOk, OnErr, option_copied};
@@ -18,14 +27,14 @@ use std::collections::btree_map::Iter;
 use std::marker::Model;
 use topics::{Filter, TopicName, matches};
 
-/// The most topics of which a publication is retained.
+/// The most topics with a retained publication.
 pub const MAX_TOPICS: usize = 16_384;
 
 /// For each topic its last publication with RETAIN 1 (MQTT 3.3.1.3), at most [`MAX_TOPICS`] of
 /// them.
 #[derive(Debug)]
 pub struct RetainedStore {
-    // By topic. An empty payload takes out what its topic has.
+    // No entry has an empty payload.
     topics: BTreeMap<TopicName, RetainedPublication>,
 }
 
@@ -44,7 +53,7 @@ impl Model for RetainedStore {
 }
 
 impl RetainedStore {
-    /// Returns a store without publications.
+    /// Returns an empty store.
     pub fn new(alloc: Global) -> RetainedStore
         ensures { result ≡ [] }
     {
@@ -67,27 +76,27 @@ impl RetainedStore {
         self.topics.is_empty()
     }
 
-    /// Returns what is retained of the topic.
+    /// Returns the retained publication of the topic.
     pub fn get(&self, topic: &TopicName) -> Option<&RetainedPublication>
         ensures { option_copied result ≡ publication_on topic.now self.now }
     {
         self.topics.get(topic)
     }
 
-    /// Returns true if [`RetainedStore::put`] would answer `RetainedFull`.
+    /// Returns true if [`RetainedStore::put`] would return `RetainedFull`.
     pub fn refuses(&self, topic: &TopicName, payload: &Payload) -> bool
         ensures { result ≡ is_retaining_refused self.now topic.now payload.now }
     {
         !payload.as_slice().is_empty() && self.is_full_for(topic)
     }
 
-    /// Retains a publication in place of the topic's last one. An empty payload removes it, which
-    /// takes no memory (MQTT 3.3.1.3). `RetainedFull` if the topic would be the 16,385th, `Memory`
-    /// if memory ran out; a topic that has a publication takes none.
+    /// Retains a publication in place of the topic's last one. An empty payload removes that one,
+    /// which takes no memory (MQTT 3.3.1.3). `RetainedFull` if the topic would be the 16,385th,
+    /// `Memory` if memory ran out; replacing a publication takes none.
     pub fn put(&mut self, topic: TopicName, qos: QoS, payload: Payload) -> Result<(), RetainedError>
         ensures ok { OnOk result (self.new ≡ after_put self.old topic qos payload) }
 
-        // Each refusal leaves the store as it was.
+        // A refusal leaves the store as it was.
         ensures full { (result ≡ Err RetainedError.RetainedFull)
             ↔ IsTrue (is_retaining_refused self.old topic payload) }
         ensures memory { result ≡ Err RetainedError.Memory
@@ -106,8 +115,9 @@ impl RetainedStore {
         Ok(())
     }
 
-    /// Keeps a publication in place of the topic's last one, if there is a place for it. The only
-    /// error is that memory ran out; a topic that has a publication takes none.
+    /// Retains a publication in place of the topic's last one, if its topic is in the store or
+    /// there is room for it. The only error is that memory ran out; replacing a publication takes
+    /// none.
     pub fn keep(&mut self, topic: TopicName, kept: RetainedPublication) -> Result<(), AllocError>
         requires room { is_full_for self.old topic ≡ false }
         ensures ok { OnOk result (self.new ≡ with_topic self.old topic kept) }
@@ -118,16 +128,16 @@ impl RetainedStore {
         Ok(())
     }
 
-    /// Removes what is retained of the topic.
+    /// Removes the retained publication of the topic, if there is one.
     pub fn remove(&mut self, topic: &TopicName)
         ensures { self.new ≡ without_topic self.old topic.now }
     {
         self.topics.remove(topic);
     }
 
-    /// Appends each topic that the filter matches, with what is retained of it, in the order of the
-    /// topics' bytes. If memory runs out the entries stay as they were; if no topic matches it
-    /// takes none.
+    /// Appends each topic that the filter matches, with its retained publication, in the order of
+    /// the topics' bytes. If memory runs out the vector is unchanged; if no topic matches no memory
+    /// is taken.
     pub fn matching(
         &self,
         filter: &Filter,
@@ -146,7 +156,7 @@ impl RetainedStore {
         appended
     }
 
-    /// Returns the topics in the order of their bytes, with what is retained of them.
+    /// Returns the retained publications in the order of the bytes of their topics.
     pub fn iter(&self) -> Iter<'_, TopicName, RetainedPublication>
         ensures entries { result ≡ self.now }
         ensures rising { IsRising self.now }
@@ -154,7 +164,7 @@ impl RetainedStore {
         self.topics.iter()
     }
 
-    // Returns true if the topic is new and there is no room for a new one.
+    // Returns true if the topic is not in the store and the store is full.
     fn is_full_for(&self, topic: &TopicName) -> bool
         ensures { result ≡ is_full_for self.now topic.now }
     {

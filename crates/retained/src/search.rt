@@ -1,4 +1,4 @@
-// Finding the topics that a filter matches.
+// Finding the retained topics that a filter matches.
 
 ghost use Rattle.std.specs.Prelude.{
   ◌≡◌,
@@ -26,8 +26,9 @@ use std::collections::BTreeMap;
 use std::ops::Bound;
 use topics::{Filter, TopicName, has_no_wildcard, matches};
 
-/// Appends the matching topics: a filter without wildcards is looked up, and any other is matched
-/// with the topics that begin as it does. If memory runs out, some of them may be there.
+/// Appends the matching topics. A filter without wildcards is looked up; any other is compared with
+/// the topics that begin with its levels before the first wildcard. If memory runs out, some of
+/// them may have been appended.
 pub(crate) fn append_matching(
     topics: &BTreeMap<TopicName, RetainedPublication>,
     filter: &Filter,
@@ -46,7 +47,7 @@ pub(crate) fn append_matching(
     }
 }
 
-// Appends the topic, if it is there.
+// Appends the topic if it is in the store.
 fn append_topic(
     topics: &BTreeMap<TopicName, RetainedPublication>,
     topic: TopicName,
@@ -66,7 +67,8 @@ fn append_topic(
     Ok(())
 }
 
-// Appends the matching topics. It looks only at those that begin as the filter does.
+// Appends the matching topics. Looks only at those that begin with the filter's levels before its
+// first wildcard.
 fn append_in_range(
     topics: &BTreeMap<TopicName, RetainedPublication>,
     filter: &Filter,
@@ -87,7 +89,8 @@ fn append_in_range(
     Ok(())
 }
 
-// Returns the bounds of the topics that the filter may match; there are none if memory runs out.
+// Returns the range of topics that the filter may match; it is unbounded if no level comes before
+// the first wildcard, or memory runs out.
 #[tactic(auto, using(crate::proofs::InRange::holds_within, crate::proofs::InRange::forward))]
 fn bounds_of(alloc: Global, filter: &str) -> (Bound<TopicName>, Bound<TopicName>)
     ensures forward { IsForward (IsLeBy (slice_cmp nat_cmp)) (IsLtBy (slice_cmp nat_cmp))
@@ -100,8 +103,8 @@ fn bounds_of(alloc: Global, filter: &str) -> (Bound<TopicName>, Bound<TopicName>
     }
 }
 
-// Returns the topic of the levels in front of the first wildcard, and the one after all that begin
-// with them and a `/`.
+// Returns the levels before the first wildcard as a topic, and the least topic above all those that
+// begin with these levels and a `/`.
 fn ends_of(alloc: Global, filter: &str) -> Option<(TopicName, TopicName)>
     ensures { IfSome result (λ ends. IsAround filter.now ends.0 ends.1) }
 {
@@ -114,7 +117,7 @@ fn ends_of(alloc: Global, filter: &str) -> Option<(TopicName, TopicName)>
     Some((first, end))
 }
 
-// Returns the levels in front of the first wildcard, if there are any.
+// Returns the levels before the first wildcard, if there are any.
 fn literal_front(filter: &str) -> Option<&str>
     ensures { IfSome result (λ front. StandsBefore front.now filter.now) }
 {
@@ -125,8 +128,8 @@ fn literal_front(filter: &str) -> Option<&str>
     Some(front)
 }
 
-// Returns what is in front of a level that begins with a wildcard, the first `+` or else the first
-// `#`.
+// Returns what comes before a level that begins with a wildcard: the first `+`, or if there is none
+// the first `#`.
 fn front_part(filter: &str) -> Option<&str>
     ensures { IfSome result (λ front. IsFront front.now filter.now) }
 {

@@ -1,4 +1,4 @@
-// The laws of what is retained. The calls do nothing; their contracts are the laws.
+// Theorems about what is retained. The functions do nothing; their contracts are the theorems.
 
 ghost use Rattle.retained.specs.Theorems.{LastIsRetained, StaysInBounds};
 
@@ -8,7 +8,7 @@ pub fn last_is_retained()
     ensures { LastIsRetained }
 {}
 
-/// States that the topics come in rising order of their bytes, each once, and are 16,384 at most.
+/// States that the topics are in ascending order of their bytes, each once, and at most 16,384.
 pub fn stays_in_bounds()
     ensures { StaysInBounds }
 {}

@@ -1,4 +1,4 @@
--- The numbers of the refusals of a session.
+-- The numbers of a session's errors.
 use Rattle.std.specs.Prelude.{ℕ}
 use Rattle.session.specs.declared.error.EnqueueError.{EnqueueError}
 use Rattle.session.specs.declared.error.EnqueueError.TheVariants.{QueueFull, Memory}

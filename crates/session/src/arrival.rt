@@ -1,10 +1,10 @@
-// Whether a publication arrived for the first time.
+// Whether a PUBLISH at QoS 2 is new.
 
-/// What a PUBLISH at QoS 2 means to the session (MQTT 4.3.3).
+/// What a PUBLISH at QoS 2 is to the session (MQTT 4.3.3).
 #[derive(Clone, Copy, Debug, PartialEq, Eq)]
 pub enum Arrival {
     /// Its identifier is new, so the publication is new.
     First,
-    /// Its identifier came before, and no PUBREL with it since: it is a repeat.
+    /// A PUBLISH with its identifier was received, and no PUBREL since: it is a retransmission.
     Again,
 }

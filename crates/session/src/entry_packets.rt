@@ -1,4 +1,4 @@
-// The packets of entries, and what an entry waits for.
+// The packets of entries, and what a sent entry waits for.
 
 ghost use Rattle.std.specs.Prelude.{◌≡◌, false, [], ◌∷◌, ◌++◌, IfOk, OnOk, OnErr};
 ghost use Rattle.packet.specs.declared.packet.Packet.TheVariants as packets;
@@ -18,21 +18,21 @@ pub(crate) fn waits_for_puback(awaits: &Awaits) -> bool
     matches!(awaits, Awaits::Puback(_))
 }
 
-/// Returns true if it waits for PUBREC.
+/// Returns true if the entry waits for PUBREC.
 pub(crate) fn waits_for_pubrec(awaits: &Awaits) -> bool
     ensures { result ≡ is_pubrec awaits.now }
 {
     matches!(awaits, Awaits::Pubrec(_))
 }
 
-/// Returns true if it waits for PUBCOMP: the entry is released.
+/// Returns true if the entry waits for PUBCOMP: it is released.
 pub(crate) fn waits_for_pubcomp(awaits: &Awaits) -> bool
     ensures { result ≡ is_pubcomp awaits.now }
 {
     matches!(awaits, Awaits::Pubcomp)
 }
 
-/// Returns what a publication waits for once it is sent.
+/// Returns what a publication waits for once it was sent.
 pub(crate) fn awaits_of(publication: Publication) -> Awaits
     ensures { result ≡ awaited publication }
 {
@@ -55,7 +55,7 @@ fn publish_packet(publication: &Publication, dup: bool, id: PacketId) -> Result<
     }))
 }
 
-/// Appends the PUBLISH that sends a publication for the first time.
+/// Appends the first PUBLISH of a publication, with DUP 0.
 pub(crate) fn send_publish(
     publication: &Publication,
     id: PacketId,
@@ -70,8 +70,8 @@ pub(crate) fn send_publish(
     Ok(())
 }
 
-/// Returns what a client that comes back is sent for an entry: PUBLISH with DUP 1, or PUBREL for a
-/// released one (MQTT 4.4).
+/// Returns the retransmission of an entry for a reconnecting client: PUBLISH with DUP 1, or PUBREL
+/// for a released one (MQTT 4.4).
 pub(crate) fn packet_anew(id: PacketId, awaits: &Awaits) -> Result<Packet, AllocError>
     ensures { IfOk result (λ packet. packet ≡ sent_anew id awaits.now) }
 {

@@ -8,10 +8,10 @@ use std::alloc::{AllocError, AllocFailed};
 use std::error::Error;
 use std::fmt;
 
-/// Why a publication was not queued. The session is as it was before.
+/// Why a publication was not queued. The session is unchanged.
 #[derive(Clone, Copy, Debug, PartialEq, Eq)]
 pub enum EnqueueError {
-    /// The session holds as many entries as it may.
+    /// The session holds [`session_base::MAX_ENTRIES`] entries.
     QueueFull,
     /// Memory ran out.
     Memory,

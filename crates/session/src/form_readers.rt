@@ -30,7 +30,7 @@ use std::collections::VecDeque;
 use topics::Filter;
 
 impl Subscriptions {
-    /// Reads as many filters as their count says, none of them twice.
+    /// Reads the subscriptions: their count, and as many filters, none of them twice.
     #[tactic(auto, unfolding(session_base::specs::Counted::counted_items_at))]
     pub(crate) fn read(alloc: Global, reader: &mut Reader) -> Result<Subscriptions, Stop>
         ensures { Reads (λ value. value) result reader.new
@@ -42,7 +42,7 @@ impl Subscriptions {
         read_filters(alloc, count, reader)
     }
 
-    // Adds a filter that the session does not have yet.
+    // Appends a filter; `Shape` if it is there already.
     fn add(&mut self, filter: Filter, qos: QoS) -> Result<(), Stop>
         ensures { AddsItem is_new_filter self.old (filter, qos) result self.new }
     {
@@ -54,7 +54,7 @@ impl Subscriptions {
     }
 }
 
-// Reads this many filters, each of which is new, with their QoS.
+// Reads this many filters with their QoS, none of them twice.
 fn read_filters(alloc: Global, count: u8, reader: &mut Reader) -> Result<Subscriptions, Stop>
     ensures { Reads (λ value. value) result reader.new
         (items_after is_new_filter granted_subscription_at count [] reader.old) }
@@ -68,7 +68,7 @@ fn read_filters(alloc: Global, count: u8, reader: &mut Reader) -> Result<Subscri
 }
 
 impl Received {
-    /// Reads as many identifiers as their count says, in rising order.
+    /// Reads the received identifiers: their count, and as many identifiers in ascending order.
     #[tactic(auto, unfolding(session_base::specs::Counted::counted_items_at))]
     pub(crate) fn read(alloc: Global, reader: &mut Reader) -> Result<Received, Stop>
         ensures { Reads (λ value. value) result reader.new
@@ -78,7 +78,7 @@ impl Received {
         read_ids(alloc, count, reader)
     }
 
-    // Adds an identifier that is above the last.
+    // Appends an identifier; `Shape` unless it is above the last one.
     #[tactic(auto, using(crate::proofs::LastIdentifiers::comes_last))]
     fn add(&mut self, id: PacketId) -> Result<(), Stop>
         ensures { AddsItem is_above self.old id result self.new }
@@ -90,13 +90,13 @@ impl Received {
         }
     }
 
-    // Returns true if the identifier is above the last. All of them rise.
+    // Returns true if the identifier is above the last one, and so above all.
     #[tactic(auto, using(crate::proofs::LastIdentifiers::above_last))]
     fn is_above(&self, id: PacketId) -> bool
         ensures test { result ≡ is_above self.now id }
         ensures rising { IsStrictlySortedBy nat_cmp self.now }
     {
-        // This call shows that the identifiers rise.
+        // This call shows that the identifiers are ascending.
         let _count = self.ids.len();
         match self.ids.last() {
             Some(last) => *last < id,
@@ -105,7 +105,7 @@ impl Received {
     }
 }
 
-// Reads this many received identifiers, which rise.
+// Reads this many received identifiers, in ascending order.
 fn read_ids(alloc: Global, count: u16, reader: &mut Reader) -> Result<Received, Stop>
     ensures { Reads (λ value. value) result reader.new
         (items_after is_above id_at count [] reader.old) }
@@ -119,10 +119,9 @@ fn read_ids(alloc: Global, count: u16, reader: &mut Reader) -> Result<Received, 
 }
 
 impl Session {
-    /// Reads the session at the front of the bytes that are left. Whatever is not of the form stops
-    /// the reading. This is a filter or an identifier that occurs twice, a part out of its range, a
-    /// 65th subscription, more in flight than the window, or a 4,097th entry. `Memory` if memory
-    /// runs out.
+    /// Reads a session. `Shape` if the bytes are not of the form: a filter or an identifier occurs
+    /// twice, a part is out of its range, there is a 65th subscription or a 4,097th entry, or more
+    /// entries are in flight than the window allows. `Memory` if memory runs out.
     #[tactic(auto, unfolding(session_base::specs::SessionForm::state_at))]
     pub fn read(alloc: Global, window: usize, reader: &mut Reader) -> Result<Session, Stop>
         requires { window ≤ MAX_ENTRIES }
@@ -140,7 +139,7 @@ impl Session {
     }
 }
 
-// Reads as many entries in flight as their count says, the released ones first.
+// Reads the entries in flight: their count, and as many entries, the released ones first.
 #[tactic(auto, using(session_base::proofs::FollowRead::read_first, session_base::proofs::FollowRead::read_few))]
 fn read_in_flight(
     alloc: Global,
@@ -155,7 +154,7 @@ fn read_in_flight(
     read_counted_flights(alloc, window, reader)
 }
 
-// Reads what is in flight after its count, which the window bounds.
+// Reads the entries in flight after their count; `Shape` if it is above the window.
 #[tactic(auto, unfolding(session_base::specs::Counted::counted_items_at))]
 fn read_counted_flights(
     alloc: Global,
@@ -187,7 +186,7 @@ fn read_flights(
     Ok(read)
 }
 
-// Adds an entry, with an identifier of its own.
+// Appends an entry; `Shape` unless it may follow the others.
 fn add_flight(
     in_flight: &mut IndexMap<PacketId, Awaits>,
     id: PacketId,
@@ -202,21 +201,21 @@ fn add_flight(
     }
 }
 
-// Returns true if an entry may come after these.
+// Returns true if an entry may follow these: its identifier is new, and a released one comes only
+// after released ones.
 fn may_follow(in_flight: &IndexMap<PacketId, Awaits>, id: PacketId, awaits: &Awaits) -> bool
     ensures { result ≡ may_follow in_flight.now.entries (id, awaits.now) }
 {
     !is_in_flight(in_flight, id) && (!waits_for_pubcomp(awaits) || last_is_released(in_flight))
 }
 
-// Returns true if an entry has the identifier.
 fn is_in_flight(in_flight: &IndexMap<PacketId, Awaits>, id: PacketId) -> bool
     ensures { result ≡ has_id id (ids_of in_flight.now.entries) }
 {
     in_flight.contains_key(&id)
 }
 
-// Returns true if the last entry, if there is one, is released.
+// Returns true if there is no entry, or the last one is released.
 #[tactic(auto, using(crate::proofs::LastIdentifiers::last_at))]
 fn last_is_released(in_flight: &IndexMap<PacketId, Awaits>) -> bool
     ensures { result ≡ was_released (last_of in_flight.now.entries) }
@@ -227,7 +226,7 @@ fn last_is_released(in_flight: &IndexMap<PacketId, Awaits>) -> bool
     }
 }
 
-// Reads as many publications that wait as their count says, and no more than these.
+// Reads the waiting publications: their count, which is at most `most`, and as many publications.
 #[tactic(auto, unfolding(session_base::specs::Counted::counted_items_at))]
 fn read_all_waiting(
     alloc: Global,
@@ -242,7 +241,7 @@ fn read_all_waiting(
     read_publications(alloc, count, reader)
 }
 
-// Reads this many publications that wait.
+// Reads this many waiting publications.
 fn read_publications(
     alloc: Global,
     count: u16,
@@ -259,7 +258,7 @@ fn read_publications(
     Ok(read)
 }
 
-// Adds a publication that waits.
+// Appends a waiting publication.
 fn add_waiting(waiting: &mut VecDeque<Publication>, publication: Publication) -> Result<(), Stop>
     ensures { AddsItem anything waiting.old.items publication result waiting.new.items }
 {

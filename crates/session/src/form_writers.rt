@@ -1,4 +1,4 @@
-// A session as bytes.
+// Writing a session to bytes.
 
 ghost use Rattle.std.specs.Prelude.{◌≡◌, ◌≤◌, ◌++◌, length, OnOk};
 ghost use Rattle.std.specs.List.{flat_map, AllByRecursion};
@@ -22,8 +22,8 @@ use session_base::{
 use std::alloc::AllocError;
 
 impl Session {
-    /// Appends the session's bytes. A session that may be written has a form: it is within its
-    /// limits, and each part is in range. If memory runs out, a part of the bytes may have been
+    /// Appends the session's bytes. Requires that the session has a form: it is within its limits,
+    /// and each part is in its range. If memory runs out, a part of the bytes may have been
     /// appended.
     pub fn write(&self, bytes: &mut Vec<u8>) -> Result<(), AllocError>
         requires { HasForm self.now }
@@ -36,7 +36,7 @@ impl Session {
 }
 
 impl Subscriptions {
-    /// Appends their count, and each of them.
+    /// Appends the number of subscriptions, and each of them.
     pub(crate) fn write(&self, bytes: &mut Vec<u8>) -> Result<(), AllocError>
         requires { length self.now ≤ MAX_SUBSCRIPTIONS }
         ensures { OnOk result
@@ -47,7 +47,7 @@ impl Subscriptions {
         self.write_each(bytes)
     }
 
-    // Appends each filter with its QoS.
+    // Appends each filter with its QoS, without their count.
     fn write_each(&self, bytes: &mut Vec<u8>) -> Result<(), AllocError>
         ensures { OnOk result
             (bytes.new.items ≡ bytes.old.items ++ flat_map granted_subscription_bytes self.now) }
@@ -60,7 +60,7 @@ impl Subscriptions {
 }
 
 impl Received {
-    /// Appends their count, and each of them.
+    /// Appends the number of received identifiers, and each of them.
     pub(crate) fn write(&self, bytes: &mut Vec<u8>) -> Result<(), AllocError>
         requires { length self.now ≤ max_id }
         ensures { OnOk result
@@ -70,7 +70,7 @@ impl Received {
         self.write_each(bytes)
     }
 
-    // Appends each identifier.
+    // Appends each identifier, without their count.
     fn write_each(&self, bytes: &mut Vec<u8>) -> Result<(), AllocError>
         ensures { OnOk result (bytes.new.items ≡ bytes.old.items ++ flat_map number self.now) }
     {
@@ -82,7 +82,7 @@ impl Received {
 }
 
 impl SessionQueue {
-    /// Appends what is in flight and what waits, each after its count.
+    /// Appends the entries in flight and the waiting publications, each list after its count.
     pub(crate) fn write(&self, bytes: &mut Vec<u8>) -> Result<(), AllocError>
         requires few { length self.now.in_flight ≤ MAX_ENTRIES }
         requires fewer { length self.now.waiting ≤ MAX_ENTRIES }
@@ -100,7 +100,7 @@ impl SessionQueue {
         self.write_waiting(bytes)
     }
 
-    // Appends what is in flight, without its count.
+    // Appends the entries in flight, without their count.
     fn write_flights(&self, bytes: &mut Vec<u8>) -> Result<(), AllocError>
         requires { AllByRecursion AreWritable self.now.in_flight }
         ensures { OnOk result
@@ -112,7 +112,7 @@ impl SessionQueue {
         Ok(())
     }
 
-    // Appends what waits, without its count.
+    // Appends the waiting publications, without their count.
     fn write_waiting(&self, bytes: &mut Vec<u8>) -> Result<(), AllocError>
         requires { AllByRecursion HasLength self.now.waiting }
         ensures { OnOk result

@@ -1,5 +1,5 @@
-//! One client's session: its subscriptions, the QoS 2 identifiers that were received, and what is
-//! sent to it, with the handshakes in flight (MQTT 4.1, 4.3, 4.4, 4.6).
+//! One client's session: its subscriptions, the received QoS 2 identifiers, and its queue of
+//! publications with their handshakes (MQTT 4.1, 4.3, 4.4, 4.6).
 #![tactic(auto)]
 
 mod arrival;

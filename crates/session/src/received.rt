@@ -1,4 +1,4 @@
-// The QoS 2 publications that arrived and whose PUBREL has not come (MQTT 4.3.3).
+// The QoS 2 publications that were received and wait for PUBREL (MQTT 4.3.3).
 
 ghost use Rattle.std.specs.Prelude.{◌≡◌, [], OnOk, OnErr};
 ghost use Rattle.lists.specs.Lists.{has_id};
@@ -9,7 +9,7 @@ use std::alloc::{AllocError, Global};
 use std::collections::BTreeSet;
 use std::marker::Model;
 
-/// Identifiers of publications without a PUBREL, in rising order.
+/// The identifiers of received QoS 2 publications without a PUBREL, ascending.
 #[derive(Drop)]
 pub(crate) struct Received {
     /// Each stays until its PUBREL comes.
@@ -25,7 +25,7 @@ impl Model for Received {
 }
 
 impl Received {
-    /// Returns an empty list.
+    /// Returns an empty set.
     pub(crate) fn new(alloc: Global) -> Received
         ensures { result ≡ [] }
     {
@@ -34,7 +34,7 @@ impl Received {
         }
     }
 
-    /// Returns true if the identifier is in the list.
+    /// Returns true if the identifier is in the set.
     pub(crate) fn contains(&self, id: PacketId) -> bool
         ensures { result ≡ has_id id self.now }
     {
@@ -50,11 +50,11 @@ impl Received {
         Ok(())
     }
 
-    /// Removes an identifier, if it is there. Takes no memory.
+    /// Removes an identifier, if it is in the set. Takes no memory.
     pub(crate) fn remove(&mut self, id: PacketId)
         ensures { self.new ≡ without_id id self.old }
     {
-        // This call shows that the identifiers rise, so that each is there once.
+        // This call shows that the identifiers are ascending, so that each is there once.
         let _count = self.ids.len();
         self.ids.remove(&id);
     }

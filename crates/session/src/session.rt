@@ -1,4 +1,13 @@
 // One client's session (MQTT 3.1.2.4, 4.1).
+//
+// A session knows neither a connection nor a clock. The window is an argument of `fill`, since it
+// is a rule of the broker and the start of a ballot would have to set it in every session. Each
+// call is one definition of `session_base`, with its packets appended to the caller's vector. A
+// call that runs out of memory changes neither the session nor that vector, so the broker never has
+// to undo one; `write` alone may have appended a part of its bytes. `enqueue` refuses a 4,097th
+// entry and `enqueue_within_room` requires room for it; the limit of 64 subscriptions is checked by
+// the broker. The received identifiers end a repeat: a QoS 2 PUBLISH is new exactly if its
+// identifier is not among them, whatever its DUP flag says.
 
 ghost use Rattle.std.specs.Prelude.{◌≡◌, ◌≢◌, ◌≤◌, ◌++◌, ◌↔◌, [], true, length, IsOk, Ok, Err};
 ghost use Rattle.std.specs.Prelude.{OnOk, OnErr};
@@ -30,14 +39,14 @@ use topics::{Filter, TopicName};
 /// How many entries of a session are in flight at most, once a broker's ballot has begun (MQTT 4.6).
 pub const WINDOW: usize = 64;
 
-/// One client's session: its subscriptions, the identifiers of QoS 2 publications that were
-/// received, the entries in flight and those that wait.
+/// One client's session: its subscriptions, the identifiers of received QoS 2 publications, and its
+/// queue.
 pub struct Session {
-    /// Its subscriptions, with the QoS of each.
+    /// Each filter with its granted QoS.
     pub(crate) subscriptions: Subscriptions,
-    /// The identifiers of QoS 2 publications that came, and whose PUBREL has not come.
+    /// The QoS 2 publications that were received and whose PUBREL has not come.
     pub(crate) received: Received,
-    /// Its entries. Of those in flight the released ones come first.
+    /// The entries in flight, the released ones first, and the waiting publications.
     pub(crate) queue: SessionQueue,
 }
 
@@ -79,15 +88,15 @@ impl Session {
         }
     }
 
-    /// Takes the identifier of a QoS 2 PUBLISH, and keeps it until `release`. Its DUP flag does not
-    /// matter: a first delivery may carry it (MQTT 3.3.1.1). The only error is that memory ran out,
-    /// and it comes only for an identifier that is not kept.
+    /// Registers the identifier of a QoS 2 PUBLISH and keeps it until `release`. The DUP flag is
+    /// ignored, since a first delivery may carry it (MQTT 3.3.1.1). The only error is that memory
+    /// ran out, and it comes only for an identifier that is not kept.
     pub fn inbound(&mut self, id: PacketId) -> Result<Arrival, Memory>
         ensures again { (result ≡ Ok Again) ↔ (has_id id self.old.received ≡ true) }
         ensures first { result ≡ Ok First
             → self.new ≡ with_received (with_id id self.old.received) self.old }
 
-        // A repeat changes nothing; if memory runs out, nothing changes either.
+        // A repeat changes nothing, and neither does a call that runs out of memory.
         ensures same { result ≢ Ok First → self.new ≡ self.old }
     {
         if self.received.contains(id) {
@@ -97,29 +106,30 @@ impl Session {
         Ok(Arrival::First)
     }
 
-    /// Returns true if a QoS 2 PUBLISH with this identifier is a repeat.
+    /// Returns true if a QoS 2 PUBLISH with this identifier would be a repeat.
     pub fn is_received(&self, id: PacketId) -> bool
         ensures { result ≡ has_id id self.now.received }
     {
         self.received.contains(id)
     }
 
-    /// Handles PUBREL: forgets the identifier, so that it may be used again. Nothing else changes, and
-    /// an identifier that is not kept changes nothing (MQTT 4.3.3). Takes no memory.
+    /// Handles PUBREL: frees the identifier, so that the next PUBLISH with it is new. An identifier
+    /// that is not kept changes nothing (MQTT 4.3.3). Takes no memory.
     pub fn release(&mut self, id: PacketId)
         ensures { self.new ≡ with_received (without_id id self.old.received) self.old }
     {
         self.received.remove(id);
     }
 
-    /// Returns how many more entries fit into the session.
+    /// Returns how many more entries fit, out of [`session_base::MAX_ENTRIES`].
     pub fn room(&self) -> usize
         ensures { result ≡ room MAX_ENTRIES self.now.queue }
     {
         self.queue.room(MAX_ENTRIES)
     }
 
-    /// Queues a publication after the others. `fill` sends it.
+    /// Appends a publication to the waiting ones; `fill` sends it. `QueueFull` if the session has
+    /// no room, `Memory` if memory runs out.
     pub fn enqueue(&mut self, publication: Publication) -> Result<(), EnqueueError>
         ensures ok { OnOk result
             (self.new ≡ with_queue (enqueue publication self.old.queue) self.old) }
@@ -135,8 +145,8 @@ impl Session {
         Ok(())
     }
 
-    /// Queues a publication after the others, if `room` said that there is room for it. The only
-    /// error is that memory ran out.
+    /// Appends a publication to the waiting ones. Requires that `room` is not 0. The only error is
+    /// that memory ran out.
     pub fn enqueue_within_room(&mut self, publication: Publication) -> Result<(), Memory>
         requires room { 1 ≤ room MAX_ENTRIES self.old.queue }
         ensures ok { OnOk result
@@ -166,9 +176,9 @@ impl Session {
         self.fill_within(WINDOW, out)
     }
 
-    /// Starts what waits while fewer entries are in flight than the window: the first that waits
-    /// takes the least free identifier, and its PUBLISH is appended (MQTT 4.6). If memory runs out
-    /// nothing changes.
+    /// Starts waiting publications, in order, while fewer entries are in flight than the window:
+    /// each gets the least free identifier, and its PUBLISH is appended (MQTT 4.6). If memory runs
+    /// out nothing has changed.
     pub fn fill_within(&mut self, window: usize, out: &mut Vec<Packet>) -> Result<(), Memory>
         requires { window ≤ max_id }
         ensures state { OnOk result
@@ -179,7 +189,7 @@ impl Session {
         ensures err { OnErr result (self.new ≡ self.old) }
         ensures unsent { OnErr result (out.new.items ≡ out.old.items) }
 
-        // `Err` only if something is sent.
+        // An error comes only if something is sent.
         ensures nothing { fill_sends window self.old.queue.in_flight self.old.queue.waiting ≡ []
             → IsOk result }
     {
@@ -195,8 +205,8 @@ impl Session {
         self.queue.on_puback(id);
     }
 
-    /// Handles PUBREC: releases the QoS 2 entry with this identifier. Appends PUBREL if it released
-    /// one now or earlier (MQTT 4.3.3). If memory runs out nothing changes.
+    /// Handles PUBREC: releases the QoS 2 entry with this identifier, and appends PUBREL, also if
+    /// the entry was released before (MQTT 4.3.3). If memory runs out nothing has changed.
     pub fn on_pubrec(&mut self, id: PacketId, out: &mut Vec<Packet>) -> Result<(), Memory>
         ensures state { OnOk result
             (self.new ≡ with_queue
@@ -207,7 +217,7 @@ impl Session {
         ensures err { OnErr result (self.new ≡ self.old) }
         ensures unsent { OnErr result (out.new.items ≡ out.old.items) }
 
-        // `Err` only if something is sent.
+        // An error comes only if something is sent.
         ensures nothing { pubrec_sends id (on_pubrec id self.old.queue.in_flight) ≡ [] →
             IsOk result }
     {
@@ -224,8 +234,9 @@ impl Session {
         self.queue.on_pubcomp(id);
     }
 
-    /// Appends what a client that comes back is sent for what is in flight: PUBREL for each
-    /// released entry, then PUBLISH with DUP 1 (MQTT 4.4). If memory runs out nothing is appended.
+    /// Appends the retransmissions for a reconnecting client: PUBREL for each released entry, then
+    /// PUBLISH with DUP 1 for each other one in flight (MQTT 4.4). If memory runs out nothing is
+    /// appended.
     pub fn resend(&self, out: &mut Vec<Packet>) -> Result<(), Memory>
         ensures ok { OnOk result
             (out.new.items ≡ out.old.items ++ resend self.now.queue.in_flight) }
@@ -235,21 +246,21 @@ impl Session {
         Ok(self.queue.resend(out)?)
     }
 
-    /// Sets a subscription: an identical filter gets the new QoS in its place, and a new one is
-    /// appended (MQTT 3.8.4).
+    /// Sets a subscription: an identical filter keeps its place and gets the new QoS, and a new one
+    /// is appended (MQTT 3.8.4). The only error is that memory ran out.
     pub fn subscribe(&mut self, filter: Filter, qos: QoS) -> Result<(), Memory>
         ensures ok { OnOk result
             (self.new
             ≡ with_granted (with_subscription (filter, qos) self.old.subscriptions) self.old) }
         ensures err { OnErr result (self.new ≡ self.old) }
 
-        // `Err` only for a new filter.
+        // An error comes only for a new filter.
         ensures subscribed { is_subscribed filter self.old.subscriptions ≡ true → IsOk result }
     {
         Ok(self.subscriptions.set(filter, qos)?)
     }
 
-    /// Removes a subscription, compared character by character (MQTT 3.10.4).
+    /// Removes a subscription. Filters are compared character by character (MQTT 3.10.4).
     pub fn unsubscribe(&mut self, filter: &Filter)
         ensures { self.new
             ≡ with_granted (without_filter filter.now self.old.subscriptions) self.old }
@@ -271,14 +282,14 @@ impl Session {
         self.subscriptions.len()
     }
 
-    /// Returns the subscriptions, in the order of their first granting.
+    /// Returns the subscriptions, in the order in which they were first granted.
     pub fn subscriptions(&self) -> &IndexMap<Filter, QoS>
         ensures { result.now.entries ≡ self.now.subscriptions }
     {
         self.subscriptions.all()
     }
 
-    /// Returns the greatest QoS of the subscriptions that match the topic, if one does (MQTT
+    /// Returns the greatest QoS of the subscriptions that match the topic, if any does (MQTT
     /// 3.3.5).
     pub fn granted(&self, topic: &TopicName) -> Option<QoS>
         ensures { result ≡ granted_qos topic.now self.now.subscriptions }

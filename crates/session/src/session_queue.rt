@@ -1,4 +1,13 @@
-// What is sent to a client: the entries in flight, and what waits (MQTT 4.3, 4.4, 4.6).
+// The queue of a session: entries in flight and waiting publications (MQTT 4.3, 4.4, 4.6).
+//
+// `in_flight` maps identifiers to what each entry waits for. Its order is the order of
+// retransmission: first the released entries, in the order of their PUBRECs, then the sent ones in
+// the order of sending. PUBREC therefore moves an entry directly after the released ones. An
+// identifier is that of at most one entry, and a new entry gets the least free one. `waiting` is in
+// the order of arrival, and only its front starts, so no publication overtakes another. `fill` does
+// all or nothing: it appends copies of the entries that start to `in_flight`, and takes them off
+// `waiting` only after every PUBLISH was appended; otherwise it truncates `in_flight` and the
+// packets again. A copy only counts up two reference counters.
 
 ghost use Rattle.std.specs.Prelude.{◌≡◌, ◌≤◌, ◌<◌, ◌++◌, [], ◌∷◌, true, false, length, filter};
 ghost use Rattle.std.specs.Prelude.{take, drop, IsOk, IfOk, OnOk, OnErr};
@@ -24,12 +33,12 @@ use std::alloc::{AllocError, AllocFailed, Global};
 use std::collections::VecDeque;
 use std::marker::Model;
 
-/// The entries in flight, the released ones first, and the publications that wait, in order.
+/// The entries in flight and the waiting publications, in order.
 #[derive(Drop)]
 pub(crate) struct SessionQueue {
-    /// By identifier what each awaits. Entries that are not released are in the order of sending.
+    /// By identifier; the released entries first, then the others in the order of sending.
     pub(crate) in_flight: IndexMap<PacketId, Awaits>,
-    /// Those that are not sent yet, the next one first.
+    /// Not sent yet, the next one first.
     pub(crate) waiting: VecDeque<Publication>,
 }
 
@@ -53,14 +62,14 @@ impl SessionQueue {
         }
     }
 
-    /// Returns how many more entries fit below this limit.
+    /// Returns how many more entries fit below this limit; 0 if the limit was reached.
     pub(crate) fn room(&self, limit: usize) -> usize
         ensures { result ≡ room limit self.now }
     {
         limit.saturating_sub(self.in_flight.len().saturating_add(self.waiting.len()))
     }
 
-    /// Lets a publication wait, after all others. If memory runs out the error has it back.
+    /// Appends a publication to the waiting ones. If memory runs out, the error returns it.
     pub(crate) fn enqueue(
         &mut self,
         publication: Publication,
@@ -71,8 +80,8 @@ impl SessionQueue {
         self.waiting.push_back(publication)
     }
 
-    /// Starts what waits while fewer are in flight than the window, and appends what is sent. If
-    /// memory runs out nothing changes.
+    /// Starts waiting publications while fewer entries are in flight than the window, and appends
+    /// their PUBLISHes. If memory runs out nothing has changed.
     pub(crate) fn fill(&mut self, window: usize, out: &mut Vec<Packet>) -> Result<(), AllocError>
         requires { window ≤ max_id }
         ensures state { OnOk result (self.new ≡ filled window self.old) }
@@ -99,8 +108,8 @@ impl SessionQueue {
         }
     }
 
-    // Starts what may start, appends what is sent, and returns how many started. They still wait as
-    // well.
+    // Starts what may start, appends what is sent, and returns how many started. They stay in
+    // `waiting`: `fill` takes them off.
     fn start_all(&mut self, window: usize, out: &mut Vec<Packet>) -> Result<usize, AllocError>
         requires { window ≤ max_id }
         ensures state { IfOk result
@@ -126,7 +135,7 @@ impl SessionQueue {
         Ok(self.waiting.len())
     }
 
-    // Starts the one that waits at this index. It still waits there as well.
+    // Starts the waiting publication at this index, which stays in `waiting`.
     fn start(&mut self, index: usize, out: &mut Vec<Packet>) -> Result<(), AllocError>
         requires { length self.old.in_flight < max_id }
         ensures state { OnOk result
@@ -150,7 +159,7 @@ impl SessionQueue {
         Ok(())
     }
 
-    // Removes this many publications from the front of what waits.
+    // Removes this many publications from the front of `waiting`.
     fn take_off(&mut self, many: usize)
         requires { many ≤ length self.old.waiting }
         ensures { self.new
@@ -168,8 +177,8 @@ impl SessionQueue {
         self.in_flight.retain(|other, awaits| !(id == *other && waits_for_puback(awaits)));
     }
 
-    /// Handles PUBREC: releases the QoS 2 entry with this identifier, and answers with PUBREL, also
-    /// if the entry was released before. If memory runs out nothing changes.
+    /// Handles PUBREC: releases the QoS 2 entry with this identifier, and appends PUBREL, also if
+    /// the entry was released before. If memory runs out nothing has changed.
     #[tactic(auto, using(crate::proofs::AnswersToPubrec::released_is_answered))]
     pub(crate) fn on_pubrec(
         &mut self,
@@ -219,8 +228,8 @@ impl SessionQueue {
         }
     }
 
-    // Moves an entry that waits for PUBREC directly after the released ones. An identifier that is
-    // in flight takes no memory.
+    // Releases the entry with this identifier and moves it directly after the released ones. Takes
+    // no memory.
     fn release(&mut self, id: PacketId)
         requires first { IsReleasedFirst self.old.in_flight }
         requires awaited { IsAwaited id self.old.in_flight }
@@ -233,7 +242,6 @@ impl SessionQueue {
         }
     }
 
-    // Returns how many entries are released.
     fn released_count(&self) -> usize
         ensures { result ≡ length (filter is_released self.now.in_flight) }
     {
@@ -255,8 +263,8 @@ impl SessionQueue {
         self.in_flight.retain(|other, awaits| !(id == *other && waits_for_pubcomp(awaits)));
     }
 
-    /// Appends what a client that comes back is sent for what is in flight, in order. If memory
-    /// runs out nothing is appended.
+    /// Appends the retransmissions for a reconnecting client, in the order of `in_flight`. If
+    /// memory runs out nothing is appended.
     pub(crate) fn resend(&self, out: &mut Vec<Packet>) -> Result<(), AllocError>
         ensures ok { OnOk result (out.new.items ≡ out.old.items ++ resend self.now.in_flight) }
         ensures err { OnErr result (out.new.items ≡ out.old.items) }
@@ -270,7 +278,7 @@ impl SessionQueue {
         appended
     }
 
-    // Appends what is sent for each entry in flight. If memory runs out, a part of it may have been
+    // Appends one packet for each entry in flight. If memory runs out, some of them may have been
     // appended.
     fn resend_each(&self, out: &mut Vec<Packet>) -> Result<(), AllocError>
         ensures ok { OnOk result (out.new.items ≡ out.old.items ++ resend self.now.in_flight) }
@@ -314,7 +322,7 @@ pub(crate) fn put_last(
     Ok(())
 }
 
-// Marks the entry with this identifier as waiting for PUBCOMP. It stays at its index.
+// Makes the entry with this identifier wait for PUBCOMP. It keeps its index.
 fn mark_released(in_flight: &mut IndexMap<PacketId, Awaits>, id: PacketId)
     requires { IsAwaited id in_flight.old.entries }
     ensures entries { in_flight.new.entries ≡ with_released id in_flight.old.entries }

@@ -10,10 +10,10 @@ use std::alloc::{AllocError, Global};
 use std::marker::Model;
 use topics::{Filter, TopicName, matches};
 
-/// Filters, each with the QoS that was granted last, in the order of their first granting.
+/// Filters with the QoS that was granted last, in the order in which they were first granted.
 #[derive(Drop)]
 pub(crate) struct Subscriptions {
-    /// Granted again, a filter keeps its place and gets the new QoS.
+    /// A filter that is granted again keeps its place and gets the new QoS.
     pub(crate) filters: IndexMap<Filter, QoS>,
 }
 
@@ -36,14 +36,14 @@ impl Subscriptions {
         }
     }
 
-    /// Returns how many there are.
+    /// Returns the number of filters.
     pub(crate) fn len(&self) -> usize
         ensures { result ≡ length self.now }
     {
         self.filters.len()
     }
 
-    /// Returns all of them.
+    /// Returns all filters with their QoS.
     pub(crate) fn all(&self) -> &IndexMap<Filter, QoS>
         ensures { result.now.entries ≡ self.now }
     {
@@ -57,7 +57,7 @@ impl Subscriptions {
         self.filters.contains_key(filter)
     }
 
-    /// Sets a filter: an identical filter gets the new QoS in its place, and a new one is appended.
+    /// Sets a filter: an identical one keeps its place and gets the new QoS, a new one is appended.
     pub(crate) fn set(&mut self, filter: Filter, qos: QoS) -> Result<(), AllocError>
         ensures ok { OnOk result (self.new ≡ with_subscription (filter, qos) self.old) }
         ensures err { OnErr result (self.new ≡ self.old) }
@@ -74,7 +74,7 @@ impl Subscriptions {
         self.filters.retain(|granted, _qos| !(*filter == *granted));
     }
 
-    /// Returns the greatest QoS of the filters that match the topic.
+    /// Returns the greatest QoS of the filters that match the topic, if any does.
     #[tactic(auto, using(crate::proofs::GreatestOfAll::one_more))]
     pub(crate) fn granted(&self, topic: &TopicName) -> Option<QoS>
         ensures { result ≡ granted_qos topic.now self.now }

@@ -1,5 +1,5 @@
--- The bytes to which a session is frozen. Numbers are big-endian, a text has its length in two
--- bytes before it.
+-- The bytes to which a session is frozen. Numbers are big-endian; a text comes after its length in
+-- two bytes.
 use Rattle.std.specs.Prelude.{ℕ, ◌<◌, ◌^◌, List, [], ◌∷◌, ◌++◌, length}
 use Rattle.std.specs.Int.{w32, to_be_bytes}
 use Rattle.packet_base.specs.Spelling.{number, text, bit}
@@ -30,18 +30,19 @@ publication_bytes publication =
 abbrev pub granted_subscription_bytes : GrantedSubscription → List ℕ
 granted_subscription_bytes granted = text granted.0 ++ one_byte (qos_number granted.1)
 
--- what an entry waits for: 0 PUBACK, 1 PUBREC, 2 PUBCOMP, with its publication if it still has one
+-- the acknowledgement that an entry waits for (0 PUBACK, 1 PUBREC, 2 PUBCOMP), and its publication
+-- if it still has one
 abbrev pub awaits_bytes : Awaits → List ℕ
 awaits_bytes (waits_for.Puback publication) = 0 ∷ publication_bytes publication
 awaits_bytes (waits_for.Pubrec publication) = 1 ∷ publication_bytes publication
 awaits_bytes waits_for.Pubcomp = 2 ∷ []
 
--- an entry in flight: its identifier, and what it waits for
+-- an entry in flight: its identifier, and the acknowledgement that it waits for
 abbrev pub flight_bytes : Flight → List ℕ
 flight_bytes flight = number flight.0 ++ awaits_bytes flight.1
 
--- subscriptions in the order of their first granting, received identifiers, what is in flight, what
--- waits
+-- subscriptions in the order of the first grant, received identifiers, entries in flight, waiting
+-- publications
 abbrev pub state_bytes : SessionState → List ℕ
 state_bytes session =
     counted_bytes one_byte granted_subscription_bytes session.subscriptions
@@ -55,7 +56,7 @@ state_bytes session =
 abbrev pub HasLength : Publication → Type 0
 HasLength publication = length publication.payload < 2 ^ 32
 
--- the length of the payload of an entry's publication fits four bytes, if it has one
+-- the payload of an entry's publication, if it has one, has a length that fits four bytes
 abbrev pub IsWritable : Awaits → Type 0
 IsWritable (waits_for.Puback publication) = HasLength publication
 IsWritable (waits_for.Pubrec publication) = HasLength publication

@@ -1,5 +1,4 @@
--- Lists whose count is before them: each item is read after those before it, and has to go with
--- them.
+-- Lists after their count: whether an item may be read depends on the items before it.
 use Rattle.std.specs.Prelude.{◌≡◌, ℕ, true, false, zero, suc, Bool, nat_le, List, [], ◌∷◌, ◌++◌}
 use Rattle.std.specs.Prelude.{length, flat_map, Option, None, Result, Ok, Err}
 use Rattle.std.specs.List.{last_or}
@@ -9,11 +8,11 @@ use Rattle.packet_base.specs.declared.stop.Stop.TheVariants as stops
 use Rattle.packet_base.specs.Readers.{◌>>=◌, ◌>>◌, check}
 use Rattle.packet_base.specs.Lists.{ItemAt}
 
--- continues if the test is true; otherwise the bytes are not of the form
+-- `Shape` unless the test is true
 abbrev pub check_form : Bool → Result (Unit {0}) Stop
 check_form test = check test (stops.Malformed kinds.Shape)
 
--- the last one of those that were read, if there is one
+-- the last of the items that were read, if there is one
 abbrev pub last_of : {A : Type 0} → List A → Option A
 last_of = last_or None
 
@@ -25,7 +24,7 @@ items_after follows item (suc more) front bytes =
     item bytes >>= (λ one. check_form (follows front one.0)
     >> items_after follows item more (front ++ one.0 ∷ []) one.1)
 
--- the count, no more than `most`, and the items
+-- the count, at most `most`, and the items
 unfoldable pub counted_items_at : {A : Type 0} → ItemAt ℕ → (List A → A → Bool) → ItemAt A → ℕ →
     List ℕ →
     Result (List A × List ℕ) Stop
@@ -34,12 +33,12 @@ counted_items_at count follows item most bytes = do
   check_form (nat_le many.0 most)
   items_after follows item many.0 [] many.1
 
--- items as they are written: their count, then one after another
+-- the bytes of a list: its count, then its items
 abbrev pub counted_bytes : {A : Type 0} → (ℕ → List ℕ) → (A → List ℕ) → List A → List ℕ
 counted_bytes count bytes items = count (length items) ++ flat_map bytes items
 
--- what adding an item to those that were read does: it comes last if it may, and all else stops the
--- reading; memory may run out
+-- adding an item: it is appended if it may follow the others, and the reading stops otherwise;
+-- memory may run out
 abbrev pub AddsItem : {A : Type 0} → (List A → A → Bool) → List A → A → Result (Unit {0}) Stop →
     List A → Type 0
 AddsItem follows front one (Ok done) after =

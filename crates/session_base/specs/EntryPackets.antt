@@ -1,4 +1,4 @@
--- The packets that a client is sent of its queue (MQTT 3.3.1.1, 4.3, 4.4).
+-- The packets that a client is sent for its queue (MQTT 3.3.1.1, 4.3, 4.4).
 use Rattle.std.specs.Prelude.{ℕ, true, false, nat_lt, if◌then◌else◌, List, [], ◌∷◌, ◌++◌}
 use Rattle.std.specs.Prelude.{length, map}
 use Rattle.packet.specs.declared.packet.Packet.{Packet}
@@ -10,7 +10,7 @@ use Rattle.session_base.specs.Publication.{publish_for, is_answered}
 use Rattle.session_base.specs.Queue.{Flight, Queue, started_flight, awaits_pubcomp, enqueue, filled}
 use Rattle.std.specs.List.{list_any}
 
--- what a fill sends: each publication that starts, with DUP 0 (MQTT 3.3.1.1)
+-- what a fill sends: the PUBLISH of each publication that starts, with DUP 0 (MQTT 3.3.1.1)
 abbrev pub fill_sends : ℕ → List Flight → List Publication → List Packet
 fill_sends window in_flight (publication ∷ waiting) =
     if nat_lt (length in_flight) window
@@ -19,25 +19,25 @@ fill_sends window in_flight (publication ∷ waiting) =
     else []
 fill_sends window in_flight [] = []
 
--- what a client that comes back is sent of an entry: PUBREL for a released one, else PUBLISH with
--- DUP 1 (MQTT 4.4)
+-- the retransmission of an entry to a reconnecting client: PUBREL for a released one, otherwise
+-- PUBLISH with DUP 1 (MQTT 4.4)
 abbrev pub sent_anew : ℕ → Awaits → Packet
 sent_anew id (waits_for.Puback publication) = packets.Publish (publish_for true id publication)
 sent_anew id (waits_for.Pubrec publication) = packets.Publish (publish_for true id publication)
 sent_anew id waits_for.Pubcomp = packets.Pubrel id
 
--- what a client that comes back is sent of all that is in flight, in order
+-- the retransmissions to a reconnecting client, in the order of the entries in flight
 abbrev pub resend : List Flight → List Packet
 resend = map (λ flight. sent_anew flight.0 flight.1)
 
--- PUBREC is answered by PUBREL if it released an entry, and if the entry was released before (MQTT
+-- PUBREC is answered by PUBREL if it released an entry, or if the entry was released before (MQTT
 -- 4.3.3)
 abbrev pub pubrec_sends : ℕ → List Flight → List Packet
 pubrec_sends id after =
     if list_any (λ flight. awaits_pubcomp id flight) after then packets.Pubrel id ∷ [] else []
 
--- What a connected client is sent of copies that come one by one: each of QoS 0 at once, and what
--- starts after each other that is enqueued.
+-- What a connected client is sent for copies that are added one by one: each of QoS 0 at once, and
+-- what starts after each other one was queued.
 abbrev pub copies_sent : ℕ → List Publication → Queue → List Packet
 copies_sent window (publication ∷ copies) queue =
     if is_answered publication.qos

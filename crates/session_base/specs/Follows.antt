@@ -1,4 +1,4 @@
--- Which part of a frozen session may come after which.
+-- Which part of a frozen session may follow which.
 use Rattle.std.specs.Prelude.{ℕ, Bool, true, not, ◌&&◌, ◌||◌, nat_lt, List, Option, Some, None}
 use Rattle.lists.specs.Lists.{has_id}
 use Rattle.session_base.specs.declared.publication.Publication.{Publication}
@@ -24,7 +24,7 @@ abbrev pub was_released : Option Flight → Bool
 was_released (Some last) = is_released last
 was_released None = true
 
--- an entry with an identifier of its own; a released one comes only after released ones
+-- an entry with a new identifier; a released one follows only released ones
 abbrev pub may_follow : List Flight → Flight → Bool
 may_follow front flight =
     not (has_id flight.0 (ids_of front))

@@ -41,14 +41,14 @@ qos_at bytes = do
   qos ← qos_of byte.0
   Ok (qos, byte.1)
 
--- how many bytes the body of a PUBLISH has that carries the publication: topic with its length,
--- identifier, payload
+-- the length in bytes of the body of the PUBLISH that carries the publication: topic after its
+-- length, identifier, payload
 abbrev pub body_length : Publication → ℕ
 body_length publication =
     2 + length publication.topic + (if is_answered publication.qos then 2 else 0)
     + length publication.payload
 
--- a publication whose PUBLISH is within the limit
+-- a publication whose PUBLISH is within the size limit
 abbrev pub sized : Publication → Result Publication Stop
 sized publication = do
   check_form (nat_le (body_length publication) max_body)
@@ -73,28 +73,28 @@ granted_subscription_at bytes = do
   qos ← qos_at filter.1
   Ok ((filter.0, qos.0), qos.1)
 
--- a publication that waits: at QoS 1 or 2
+-- a waiting publication: QoS 1 or 2
 unfoldable pub waiting_at : List ℕ → Result (Publication × List ℕ) Stop
 waiting_at bytes = do
   publication ← publication_at bytes
   check_form (is_answered publication.0.qos)
   Ok publication
 
--- one that waits for PUBACK is of QoS 1, one that waits for PUBREC of QoS 2
+-- a sent entry: QoS 1 if it waits for PUBACK, QoS 2 if for PUBREC
 unfoldable pub sent_at : Bool → List ℕ → Result (Awaits × List ℕ) Stop
 sent_at acknowledged bytes = do
   sent ← waiting_at bytes
   check_form (if acknowledged then is_qos1 sent.0.qos else not (is_qos1 sent.0.qos))
   Ok (if acknowledged then waits_for.Puback sent.0 else waits_for.Pubrec sent.0, sent.1)
 
--- what an entry waits for, by a byte of 0 to 2
+-- the acknowledgement that an entry waits for, a byte of 0 to 2
 unfoldable pub awaits_at : List ℕ → Result (Awaits × List ℕ) Stop
 awaits_at bytes = do
   state ← byte_at bytes
   check_form (nat_lt state.0 3)
   if state.0 == 2 then Ok (waits_for.Pubcomp, state.1) else sent_at (state.0 == 0) state.1
 
--- an entry in flight: its identifier, and what it waits for
+-- an entry in flight: its identifier, and the acknowledgement that it waits for
 unfoldable pub flight_at : List ℕ → Result (Flight × List ℕ) Stop
 flight_at bytes = do
   id ← id_at bytes

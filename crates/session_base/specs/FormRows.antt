@@ -1,6 +1,6 @@
--- Worked examples. A session with something in every part, each byte by hand: two filters, two
--- received identifiers, an entry in flight of each kind, two that wait. And a publication: how many
--- bytes its PUBLISH has after the header, counted by hand.
+-- Worked examples. A session with something in every part, its bytes written by hand: two filters,
+-- two received identifiers, an entry in flight of each kind, two waiting publications. And a
+-- publication: the bytes of its PUBLISH after the header, counted by hand.
 use Rattle.std.specs.Prelude.{◌≡◌, ℕ, true, false, List, [], ◌∷◌, ◌++◌, codes}
 use Rattle.packet_base.specs.declared.qos.QoS.{QoS}
 use Rattle.packet_base.specs.declared.qos.QoS.TheVariants as qos_levels
@@ -30,17 +30,17 @@ exactly_once =
       payload = codes "y";
     }
 
--- what waits: a retained copy at QoS 1, and a publication without a payload
+-- the first waiting publication: a retained copy at QoS 1
 abbrev pub retained_in_row : Publication
 retained_in_row =
     record { retain = true; qos = qos_levels.AtLeastOnce; topic = codes "t/2"; payload = codes "z" }
 
--- a publication without a payload
+-- the second: a publication without a payload
 abbrev pub without_payload : Publication
 without_payload =
     record { retain = false; qos = qos_levels.ExactlyOnce; topic = codes "t/1"; payload = [] }
 
--- three entries in flight, and two that wait
+-- three entries in flight and two waiting publications
 abbrev pub full_queue : Queue
 full_queue = record {
   in_flight =
@@ -69,7 +69,7 @@ flights_by_hand =
     ∷ 0 ∷ 1 ∷ 0 ∷ 0 ∷ 1 ∷ 0 ∷ 3 ∷ 0x74 ∷ 0x2F ∷ 0x31 ∷ 0 ∷ 0 ∷ 0 ∷ 1 ∷ 0x78
     ∷ 0 ∷ 2 ∷ 1 ∷ 0 ∷ 2 ∷ 0 ∷ 3 ∷ 0x74 ∷ 0x2F ∷ 0x31 ∷ 0 ∷ 0 ∷ 0 ∷ 1 ∷ 0x79 ∷ []
 
--- the bytes of what waits, two publications, worked out by hand
+-- the bytes of the two waiting publications, written by hand
 abbrev pub waiting_by_hand : List ℕ
 waiting_by_hand =
     0 ∷ 2

@@ -1,4 +1,5 @@
--- What a session is frozen to is read as that session, and what is read is frozen as it stood.
+-- A frozen session is read as that session, and a session that was read is frozen to the same
+-- bytes.
 use Rattle.std.specs.Prelude.{◌≡◌, ℕ, ◌≤◌, List, ◌++◌, length, Ok, IfOk}
 use Rattle.std.specs.List.{AllByRecursion}
 use Rattle.std.specs.List.Sorted.{IsStrictlySortedBy}
@@ -14,8 +15,8 @@ use Rattle.session_base.specs.InRange.{IsGrantedSubscription, IsQueue}
 use Rattle.session_base.specs.Form.{state_bytes}
 use Rattle.session_base.specs.SessionForm.{state_at}
 
--- a session that has a form: each filter once, received identifiers rising, those in flight
--- distinct, the released entries first, no more of each than it may hold, and each in its range
+-- a session that has a form: each filter once, ascending received identifiers, distinct identifiers
+-- in flight, the released entries first, no more of each than the limits, and each in its range
 pub record HasForm (session : SessionState) : Type 0 where
   pub filters_apart : AreFiltersApart session.subscriptions
   pub filters : AllByRecursion IsGrantedSubscription session.subscriptions
@@ -30,7 +31,8 @@ pub record HasForm (session : SessionState) : Type 0 where
 abbrev pub FitsIn : ℕ → SessionState → Type 0
 FitsIn window session = length session.queue.in_flight ≤ window
 
--- whatever bytes follow, and whatever the window is, if no more is in flight
+-- a frozen session is read as it was, whatever bytes follow, with any window that its entries in
+-- flight fit in
 abbrev pub FrozenIsRead : Type 0
 FrozenIsRead =
     (window : ℕ) → window ≤ max_entries → (session : SessionState) (rest : List ℕ) →
@@ -43,7 +45,7 @@ ReadHasForm =
     (window : ℕ) → window ≤ max_entries → (bytes : List ℕ) → AreBytes bytes →
     IfOk (state_at window bytes) (λ read. HasForm read.0 × FitsIn window read.0 × AreBytes read.1)
 
--- what was read is written as it stood, in front of the bytes that are left
+-- a session that was read is frozen to the bytes that were read
 abbrev pub ReadIsFrozen : Type 0
 ReadIsFrozen =
     (window : ℕ) → (bytes : List ℕ) → AreBytes bytes

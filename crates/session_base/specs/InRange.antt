@@ -1,5 +1,5 @@
--- What is in a session is in its range: no more entries and filters than it may hold, and each
--- number, text and publication as the standard has it (MQTT 1.5.3, 2.3.1, 3.3, 4.7).
+-- The range of a session: no more entries and filters than the limits, and each number, text and
+-- publication as the standard requires (MQTT 1.5.3, 2.3.1, 3.3, 4.7).
 use Rattle.std.specs.Prelude.{◌≡◌, ℕ, ◌+◌, ◌≤◌, IsTrue, false, length}
 use Rattle.std.specs.List.{AllByRecursion}
 use Rattle.topics.specs.Text.{is_filter}
@@ -13,15 +13,16 @@ use Rattle.session_base.specs.Publication.{publish_for, is_answered}
 use Rattle.session_base.specs.Subscriptions.{GrantedSubscription}
 use Rattle.session_base.specs.Queue.{Flight, Queue}
 
--- a publication whose PUBLISH can be spelled: a topic name, and a packet within the limit
+-- a publication whose PUBLISH can be encoded: it has a Topic Name, and its packet is within the
+-- limit
 abbrev pub CanBeSent : Publication → Type 0
 CanBeSent publication = IsPacket (packets.Publish (publish_for false 1 publication))
 
--- a publication that waits: it is to be answered
+-- a waiting publication, of QoS 1 or 2
 abbrev pub MayWait : Publication → Type 0
 MayWait publication = IsTrue (is_answered publication.qos) × CanBeSent publication
 
--- an entry in flight: PUBACK answers QoS 1, PUBREC answers QoS 2 (MQTT 4.3)
+-- an entry in flight: one of QoS 1 waits for PUBACK, one of QoS 2 for PUBREC (MQTT 4.3)
 abbrev pub IsInFlight : Flight → Type 0
 IsInFlight (id, waits_for.Puback publication) =
     IsId id × (publication.qos ≡ qos_levels.AtLeastOnce) × CanBeSent publication
@@ -29,7 +30,7 @@ IsInFlight (id, waits_for.Pubrec publication) =
     IsId id × (publication.qos ≡ qos_levels.ExactlyOnce) × CanBeSent publication
 IsInFlight (id, waits_for.Pubcomp) = IsId id
 
--- a subscription: a filter that is lawful
+-- a subscription with a valid filter
 abbrev pub IsGrantedSubscription : GrantedSubscription → Type 0
 IsGrantedSubscription granted = IsTrue (is_filter granted.0)
 

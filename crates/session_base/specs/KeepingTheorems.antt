@@ -1,5 +1,5 @@
--- What calls leave of subscriptions and of received identifiers: each filter once, and rising
--- numbers (MQTT 2.3.1, 3.8.4).
+-- What calls preserve of subscriptions and of received identifiers: each filter once, ascending
+-- identifiers (MQTT 2.3.1, 3.8.4).
 use Rattle.std.specs.Prelude.{◌≡◌, ℕ, false, if◌then◌else◌, List, [], ◌∷◌, ◌++◌, map}
 use Rattle.std.specs.List.Sorted.{IsStrictlySortedBy}
 use Rattle.std.specs.Ordering.{nat_cmp}
@@ -12,14 +12,14 @@ AreFiltersApart (granted ∷ others) =
     (is_subscribed granted.0 others ≡ false) × AreFiltersApart others
 AreFiltersApart [] = Unit {0}
 
--- a granting and a giving up keep it so
+-- granting and removing a filter preserves this
 abbrev pub FiltersStayApart : Type 0
 FiltersStayApart =
     (granted : List GrantedSubscription) → AreFiltersApart granted →
     ((new : GrantedSubscription) → AreFiltersApart (with_subscription new granted))
     × ((given_up : List ℕ) → AreFiltersApart (without_filter given_up granted))
 
--- received identifiers stay in rising order, each once
+-- received identifiers stay in ascending order, each once
 abbrev pub ReceivedStayRising : Type 0
 ReceivedStayRising =
     (id : ℕ) → (ids : List ℕ) → IsStrictlySortedBy nat_cmp ids →
@@ -29,7 +29,7 @@ ReceivedStayRising =
 abbrev pub filters_of : List GrantedSubscription → List (List ℕ)
 filters_of = map (λ granted. granted.0)
 
--- a filter that the session has keeps its place, and a new one comes last (MQTT 3.8.4)
+-- a filter that is granted again keeps its place, and a new one is appended (MQTT 3.8.4)
 abbrev pub FiltersKeepTheirOrder : Type 0
 FiltersKeepTheirOrder =
     (new : GrantedSubscription) → (granted : List GrantedSubscription) →

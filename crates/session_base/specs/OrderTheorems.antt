@@ -1,4 +1,4 @@
--- Laws of the client's answers, and of the order in flight (MQTT 4.3.2, 4.3.3, 4.4).
+-- Theorems about acknowledgements, and about the order in flight (MQTT 4.3.2, 4.3.3, 4.4).
 use Rattle.std.specs.Prelude.{◌≡◌, ℕ, true, false, ◌⊎◌, List, [], ◌∷◌, ◌++◌, length, filter}
 use Rattle.std.specs.List.{list_any}
 use Rattle.packet.specs.declared.packet.Packet.TheVariants as packets
@@ -23,9 +23,9 @@ IsReleasedFirst (flight ∷ flights) =
     ((is_released flight ≡ true) × IsReleasedFirst flights) ⊎ NoneReleased (flight ∷ flights)
 IsReleasedFirst [] = Unit {0}
 
--- ---- the client's answers
+-- ---- acknowledgements
 
--- an answer for which no entry waits changes nothing
+-- an acknowledgement for which no entry waits changes nothing
 abbrev pub OtherAnswersChangeNothing : Type 0
 OtherAnswersChangeNothing =
     (id : ℕ) → (flights : List Flight) →
@@ -45,7 +45,7 @@ ReleasedComesLast =
     filter is_released (on_pubrec id flights)
     ≡ filter is_released flights ++ (id, waits_for.Pubcomp) ∷ []
 
--- the client's answers keep identifiers apart, and PUBREC keeps how many are in flight
+-- acknowledgements leave the identifiers distinct, and PUBREC leaves as many in flight
 abbrev pub AnswersKeepApart : Type 0
 AnswersKeepApart =
     (id : ℕ) → (flights : List Flight) → IsDistinct (ids_of flights) →
@@ -54,7 +54,7 @@ AnswersKeepApart =
 
 -- ---- the order in flight
 
--- whatever happens, the released entries come first
+-- released entries stay first
 abbrev pub KeepsReleasedFirst : Type 0
 KeepsReleasedFirst =
     (flights : List Flight) → IsReleasedFirst flights →
@@ -64,7 +64,7 @@ KeepsReleasedFirst =
     × ((window : ℕ) → (waiting : List Publication)
     → IsReleasedFirst (fill window flights waiting).in_flight)
 
--- a resending goes along the queue in order, with PUBREL for a released entry and PUBLISH with DUP
+-- retransmission follows the order in flight, with PUBREL for a released entry and PUBLISH with DUP
 -- 1 for any other
 abbrev pub ResendsInOrder : Type 0
 ResendsInOrder =
@@ -77,9 +77,9 @@ ResendsInOrder =
     → resend ((id, waits_for.Pubrec publication) ∷ [])
     ≡ packets.Publish (publish_for true id publication) ∷ [])
 
--- An entry of QoS 1 that was sent is finished by its PUBACK, and a PUBREC is nothing to it. One of
--- QoS 2 is released by its PUBREC and finished by the PUBCOMP after it, and a PUBACK is nothing to
--- it (MQTT 4.3.2, 4.3.3).
+-- A sent entry of QoS 1 is finished by its PUBACK, and a PUBREC does not change it. One of QoS 2 is
+-- released by its PUBREC and finished by the PUBCOMP after it, and a PUBACK does not change it
+-- (MQTT 4.3.2, 4.3.3).
 abbrev pub AnswersFitTheQoS : Type 0
 AnswersFitTheQoS =
     (id : ℕ) → (publication : Publication) →

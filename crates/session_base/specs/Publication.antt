@@ -8,7 +8,7 @@ use Rattle.packet.specs.declared.publish.Publish.{Publish}
 use Rattle.packet.specs.Delivery.{delivery_qos}
 use Rattle.session_base.specs.declared.publication.Publication.{Publication}
 
--- what this PUBLISH carries
+-- the publication that a PUBLISH carries
 abbrev pub publication_of : Publish → Publication
 publication_of publish =
     record {
@@ -18,7 +18,7 @@ publication_of publish =
       payload = publish.payload;
     }
 
--- how a publication is delivered at this QoS, with DUP and identifier if the QoS has them
+-- the delivery of a publication at this QoS, with DUP and identifier if the QoS has them
 abbrev pub delivery_with : QoS → Bool → ℕ → Delivery
 delivery_with qos_levels.AtMostOnce dup id = deliveries.AtMostOnce
 delivery_with qos_levels.AtLeastOnce dup id = deliveries.AtLeastOnce dup id
@@ -34,13 +34,13 @@ publish_for dup id publication =
       payload = publication.payload;
     }
 
--- whether a publication of this QoS goes into a queue: QoS 1 and 2 are answered
+-- whether a publication of this QoS is queued: QoS 1 and 2 are acknowledged
 abbrev pub is_answered : QoS → Bool
 is_answered qos_levels.AtMostOnce = false
 is_answered qos_levels.AtLeastOnce = true
 is_answered qos_levels.ExactlyOnce = true
 
--- whether a QoS is 1: PUBACK is the whole answer
+-- whether a QoS is 1: PUBACK ends its handshake
 abbrev pub is_qos1 : QoS → Bool
 is_qos1 qos_levels.AtMostOnce = false
 is_qos1 qos_levels.AtLeastOnce = true

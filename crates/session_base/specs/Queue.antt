@@ -1,5 +1,5 @@
--- One client's queue: what is in flight, what waits, and what the client's answers do (MQTT 4.3,
--- 4.4, 4.6).
+-- One client's queue: entries in flight, waiting publications, and the effect of acknowledgements
+-- (MQTT 4.3, 4.4, 4.6).
 use Rattle.std.specs.Prelude.{ℕ, ◌+◌, ◌-◌, Bool, true, false, not, ◌&&◌, ◌==◌, nat_lt}
 use Rattle.std.specs.Prelude.{if◌then◌else◌, List, [], ◌∷◌, ◌++◌, length, map, filter}
 use Rattle.std.specs.List.{list_any}
@@ -9,7 +9,7 @@ use Rattle.session_base.specs.declared.awaits.Awaits.TheVariants as waits_for
 use Rattle.session_base.specs.Publication.{is_qos1}
 use Rattle.session_base.specs.Identifiers.{least_free}
 
--- an entry in flight: its Packet Identifier, and what it waits for
+-- an entry in flight: its Packet Identifier, and the acknowledgement that it waits for
 abbrev pub Flight : Type 0
 Flight = ℕ × Awaits
 
@@ -23,13 +23,13 @@ pub record Queue : Type 0 where
 abbrev pub empty_queue : Queue
 empty_queue = record { in_flight = []; waiting = [] }
 
--- what a publication waits for once it is sent (MQTT 4.3.2, 4.3.3)
+-- the acknowledgement that a publication waits for once it is sent (MQTT 4.3.2, 4.3.3)
 abbrev pub awaited : Publication → Awaits
 awaited publication =
     if is_qos1 publication.qos then waits_for.Puback publication
     else waits_for.Pubrec publication
 
--- ---- the client's answers
+-- ---- acknowledgements
 
 -- whether an entry in flight waits for PUBACK
 abbrev pub is_puback : Awaits → Bool
@@ -66,7 +66,7 @@ is_released flight = is_pubcomp flight.1
 abbrev pub on_puback : ℕ → List Flight → List Flight
 on_puback id = filter (λ flight. not (awaits_puback id flight))
 
--- the entry with this identifier is released: it comes directly after those that were released
+-- the entry with this identifier is released: it moves directly after those that were released
 -- before
 abbrev pub released_with : ℕ → List Flight → List Flight
 released_with id in_flight =
@@ -83,14 +83,14 @@ on_pubrec id in_flight =
 abbrev pub on_pubcomp : ℕ → List Flight → List Flight
 on_pubcomp id = filter (λ flight. not (awaits_pubcomp id flight))
 
--- ---- what waits
+-- ---- waiting publications
 
--- a publication comes last
+-- a publication is appended
 abbrev pub enqueue : Publication → Queue → Queue
 enqueue publication queue =
     record { in_flight = queue.in_flight; waiting = queue.waiting ++ publication ∷ [] }
 
--- how many more entries a queue takes that holds no more than the limit
+-- how many more entries fit into a queue with this limit
 abbrev pub room : ℕ → Queue → ℕ
 room limit queue = limit - (length queue.in_flight + length queue.waiting)
 
@@ -98,12 +98,12 @@ room limit queue = limit - (length queue.in_flight + length queue.waiting)
 abbrev pub ids_of : List Flight → List ℕ
 ids_of = map (λ flight. flight.0)
 
--- the entry that the publication becomes when it starts: it takes the least identifier that is not
--- in flight
+-- the entry of a publication that starts: it gets the least identifier that is not in flight
 abbrev pub started_flight : List Flight → Publication → Flight
 started_flight in_flight publication = (least_free (ids_of in_flight), awaited publication)
 
--- While fewer entries are in flight than the window, the first that waits starts (MQTT 4.6).
+-- while fewer entries are in flight than the window, the first waiting publication starts (MQTT
+-- 4.6)
 abbrev pub fill : ℕ → List Flight → List Publication → Queue
 fill window in_flight (publication ∷ waiting) =
     if nat_lt (length in_flight) window
@@ -111,6 +111,6 @@ fill window in_flight (publication ∷ waiting) =
     else record { in_flight = in_flight; waiting = publication ∷ waiting }
 fill window in_flight [] = record { in_flight = in_flight; waiting = [] }
 
--- a queue in which all has started that may start
+-- the queue after a fill
 abbrev pub filled : ℕ → Queue → Queue
 filled window queue = fill window queue.in_flight queue.waiting

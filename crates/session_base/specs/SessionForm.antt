@@ -1,4 +1,4 @@
--- How a session is read from its bytes. Both forms are alike, except the window.
+-- How a session is read from its bytes. It is the same in both forms, except the window.
 use Rattle.std.specs.Prelude.{ℕ, ◌-◌, List}
 use Rattle.std.specs.Prelude.{length, Result, Ok}
 use Rattle.packet_base.specs.declared.stop.Stop.{Stop}

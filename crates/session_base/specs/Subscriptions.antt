@@ -7,32 +7,32 @@ use Rattle.topics.specs.Matching.{is_match}
 use Rattle.packet_base.specs.declared.qos.QoS.{QoS}
 use Rattle.packet_base.specs.QoS.{greater_qos}
 
--- a subscription of a session: its filter, and the QoS at which it was granted last
+-- a subscription of a session: its filter, and the QoS of its last grant
 abbrev pub GrantedSubscription : Type 0
 GrantedSubscription = List ℕ × QoS
 
--- whether the session has a subscription of a filter, compared character by character
+-- whether the session has this filter, compared character by character
 abbrev pub is_subscribed : List ℕ → List GrantedSubscription → Bool
 is_subscribed filter = list_any (λ granted. bytes_eq filter granted.0)
 
--- an identical filter takes the new QoS in its place, and a new one comes last (MQTT 3.8.4)
+-- an identical filter keeps its place and gets the new QoS, a new one is appended (MQTT 3.8.4)
 abbrev pub with_subscription : GrantedSubscription → List GrantedSubscription →
     List GrantedSubscription
 with_subscription new (old ∷ others) =
     if bytes_eq new.0 old.0 then (old.0, new.1) ∷ others else old ∷ with_subscription new others
 with_subscription new [] = new ∷ []
 
--- the subscriptions after all of these, one by one
+-- the subscriptions after these are set one by one
 abbrev pub with_subscriptions : List GrantedSubscription → List GrantedSubscription →
     List GrantedSubscription
 with_subscriptions (new ∷ more) granted = with_subscriptions more (with_subscription new granted)
 with_subscriptions [] granted = granted
 
--- a filter is given up, compared character by character (MQTT 3.10.4)
+-- a filter is removed, compared character by character (MQTT 3.10.4)
 abbrev pub without_filter : List ℕ → List GrantedSubscription → List GrantedSubscription
 without_filter given_up = filter (λ granted. not (bytes_eq given_up granted.0))
 
--- the subscriptions after all of these filters are given up, one by one
+-- the subscriptions after these filters are removed one by one
 abbrev pub without_filters : List (List ℕ) → List GrantedSubscription → List GrantedSubscription
 without_filters (given_up ∷ more) granted = without_filters more (without_filter given_up granted)
 without_filters [] granted = granted

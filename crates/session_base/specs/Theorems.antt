@@ -1,4 +1,5 @@
--- Laws of a fill: what it takes, with which identifiers, and what it sends (MQTT 4.3, 4.4, 4.6).
+-- Theorems about a fill: what it starts, with which identifiers, and what it sends (MQTT 4.3, 4.4,
+-- 4.6).
 use Rattle.std.specs.Prelude.{◌≡◌, ℕ, ◌≤◌, ◌<◌, suc, true, false, ◌⊎◌, List, [], ◌∷◌, ◌++◌, length}
 use Rattle.std.specs.Prelude.{map, filter, take, drop}
 use Rattle.packet.specs.declared.packet.Packet.{Packet}
@@ -13,7 +14,7 @@ use Rattle.session_base.specs.Queue.{Flight, ids_of, fill}
 use Rattle.session_base.specs.Copies.{copies_left}
 use Rattle.session_base.specs.EntryPackets.{fill_sends}
 
--- the publications in flight: a released entry has none left
+-- the publications in flight; a released entry keeps none
 abbrev pub publications_in_flight : List Flight → List Publication
 publications_in_flight ((id, waits_for.Puback publication) ∷ flights) =
     publication ∷ publications_in_flight flights
@@ -22,7 +23,7 @@ publications_in_flight ((id, waits_for.Pubrec publication) ∷ flights) =
 publications_in_flight ((id, waits_for.Pubcomp) ∷ flights) = publications_in_flight flights
 publications_in_flight [] = []
 
--- an entry that starts is sent with DUP 0
+-- the first PUBLISH of an entry, with DUP 0
 abbrev pub first_sent : ℕ → Awaits → Packet
 first_sent id (waits_for.Puback publication) = packets.Publish (publish_for false id publication)
 first_sent id (waits_for.Pubrec publication) = packets.Publish (publish_for false id publication)
@@ -30,8 +31,8 @@ first_sent id waits_for.Pubcomp = packets.Pubrel id
 
 -- ---- identifiers
 
--- the least free number is from 1 to one more than how many are busy, is not busy, and each smaller
--- one is
+-- the least free number is at least 1, at most one more than how many are busy, and not busy, and
+-- each smaller one is busy
 abbrev pub IsLeastFree : Type 0
 IsLeastFree =
     (busy : List ℕ) →
@@ -39,7 +40,7 @@ IsLeastFree =
     × (has_id (least_free busy) busy ≡ false)
     × ((id : ℕ) → 1 ≤ id → id < least_free busy → has_id id busy ≡ true)
 
--- a fill keeps identifiers apart
+-- a fill leaves the identifiers distinct
 abbrev pub FillKeepsApart : Type 0
 FillKeepsApart =
     (window : ℕ) → (flights : List Flight) → (waiting : List Publication) →
@@ -47,20 +48,20 @@ FillKeepsApart =
 
 -- ---- a fill
 
--- after a fill nothing waits, or the window is full
+-- after a fill no publication waits, or the window is full
 abbrev pub FillIsDone : Type 0
 FillIsDone =
     (window : ℕ) → (flights : List Flight) → (waiting : List Publication) →
     ((fill window flights waiting).waiting ≡ [])
     ⊎ (window ≤ length (fill window flights waiting).in_flight)
 
--- a fill does not go past the window
+-- a fill does not exceed the window
 abbrev pub FillStaysWithin : Type 0
 FillStaysWithin =
     (window : ℕ) → (flights : List Flight) → (waiting : List Publication) →
     length flights ≤ window → length (fill window flights waiting).in_flight ≤ window
 
--- a fill leaves what was in flight in front, and loses or overtakes no publication
+-- a fill leaves what was in flight in front; no publication is lost or overtaken
 abbrev pub FillKeepsOrder : Type 0
 FillKeepsOrder =
     (window : ℕ) → (flights : List Flight) → (waiting : List Publication) →
@@ -69,7 +70,7 @@ FillKeepsOrder =
     ++ (fill window flights waiting).waiting
     ≡ publications_in_flight flights ++ waiting)
 
--- a fill sends what came into flight, with DUP 0, and nothing else
+-- a fill sends what it starts, with DUP 0, and nothing else
 abbrev pub FillSendsWhatStarts : Type 0
 FillSendsWhatStarts =
     (window : ℕ) → (flights : List Flight) → (waiting : List Publication) →
@@ -77,7 +78,7 @@ FillSendsWhatStarts =
     ≡ map (λ flight. first_sent flight.0 flight.1)
     (drop (length flights) (fill window flights waiting).in_flight)
 
--- two fills, with more that waits before the second, are one, and send the same
+-- two fills, with more waiting publications before the second, are one fill, and send the same
 abbrev pub FillsJoin : Type 0
 FillsJoin =
     (window : ℕ) → (flights : List Flight) → (waiting more : List Publication) →
@@ -87,11 +88,11 @@ FillsJoin =
     ++ fill_sends window first.in_flight (first.waiting ++ more)
     ≡ fill_sends window flights (waiting ++ more))
 
--- a filled queue: nothing waits in it, or its window is full
+-- a filled queue: no publication waits, or the window is full
 abbrev pub IsFilledQueue : ℕ → List Flight → List Publication → Type 0
 IsFilledQueue window flights waiting = (waiting ≡ []) ⊎ (window ≤ length flights)
 
--- copies that come one by one leave of a filled queue what one fill after all of them leaves
+-- copies that are added one by one to a filled queue leave what one fill after all of them leaves
 abbrev pub CopiesAreOneFill : Type 0
 CopiesAreOneFill =
     (window : ℕ) → (flights : List Flight) → (waiting copies : List Publication) →

@@ -2,13 +2,15 @@
 
 use crate::publication::Publication;
 
-/// What the client has still to answer for an entry that was sent (MQTT 4.3.2, 4.3.3).
+/// The acknowledgement that a sent entry waits for (MQTT 4.3.2, 4.3.3). In terms of the states of a
+/// publication: an entry in the queue's `waiting` list is Queued, `Puback` and `Pubrec` are Sent,
+/// `Pubcomp` is Released, and a Done entry is no longer in the queue.
 #[derive(Clone, Debug, PartialEq, Eq, Drop)]
 pub enum Awaits {
     /// PUBACK, for a publication at QoS 1.
     Puback(Publication),
     /// PUBREC, for a publication at QoS 2.
     Pubrec(Publication),
-    /// PUBCOMP, for a publication at QoS 2 that was released: only its identifier is kept.
+    /// PUBCOMP, for a publication at QoS 2 that is released: only its identifier is kept.
     Pubcomp,
 }

@@ -1,5 +1,5 @@
-// Reads the parts of a frozen session from the front of the bytes that are left. Bytes that are not
-// of the form stop the reading; the reader is not to be used after an error.
+// Reads the parts of a frozen session from the front of a reader. Bytes that are not of the form
+// stop the reading with `Shape`; the reader must not be used after an error.
 
 ghost use Rattle.std.specs.Prelude.{◌≡◌, Ok};
 ghost use Rattle.packet.specs.Spelling.{max_body};
@@ -15,7 +15,7 @@ use packet_base::{OUT_OF_MEMORY, PacketId, Payload, QoS, Reader, Stop};
 use std::alloc::Global;
 use topics::{Filter, MalformedKind};
 
-/// Checks a form: the error, `Shape`, comes if the test does not hold.
+/// Returns `Shape` unless the test holds.
 pub fn check_form(test: bool) -> Result<(), Stop>
     ensures { Gives (λ value. value) result (check_form test) }
 {
@@ -52,7 +52,7 @@ pub fn read_qos(reader: &mut Reader) -> Result<QoS, Stop>
     QoS::of(reader.byte()?)
 }
 
-/// Reads a publication whose PUBLISH is within the size limit of a packet.
+/// Reads a publication. Its PUBLISH must be within the size limit of a packet.
 #[tactic(auto, unfolding(crate::specs::Form::publication_at))]
 pub fn read_publication(alloc: Global, reader: &mut Reader) -> Result<Publication, Stop>
     ensures { Reads (λ value. value) result reader.new (publication_at reader.old) }
@@ -72,7 +72,7 @@ pub fn read_publication(alloc: Global, reader: &mut Reader) -> Result<Publicatio
     Ok(publication)
 }
 
-/// Returns a copy of bytes as a payload. The only error is that memory ran out.
+/// Copies the bytes into a payload. The only error is that memory ran out.
 pub fn payload_of(alloc: Global, bytes: &[u8]) -> Result<Payload, Stop>
     ensures { Gives (λ value. value) result (Ok bytes.now) }
 {
@@ -82,7 +82,7 @@ pub fn payload_of(alloc: Global, bytes: &[u8]) -> Result<Payload, Stop>
     }
 }
 
-/// Returns how many bytes the body of a PUBLISH has that carries the publication.
+/// Returns the length in bytes of the body of the PUBLISH that carries the publication.
 pub fn body_length(publication: &Publication) -> usize
     ensures { result ≡ body_length publication.now }
 {
@@ -104,7 +104,7 @@ pub fn read_granted_subscription(alloc: Global, reader: &mut Reader) -> Result<(
     Ok((filter, qos))
 }
 
-/// Reads a publication that waits: at QoS 1 or 2.
+/// Reads a waiting publication, which has QoS 1 or 2.
 #[tactic(auto, unfolding(crate::specs::Form::waiting_at))]
 pub fn read_waiting(alloc: Global, reader: &mut Reader) -> Result<Publication, Stop>
     ensures { Reads (λ value. value) result reader.new (waiting_at reader.old) }
@@ -124,7 +124,7 @@ pub fn read_flight(alloc: Global, reader: &mut Reader) -> Result<(PacketId, Awai
     Ok((id, awaits))
 }
 
-// Reads for which answer an entry in flight waits, with what it keeps until then.
+// Reads which acknowledgement an entry waits for, and its publication if it still has one.
 #[tactic(auto, unfolding(crate::specs::Form::awaits_at))]
 fn read_awaits(alloc: Global, reader: &mut Reader) -> Result<Awaits, Stop>
     ensures { Reads (λ value. value) result reader.new (awaits_at reader.old) }
@@ -137,7 +137,7 @@ fn read_awaits(alloc: Global, reader: &mut Reader) -> Result<Awaits, Stop>
     read_sent(alloc, state == 0, reader)
 }
 
-// Reads a publication that waits for PUBACK at QoS 1, or for PUBREC at QoS 2.
+// Reads the publication of a sent entry: QoS 1 if it waits for PUBACK, QoS 2 if for PUBREC.
 #[tactic(auto, unfolding(crate::specs::Form::sent_at))]
 fn read_sent(alloc: Global, acknowledged: bool, reader: &mut Reader) -> Result<Awaits, Stop>
     ensures { Reads (λ value. value) result reader.new (sent_at acknowledged reader.old) }

@@ -10,8 +10,8 @@ use packet_base::{PacketId, QoS};
 use std::alloc::AllocError;
 use topics::Filter;
 
-/// Appends a number of two bytes, the high one first. If memory runs out a part may be there, as
-/// with each of these.
+/// Appends a number of two bytes, the high one first. If memory runs out, this and the other
+/// functions here may have appended a part.
 pub fn write_number(value: u16, bytes: &mut Vec<u8>) -> Result<(), AllocError>
     ensures { OnOk result (bytes.new.items ≡ bytes.old.items ++ number value) }
 {

@@ -1,5 +1,5 @@
-//! One client's session as lists and as bytes: publications, what an entry in flight waits for, and
-//! laws of the queue; and the reading and writing of the parts of a frozen session, with its laws.
+//! One client's session as lists and as bytes: publications, what an entry in flight waits for, the
+//! parts of a frozen session, and theorems about the queue and the form.
 #![tactic(auto)]
 
 mod awaits;

@@ -1,6 +1,6 @@
-// How much a session holds.
+// The limits of a session, this broker's own.
 
-/// The most entries that a session holds, including those in flight.
+/// The most entries of a session, in flight and waiting together.
 pub const MAX_ENTRIES: usize = 4096;
 
 /// The most subscriptions of a session.

@@ -1,4 +1,4 @@
-// A publication: what a PUBLISH carries, without how it is delivered (MQTT 3.3).
+// A publication: a PUBLISH without how it is delivered (MQTT 3.3).
 
 ghost use Rattle.std.specs.Prelude.{◌≡◌};
 ghost use Rattle.session_base.specs.Publication.{delivery_with};
@@ -10,17 +10,17 @@ use topics::TopicName;
 /// A publication, MQTT's Application Message, as a session's queue holds it.
 #[derive(Clone, Debug, PartialEq, Eq, Drop)]
 pub struct Publication {
-    /// RETAIN: whether it is to be kept, or was kept, for later subscribers (MQTT 3.3.1.3).
+    /// RETAIN: store this for later subscribers, or this had been stored (MQTT 3.3.1.3).
     pub retain: bool,
     /// The QoS at which it is delivered.
     pub qos: QoS,
-    /// What it is about.
+    /// The Topic Name.
     pub topic: TopicName,
-    /// What it carries.
+    /// The payload.
     pub payload: Payload,
 }
 
-/// Returns how a PUBLISH at this QoS is delivered.
+/// Returns the delivery of a PUBLISH at this QoS; at QoS 0 `dup` and `id` are not used.
 pub fn delivery(qos: QoS, dup: bool, id: PacketId) -> Delivery
     ensures { result ≡ delivery_with qos dup id }
 {

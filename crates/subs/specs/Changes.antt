@@ -1,4 +1,4 @@
--- The four changes of nodes: a client's row, a child, a new node, a node that is removed.
+-- The changes of the slab of nodes: a row, a child, a new node, a freed node.
 use Rattle.std.specs.Prelude.{◌≡◌, ℕ, Bool, true, false, not, ◌&&◌, ◌||◌, ◌==◌, List, bytes_eq}
 use Rattle.std.specs.Prelude.{Option, None, if◌then◌else◌}
 use Rattle.packet_base.specs.declared.qos.QoS.{QoS}
@@ -9,7 +9,7 @@ abbrev pub same_side : Bool → Bool → Bool
 same_side true side = side
 same_side false side = not side
 
--- a node's rows: on each of its two sides, by client
+-- a node's rows by client, in `here` (false) or `rest` (true)
 abbrev pub NodeRows : Type 0
 NodeRows = Bool → List ℕ → Option QoS
 
@@ -17,20 +17,20 @@ NodeRows = Bool → List ℕ → Option QoS
 abbrev pub NodeChildren : Type 0
 NodeChildren = List ℕ → Option ℕ
 
--- the client's row on that side is this one
+-- the client's row on that side becomes this one, and no other changes
 abbrev pub SetsRow : NodeRows → NodeRows → Bool → List ℕ → Option QoS → Type 0
 SetsRow old new rest client kept =
     (side : Bool) (other : List ℕ)
     → new side other
     ≡ (if same_side rest side && bytes_eq client other then kept else old side other)
 
--- the rows on that side are these
+-- the rows on that side become these, and no others change
 abbrev pub SetsSide : NodeRows → NodeRows → Bool → (List ℕ → Option QoS) → Type 0
 SetsSide old new rest kept =
     (side : Bool) (client : List ℕ)
     → new side client ≡ (if same_side rest side then kept client else old side client)
 
--- the child after the level is this one
+-- the child after the level becomes this one, and no other changes
 abbrev pub SetsChild : NodeChildren → NodeChildren → List ℕ → Option ℕ → Type 0
 SetsChild old new level below =
     (other : List ℕ) → new other ≡ (if bytes_eq level other then below else old other)
@@ -71,12 +71,12 @@ pub record AddsNode (old new : Shape) (at : ℕ) : Type 0 where
   pub free : old.used at ≡ false
   pub used : (node : ℕ) → new.used node ≡ ((node == at) || old.used node)
 
--- the node holds nothing
+-- the node has no row and no child
 pub record IsBare (shape : Shape) (at : ℕ) : Type 0 where
   pub child : (level : List ℕ) → shape.child at level ≡ None
   pub asked : (side : Bool) (client : List ℕ) → shape.asked at side client ≡ None
 
--- the number of an empty node is free
+-- the number of an empty node becomes free
 pub record FreesNode (old new : Shape) (at : ℕ) : Type 0 where
   pub child : new.child ≡ old.child
   pub asked : new.asked ≡ old.asked

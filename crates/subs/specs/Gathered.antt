@@ -1,4 +1,4 @@
--- The rows of each filter, gathered before the nodes are made.
+-- The rows of each filter, gathered before the nodes are created.
 use Rattle.std.specs.Prelude.{ℕ, List, [], ◌∷◌, bytes_eq, Option, None, option_and_then}
 use Rattle.std.specs.Prelude.{if◌then◌else◌, map}
 use Rattle.std.specs.Map.{lookup}
@@ -21,12 +21,12 @@ rows_of_group (kinds.More rows) = rows.items
 abbrev pub groups_as_lists : List (List ℕ × Group) → Groups
 groups_as_lists entries = map (λ entry. (entry.0, rows_of_group entry.1)) entries
 
--- the QoS at each client and filter
+-- the content of the gathered rows
 abbrev pub gathered : Groups → Content
 gathered groups client filter =
     option_and_then (λ rows. last_qos_in rows client) (lookup (bytes_eq filter) groups)
 
--- these rows are put in, filter by filter
+-- these rows are added to a content, filter by filter
 abbrev pub all_rows_put : Groups → Content → Content
 all_rows_put [] content = content
 all_rows_put (group ∷ groups) content =

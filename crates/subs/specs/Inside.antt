@@ -1,4 +1,4 @@
--- What a node and the vector of nodes show.
+-- What a node and the slab of nodes show.
 use Rattle.std.specs.Prelude.{◌≡◌, ℕ, Bool, true, false, is_some, List, bytes_eq, codes, ◌&&◌}
 use Rattle.std.specs.Prelude.{Option, None, option_map, option_and_then, if◌then◌else◌, [], ◌∷◌}
 use Rattle.std.specs.BTreeMap.{get_by}
@@ -13,7 +13,7 @@ use Rattle.subs.specs.declared.node.Node.{Node}
 use Rattle.subs.specs.Rows.{qos_of_client}
 use Rattle.subs.specs.Shape.{Shape}
 
--- the clients of a node
+-- the rows of a node, in `here` or `rest`
 abbrev pub clients_at : Node → Bool → List ℕ → Option QoS
 clients_at node true client = qos_of_client node.rest client
 clients_at node false client = qos_of_client node.here client
@@ -25,7 +25,7 @@ child_in node level =
     (if bytes_eq level (codes "+") then node.plus
     else get_by (λ key. slice_cmp nat_cmp level key.items) node.named)
 
--- the nodes of the vector
+-- the nodes of the slab
 abbrev pub shape_of : slab.Slab Node → Shape
 shape_of nodes =
     record {
@@ -36,11 +36,11 @@ shape_of nodes =
       used = λ at. is_some (slab.get nodes at);
     }
 
--- at the levels of a filter and a client the QoS of that subscription
+-- for the levels of a filter and a client the QoS of that subscription
 abbrev pub Asked : Type 0
 Asked = Levels → List ℕ → Option QoS
 
--- no client asks for any filter
+-- no subscription at all
 abbrev pub no_filter_asked : Asked
 no_filter_asked filter client = None
 
@@ -51,13 +51,13 @@ same_levels [] (level ∷ rest) = false
 same_levels (part ∷ parts) [] = false
 same_levels (part ∷ parts) (level ∷ rest) = bytes_eq part level && same_levels parts rest
 
--- this is what the client asks for at the filter of these levels
+-- one subscription is set or removed
 abbrev pub asked_with : Asked → Levels → List ℕ → Option QoS → Asked
 asked_with before filter client kept other_filter other_client =
     if same_levels filter other_filter && bytes_eq client other_client then kept
     else before other_filter other_client
 
--- these are the clients of the filter of these levels
+-- the rows of one filter are replaced
 abbrev pub with_rows : Asked → Levels → (List ℕ → Option QoS) → Asked
 with_rows before filter kept other_filter client =
     if same_levels filter other_filter then kept client else before other_filter client

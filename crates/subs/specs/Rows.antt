@@ -1,4 +1,4 @@
--- The clients of one filter, however many there are.
+-- The rows of one filter, in each of the forms of `Rows`.
 use Rattle.std.specs.Prelude.{◌≡◌, ℕ, List, [], ◌∷◌, bytes_eq, Option, if◌then◌else◌}
 use Rattle.std.specs.BTreeMap.{is_at}
 use Rattle.std.specs.Map.{lookup}
@@ -18,7 +18,7 @@ rows_as_list (kinds.Many rows) = rows.entries
 abbrev pub qos_of_client : Rows → List ℕ → Option QoS
 qos_of_client rows client = lookup (is_at (slice_cmp nat_cmp client)) (rows_as_list rows)
 
--- the client's row is this one
+-- the client's row becomes this one, and no other changes
 abbrev pub SetsAt : Rows → Rows → List ℕ → Option QoS → Type 0
 SetsAt old new client kept =
     (other : List ℕ)

@@ -1,4 +1,4 @@
--- What nodes named by numbers hold, level by level (MQTT 4.7.1).
+-- Numbered nodes and the filters that they stand for, level by level (MQTT 4.7.1).
 use Rattle.std.specs.Prelude.{ℕ, Bool, true, false, List, [], ◌∷◌, Option}
 use Rattle.std.specs.Prelude.{option_and_then, if◌then◌else◌}
 use Rattle.topics.specs.Text.{Levels, levels}
@@ -6,11 +6,12 @@ use Rattle.topics.specs.Matching.{is_all}
 use Rattle.packet_base.specs.declared.qos.QoS.{QoS}
 use Rattle.subs_base.specs.Content.{Content}
 
--- the number of the node after each level of each node
+-- for each node and level the number of its child
 abbrev pub Children : Type 0
 Children = ℕ → List ℕ → Option ℕ
 
--- at a node the clients of the filter that ends there, and (at true) of the one with `#` after it
+-- for each node and client the QoS in `here` (false) or in `rest` (true), the rows of the filter
+-- with `#` after it
 abbrev pub AskedAt : Type 0
 AskedAt = ℕ → Bool → List ℕ → Option QoS
 
@@ -20,17 +21,17 @@ pub record Shape : Type 0 where
   pub asked : AskedAt
   pub used : ℕ → Bool
 
--- the QoS at which the client asked for the filter of these levels, below a node
+-- the QoS of the client's subscription whose levels below this node are these
 abbrev pub asked_below : Shape → ℕ → Levels → List ℕ → Option QoS
 asked_below shape at [] client = shape.asked at false client
 asked_below shape at (level ∷ rest) client =
     if is_all level rest then shape.asked at true client
     else option_and_then (λ below. asked_below shape below rest client) (shape.child at level)
 
--- the QoS at which the client asked for the filter of these levels, below the root, if there is one
+-- the QoS of the client's subscription whose levels from the root are these
 abbrev pub rows : Shape → Option ℕ → Levels → List ℕ → Option QoS
 rows shape root filter client = option_and_then (λ at. asked_below shape at filter client) root
 
--- at each client and filter what is at the filter's levels
+-- the content of the tree: for each client and filter the QoS at the filter's levels
 abbrev pub shape_content : Shape → Option ℕ → Content
 shape_content shape root client filter = rows shape root (levels filter) client

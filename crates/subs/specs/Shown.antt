@@ -1,4 +1,4 @@
--- What the vector of nodes shows from its root.
+-- What the slab of nodes shows from its root.
 use Rattle.std.specs.Prelude.{◌≡◌, ℕ, List, Option, Some, option_map}
 use Rattle.topics.specs.Text.{Levels, levels}
 use Rattle.packet_base.specs.declared.qos.QoS.{QoS}
@@ -8,11 +8,11 @@ use Rattle.subs.specs.Shape.{Shape, rows}
 use Rattle.subs.specs.Ways.{led, IsTree}
 use Rattle.subs.specs.Inside.{shape_of}
 
--- which children nodes have, which rows they hold, and which numbers are used
+-- the children and rows of each node, and which numbers are in use
 abbrev pub shape : Nodes → Shape
 shape nodes = shape_of nodes.slab
 
--- the number of the root, if there are nodes
+-- the number of the root, if there is one
 abbrev pub root_of : Nodes → Option ℕ
 root_of nodes = option_map (λ id. id.number) nodes.root
 
@@ -20,7 +20,7 @@ root_of nodes = option_map (λ id. id.number) nodes.root
 abbrev pub rows_at_levels : Nodes → Levels → List ℕ → Option QoS
 rows_at_levels nodes = rows (shape nodes) (root_of nodes)
 
--- the nodes are a tree: what a node number may be
+-- the nodes form a tree
 abbrev pub IsSoundTree : Nodes → Type 0
 IsSoundTree nodes = IsTree (shape nodes).child (shape nodes).used (root_of nodes)
 
@@ -32,6 +32,6 @@ LeadsTo nodes path at = led (shape nodes).child (root_of nodes) path ≡ Some at
 abbrev pub IsThere : Nodes → ℕ → Type 0
 IsThere nodes at = (path : Levels) × LeadsTo nodes path at
 
--- at each client and filter what is at the levels of its text
+-- the content of the tree: for each client and filter the QoS at the levels of its text
 abbrev pub content_of_nodes : Nodes → Content
 content_of_nodes nodes client filter = rows_at_levels nodes (levels filter) client

@@ -1,4 +1,4 @@
-// The rows of one filter while a list is gathered.
+// The rows of one filter while the tree of a list is built.
 
 ghost use Rattle.std.specs.Prelude.{◌≡◌, ◌++◌, ◌∷◌, [], OnOk, IfOk};
 ghost use Rattle.subs_base.specs.Content.{last_qos_in};
@@ -11,7 +11,8 @@ use packet_base::{ClientId, QoS};
 use std::alloc::Global;
 use std::collections::BTreeMap;
 
-/// The rows of one filter in the order in which they came. A single one takes no memory of its own.
+/// The rows of one filter in the order in which they were added. A single row takes no memory of
+/// its own.
 #[derive(Drop)]
 pub(crate) enum Group {
     One(ClientId, QoS),
@@ -19,7 +20,7 @@ pub(crate) enum Group {
 }
 
 impl Group {
-    /// Adds a row after the others.
+    /// Appends a row.
     pub(crate) fn add(&mut self, alloc: Global, row: (ClientId, QoS)) -> Result<(), Memory>
         ensures { OnOk result (rows_of_group self.new ≡ rows_of_group self.old ++ row ∷ []) }
     {
@@ -33,7 +34,7 @@ impl Group {
         Ok(())
     }
 
-    /// Returns the same rows by their clients; of each client the last row counts.
+    /// Returns the rows by client; of several rows of a client the last one counts.
     pub(crate) fn into_rows(self, alloc: Global) -> Result<Rows, Memory>
         ensures { IfOk result (λ rows. qos_of_client rows ≡ last_qos_in (rows_of_group self)) }
     {

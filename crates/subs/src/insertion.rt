@@ -1,4 +1,4 @@
-// The nodes along the levels of a filter are made where they are missing.
+// Inserting a filter: missing nodes along its levels are created.
 
 ghost use Rattle.std.specs.Prelude.{◌≡◌, ◌++◌, [], ◌∷◌, List, ℕ, OnErr, IfOk, None};
 ghost use Rattle.topics.specs.Text.{Levels, levels_of};
@@ -12,8 +12,8 @@ use machine::Memory;
 use topics::split_level;
 
 impl Nodes {
-    /// Returns the slot of the filter that continues with this text after a node. Nodes that are
-    /// missing are made; if memory runs out some of them may stay.
+    /// Returns the slot of the filter whose levels after node `at` are those of `text`, and creates
+    /// missing nodes. If memory runs out some new nodes may stay.
     pub(crate) fn make_slot(&mut self, at: NodeId, text: Option<&[u8]>) -> Result<Slot, Memory>
         requires sound { IsSoundTree self.old }
         requires there { IsThere self.old at.number }
@@ -44,7 +44,7 @@ impl Nodes {
         self.make_slot(child, after)
     }
 
-    // Returns the node after a level, which is made if there is none.
+    // Returns the child of a node at a level, and creates it if it is missing.
     fn child_or_new(&mut self, at: NodeId, level: &[u8]) -> Result<NodeId, Memory>
         requires sound { IsSoundTree self.old }
         requires there { IsThere self.old at.number }
@@ -61,7 +61,7 @@ impl Nodes {
         }
     }
 
-    // Makes the node after a level.
+    // Creates the child of a node at a level.
     fn add_child(&mut self, at: NodeId, level: &[u8]) -> Result<NodeId, Memory>
         requires sound { IsSoundTree self.old }
         requires there { IsThere self.old at.number }

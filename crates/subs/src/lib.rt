@@ -1,4 +1,4 @@
-//! The index of all clients' subscriptions.
+//! The index of all clients' subscriptions, as a tree of the levels of their filters.
 #![tactic(auto)]
 
 mod group;

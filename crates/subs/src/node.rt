@@ -1,5 +1,4 @@
-// A node: the clients of the filters that end at it, and the numbers of the nodes of the next
-// levels.
+// A node of the tree: the rows of the filters that end at it, and its children.
 
 ghost use Rattle.std.specs.Prelude.{◌≡◌, OnOk, OnErr, ◌↔◌, IsTrue, IsSome, is_some, true, false};
 ghost use Rattle.std.specs.Prelude.{Some, None, option_map};
@@ -14,22 +13,21 @@ use packet_base::{ClientId, QoS};
 use std::alloc::Global;
 use std::collections::BTreeMap;
 
-/// The subscriptions of the filters that end with the same levels, and the nodes of the next
-/// levels.
+/// A node of the tree. The path to it from the root is a list of levels.
 #[derive(Debug, Drop)]
 pub(crate) struct Node {
-    /// The clients of the filter that ends here.
+    /// The rows of the filter that ends here.
     pub(crate) here: Rows,
-    /// Those of the filter with `#` after it.
+    /// The rows of the filter that continues with `#` and ends.
     pub(crate) rest: Rows,
-    // The nodes of the next levels, except `+`.
+    // The children by their levels, except `+`.
     named: BTreeMap<Vec<u8>, NodeId>,
-    /// The node of `+`.
+    /// The child of `+`.
     pub(crate) plus: Option<NodeId>,
 }
 
 impl Node {
-    /// Returns a node that holds nothing.
+    /// Returns a node without rows and children.
     pub(crate) fn new(alloc: Global) -> Node
         ensures { HoldsNothing result }
     {
@@ -41,7 +39,7 @@ impl Node {
         }
     }
 
-    /// Returns the node after the level.
+    /// Returns the child at a level.
     pub(crate) fn child(&self, level: &[u8]) -> Option<NodeId>
         ensures { option_map (λ id. id.number) result ≡ child_in self.now level.now }
     {
@@ -51,7 +49,7 @@ impl Node {
         self.named.get(level).copied()
     }
 
-    /// Puts a node after a level.
+    /// Sets the child at a level.
     pub(crate) fn set_child(
         &mut self,
         alloc: Global,
@@ -71,7 +69,7 @@ impl Node {
         Ok(())
     }
 
-    /// Removes the node after a level.
+    /// Removes the child at a level.
     pub(crate) fn drop_child(&mut self, level: &[u8])
         ensures child { SetsChild (child_in self.old) (child_in self.new) level.now None }
         ensures rows { clients_at self.new ≡ clients_at self.old }
@@ -83,7 +81,7 @@ impl Node {
         self.named.remove(level);
     }
 
-    /// Sets the client's row, at `#` beside the node or at its own filter.
+    /// Sets the client's row in `rest` or in `here`.
     pub(crate) fn set(
         &mut self,
         alloc: Global,
@@ -103,7 +101,7 @@ impl Node {
         self.here.set(alloc, client, qos)
     }
 
-    /// Puts these rows in place of those at `#` beside the node, or at its own filter.
+    /// Replaces all rows of `rest` or of `here`.
     pub(crate) fn put(&mut self, rest: bool, rows: Rows)
         ensures rows { SetsSide (clients_at self.old) (clients_at self.new) rest
             (qos_of_client rows) }
@@ -116,7 +114,7 @@ impl Node {
         self.here = rows;
     }
 
-    /// Takes the client's row out, and says whether there was one.
+    /// Removes the client's row and returns whether there was one.
     pub(crate) fn clear(&mut self, rest: bool, client: &ClientId) -> bool
         ensures found { result ≡ is_some (clients_at self.old rest client.now) }
         ensures after { SetsRow (clients_at self.old) (clients_at self.new) rest client.now None }
@@ -128,7 +126,7 @@ impl Node {
         self.here.clear(client)
     }
 
-    /// Returns true if the node has neither clients nor children.
+    /// Returns true if the node has neither rows nor children.
     pub(crate) fn is_empty(&self) -> bool
         ensures { IsTrue result → HoldsNothing self.now }
     {

@@ -1,4 +1,5 @@
-// The nodes, named by their numbers: one for each list of levels that some filter begins with.
+// The nodes of the tree, by number. There is one for each list of levels that some filter begins
+// with.
 
 ghost use Rattle.std.specs.Prelude.{◌≡◌, OnOk, OnErr, IfOk, IfSome, ◌↔◌, IsTrue, IsSome, Some};
 ghost use Rattle.std.specs.Prelude.{None, option_map};
@@ -19,19 +20,18 @@ use slab::Slab;
 use std::alloc::Global;
 use topics::split_level;
 
-/// Nodes in a vector. The numbers of removed nodes are used again.
+/// The nodes in a slab. The numbers of removed nodes are used again.
 #[derive(Debug, Drop)]
 pub(crate) struct Nodes {
-    /// Each node at its number.
     pub(crate) slab: Slab<Node>,
-    /// The node at which the levels of all filters begin. At first there is none.
+    /// The node of the empty list of levels. `None` until the first filter is set.
     pub(crate) root: Option<NodeId>,
-    /// The allocator of what a node holds.
+    /// For the maps in the nodes.
     pub(crate) alloc: Global,
 }
 
 impl Nodes {
-    /// Returns a vector without nodes.
+    /// Returns an empty tree.
     pub(crate) fn new(alloc: Global) -> Nodes
         ensures rows { rows_at_levels result ≡ no_filter_asked }
         ensures sound { IsSoundTree result }
@@ -43,8 +43,8 @@ impl Nodes {
         }
     }
 
-    /// Sets the client's subscription of the filter with this text. If memory runs out it leaves
-    /// the rows as they were, and removes the nodes that it made.
+    /// Sets the client's subscription to the filter with this text. If memory runs out the rows are
+    /// unchanged, and the nodes that were created are removed.
     pub(crate) fn set(&mut self, text: &[u8], client: &ClientId, qos: QoS) -> Result<(), Memory>
         requires { IsSoundTree self.old }
         ensures ok { OnOk result
@@ -63,8 +63,8 @@ impl Nodes {
         set
     }
 
-    /// Puts these rows in place of those of the filter with this text. If memory runs out some
-    /// nodes that hold nothing may stay.
+    /// Replaces the rows of the filter with this text. If memory runs out some empty nodes may
+    /// stay.
     pub(crate) fn put(&mut self, text: &[u8], rows: Rows) -> Result<(), Memory>
         requires { IsSoundTree self.old }
         ensures ok { OnOk result
@@ -78,8 +78,8 @@ impl Nodes {
         Ok(())
     }
 
-    /// Removes the client's subscription of the filter with this text, and says whether there was
-    /// one. Nodes that then hold nothing are removed.
+    /// Removes the client's subscription to the filter with this text, and returns whether there
+    /// was one. Nodes that are then empty are removed.
     pub(crate) fn clear(&mut self, text: &[u8], client: &ClientId) -> bool
         requires { IsSoundTree self.old }
         ensures found { IsTrue result ↔ IsSome
@@ -99,7 +99,7 @@ impl Nodes {
         found
     }
 
-    // Returns the root, which is made if there is none.
+    // Returns the root, and creates it if there is none.
     fn make_root(&mut self) -> Result<NodeId, Memory>
         requires { IsSoundTree self.old }
         ensures sound { IsSoundTree self.new }
@@ -115,7 +115,7 @@ impl Nodes {
         Ok(root)
     }
 
-    // Makes the nodes of the filter, and sets the client's row there.
+    // Creates the nodes of the filter below the root, and sets the client's row there.
     fn set_below(
         &mut self,
         root: NodeId,
@@ -138,8 +138,8 @@ impl Nodes {
         set_at(&mut self.slab, self.alloc, slot, client, qos)
     }
 
-    // Returns the slot of the filter that continues with this text after a node, if its nodes are
-    // there.
+    // Returns the slot of the filter whose levels after node `at` are those of `text`, if its nodes
+    // exist.
     fn find_slot(&self, at: NodeId, text: Option<&[u8]>) -> Option<Slot>
         ensures node { option_map (λ found. found.node.number) result
             ≡ reach (shape self.now).child at.number (slot (levels_of text.entry)).0 }
@@ -165,7 +165,7 @@ impl Nodes {
     }
 }
 
-/// Returns true if the level matches every rest: `#` with nothing after it (MQTT 4.7.1.2).
+/// Returns true if the level is `#` and the last one: it matches all that is left (MQTT 4.7.1.2).
 #[tactic(auto, using(topics::proofs::LevelByLevel::is_last_levels))]
 pub(crate) fn is_all(level: &[u8], after: Option<&[u8]>) -> bool
     ensures { result ≡ is_all level.now (levels_of after.entry) }

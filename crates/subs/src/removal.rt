@@ -1,4 +1,4 @@
-// Nodes that no longer hold anything are removed.
+// Removing nodes that became empty.
 
 ghost use Rattle.std.specs.Prelude.{◌≡◌, ◌++◌, ℕ};
 ghost use Rattle.topics.specs.Text.{Levels};
@@ -10,8 +10,7 @@ use crate::slots::{child, free_node, is_empty, unlink};
 use topics::split_level;
 
 impl Nodes {
-    /// Removes the nodes that hold nothing, of those along these levels after a node, the last
-    /// first.
+    /// Removes the empty nodes along these levels below node `at`, from the last to the first.
     pub(crate) fn prune(&mut self, at: NodeId, text: Option<&[u8]>)
         requires sound { IsSoundTree self.old }
         requires there { IsThere self.old at.number }
@@ -19,7 +18,7 @@ impl Nodes {
         ensures sound { IsSoundTree self.new }
         ensures root { self.new.root ≡ self.old.root }
 
-        // The nodes on the way to this one stay.
+        // The path to this node stays.
         ensures ways { (path after : Levels) (number : ℕ)
             → LeadsTo self.old (path ++ after) at.number
             → LeadsTo self.old path number → LeadsTo self.new path number }
@@ -35,7 +34,7 @@ impl Nodes {
         self.drop_empty(at, level);
     }
 
-    // Removes the node after a level if it holds nothing.
+    // Removes the child of a node at a level if it is empty.
     fn drop_empty(&mut self, at: NodeId, level: &[u8])
         requires sound { IsSoundTree self.old }
         requires there { IsThere self.old at.number }

@@ -1,5 +1,6 @@
-// The nodes of a whole list: its rows are gathered by filter, and then each filter's rows are put
-// at its node at once.
+// Building the tree of a whole list: the rows are gathered by filter, and then all rows of a filter
+// are put at its node at once. So the nodes of a filter are looked up once, however many clients it
+// has.
 
 ghost use Rattle.std.specs.Prelude.{◌≡◌, IfOk, OnOk};
 ghost use Rattle.std.specs.BTreeMap.{IsOrdered};
@@ -20,10 +21,10 @@ use std::alloc::Global;
 use std::collections::BTreeMap;
 use topics::Filter;
 
-/// Each filter with its clients, in the order in which they came.
+/// Each filter with its rows, in the order in which the filters were first met.
 pub(crate) type Groups = IndexMap<Filter, Group>;
 
-/// Returns the clients of each filter of a list.
+/// Returns the rows of each filter of a list.
 pub(crate) fn gather(
     alloc: Global,
     clients: &BTreeMap<ClientId, BTreeMap<Filter, QoS>>,
@@ -39,7 +40,7 @@ pub(crate) fn gather(
     Ok(groups)
 }
 
-// Puts in a client with its filters.
+// Adds the rows of a client.
 fn gather_filters(
     alloc: Global,
     groups: &mut Groups,
@@ -51,7 +52,7 @@ fn gather_filters(
         ≡ filters_set client.now filters.now.entries
         (gathered (groups_as_lists groups.old.entries))) }
 
-    // This is what going over the map shows of it. `gather` needs it.
+    // Going over the map shows that it is ordered, which `gather` needs.
     ensures ordered { IsOrdered (slice_cmp nat_cmp) filters.now }
 {
     for (filter, qos) in filters {
@@ -60,7 +61,7 @@ fn gather_filters(
     Ok(())
 }
 
-// Puts in a client at a filter.
+// Adds one row to a filter.
 fn add_row(
     alloc: Global,
     groups: &mut Groups,
@@ -78,7 +79,7 @@ fn add_row(
     Ok(())
 }
 
-/// Returns the nodes of these filters.
+/// Returns the tree of these filters.
 pub(crate) fn nodes_of(alloc: Global, groups: Groups) -> Result<Nodes, Memory>
     ensures content { IfOk result
         (λ nodes. content_of_nodes nodes ≡ gathered (groups_as_lists groups.entries)) }

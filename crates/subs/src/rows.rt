@@ -1,4 +1,4 @@
-// The clients of one filter.
+// The rows of one filter: its clients.
 
 ghost use Rattle.std.specs.Prelude.{◌≡◌, [], OnOk, OnErr, IfOk, IsTrue, is_some, Some, None};
 ghost use Rattle.std.specs.Cmp.Lexicographic.{slice_cmp};
@@ -12,8 +12,8 @@ use packet_base::{ClientId, QoS};
 use std::alloc::Global;
 use std::collections::BTreeMap;
 
-/// The clients of one filter, with the QoS of their subscriptions. A single client takes no memory
-/// of its own: most filters have one.
+/// The clients of one filter, with the QoS of their subscriptions. A single client is stored in the
+/// node itself: most filters have one, and a map of one row takes several hundred bytes.
 #[derive(Debug, Drop)]
 pub(crate) enum Rows {
     Empty,
@@ -22,7 +22,7 @@ pub(crate) enum Rows {
 }
 
 impl Rows {
-    /// Sets the client's row. If memory runs out all rows stay as they were.
+    /// Sets the client's row. If memory runs out nothing has changed.
     pub(crate) fn set(&mut self, alloc: Global, client: &ClientId, qos: QoS) -> Result<(), Memory>
         ensures ok { OnOk result (SetsAt self.old self.new client.now (Some qos)) }
         ensures err { OnErr result (qos_of_client self.new ≡ qos_of_client self.old) }
@@ -45,7 +45,7 @@ impl Rows {
         }
     }
 
-    /// Takes the client's row out, and says whether there was one. It takes no memory.
+    /// Removes the client's row and returns whether there was one. Takes no memory.
     pub(crate) fn clear(&mut self, client: &ClientId) -> bool
         ensures found { result ≡ is_some (qos_of_client self.old client.now) }
         ensures after { SetsAt self.old self.new client.now None }
@@ -75,7 +75,7 @@ impl Rows {
     }
 }
 
-// Returns the rows of two clients.
+// Returns the rows of two clients, as a map.
 fn both(
     alloc: Global,
     owner: &ClientId,
@@ -91,7 +91,6 @@ fn both(
     Ok(Rows::Many(rows))
 }
 
-// Sets the client's row in a map.
 fn set_client(
     clients: &mut BTreeMap<ClientId, QoS>,
     client: &ClientId,
@@ -110,7 +109,6 @@ fn set_client(
     Ok(())
 }
 
-// Takes the client's row out of a map, and says whether there was one.
 fn clear_client(clients: &mut BTreeMap<ClientId, QoS>, client: &ClientId) -> bool
     ensures found { result ≡ is_some (get (slice_cmp nat_cmp) clients.old client.now) }
     ensures after { Updates (slice_cmp nat_cmp) clients.old clients.new client.now None }

@@ -1,4 +1,4 @@
-// A walk along the levels of a topic.
+// Finding the clients of a topic by a walk along its levels.
 
 ghost use Rattle.std.specs.Prelude.{◌≡◌, OnOk, OnErr, option_and_then, option_map};
 ghost use Rattle.std.specs.BTreeMap.{Updates, get};
@@ -20,12 +20,12 @@ use packet_base::{ClientId, QoS};
 use std::collections::BTreeMap;
 use topics::split_level;
 
-// The clients that were found, with the QoS of each.
+// Each client found so far, with its greatest QoS.
 type Found = BTreeMap<ClientId, QoS>;
 
 impl Nodes {
-    /// Raises each client of a filter that matches the topic to its QoS there. No wildcard at the
-    /// front matches a topic that begins with `$` (MQTT 4.7.2).
+    /// Raises each client with a filter that matches the topic to the QoS of that filter. A
+    /// wildcard in the first level does not match a topic that begins with `$` (MQTT 4.7.2).
     pub(crate) fn find(&self, topic: &[u8], found: &mut Found) -> Result<(), Memory>
         ensures ok { OnOk result
             (Raises found.old found.new (found_for (shape self.now) (root_of self.now) topic.now)) }
@@ -42,7 +42,7 @@ impl Nodes {
         self.find_after(child(&self.slab, root, level), after, found)
     }
 
-    // Raises each client of a filter that continues after a node and matches there to its QoS.
+    // Continues the walk at a node: raises each client with a matching filter below it.
     #[cycle(find_at)]
     fn find_at(&self, at: NodeId, topic: Option<&[u8]>, found: &mut Found) -> Result<(), Memory>
         ensures ok { OnOk result
@@ -63,7 +63,7 @@ impl Nodes {
         self.find_after(node.plus, after, found)
     }
 
-    // Raises each client of a filter that continues after the node of a level, if there is one.
+    // Continues the walk at a child, if there is one.
     #[cycle(find_at)]
     fn find_after(
         &self,
@@ -86,7 +86,7 @@ impl Nodes {
     }
 }
 
-// Raises each of the clients to its QoS there.
+// Raises each of these clients to its QoS.
 fn raise_all(rows: &Rows, found: &mut Found) -> Result<(), Memory>
     ensures ok { OnOk result (Raises found.old found.new (qos_of_client rows.now)) }
     ensures some { OnErr result (GivesSome (qos_of_client rows.now)) }
@@ -98,7 +98,6 @@ fn raise_all(rows: &Rows, found: &mut Found) -> Result<(), Memory>
     }
 }
 
-// Raises each of the clients of a map to its QoS there.
 fn raise_each(clients: &BTreeMap<ClientId, QoS>, found: &mut Found) -> Result<(), Memory>
     ensures ok { OnOk result (Raises found.old found.new (get (slice_cmp nat_cmp) clients.now)) }
     ensures some { OnErr result (GivesSome (get (slice_cmp nat_cmp) clients.now)) }
@@ -109,7 +108,7 @@ fn raise_each(clients: &BTreeMap<ClientId, QoS>, found: &mut Found) -> Result<()
     Ok(())
 }
 
-// Sets the client's QoS to this one, if it is greater than what is there.
+// Inserts the client, or raises it to this QoS if its own is lower.
 fn raise(client: &ClientId, qos: QoS, found: &mut Found) -> Result<(), Memory>
     ensures { OnOk result (Updates (slice_cmp nat_cmp) found.old found.new client.now
         (greatest (get (slice_cmp nat_cmp) found.old client.now) (Some qos))) }

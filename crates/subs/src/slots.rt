@@ -1,4 +1,4 @@
-// The vector of nodes: one is put in or taken out, or a row or a child of one is changed.
+// Single changes of the slab of nodes: adding or freeing a node, setting a row or a child of one.
 
 ghost use Rattle.std.specs.Prelude.{◌≡◌, OnOk, OnErr, IfOk, IsTrue, is_some, true, Some};
 ghost use Rattle.std.specs.Prelude.{None, option_map};
@@ -14,16 +14,16 @@ use packet_base::{ClientId, QoS};
 use slab::Slab;
 use std::alloc::Global;
 
-/// Where the rows of a filter are: at a node, or at `#` beside it.
+/// Where the rows of a filter are stored: in `here` or in `rest` of a node.
 #[derive(Clone, Copy, Debug)]
 pub(crate) struct Slot {
-    /// Where the levels of the filter lead, without a last `#`.
+    /// The node at the end of the filter's levels, a last `#` left out.
     pub(crate) node: NodeId,
-    /// Whether the filter ends with `#`.
+    /// True if the filter ends with `#`.
     pub(crate) rest: bool,
 }
 
-/// Adds a node that holds nothing, and returns its number.
+/// Adds an empty node and returns its number.
 pub(crate) fn add_node(nodes: &mut Slab<Node>, alloc: Global) -> Result<NodeId, Memory>
     ensures adds { IfOk result (λ id.
         AddsNode (shape_of nodes.old) (shape_of nodes.new) id.number) }
@@ -34,7 +34,7 @@ pub(crate) fn add_node(nodes: &mut Slab<Node>, alloc: Global) -> Result<NodeId, 
     Ok(NodeId { number })
 }
 
-/// Frees the number of a node that holds nothing: it is used again.
+/// Frees the number of an empty node, which may then be used again.
 pub(crate) fn free_node(nodes: &mut Slab<Node>, at: NodeId)
     requires { IsBare (shape_of nodes.old) at.number }
     ensures { FreesNode (shape_of nodes.old) (shape_of nodes.new) at.number }
@@ -42,7 +42,7 @@ pub(crate) fn free_node(nodes: &mut Slab<Node>, at: NodeId)
     nodes.try_remove(at.number);
 }
 
-/// Returns the node after a level of a node.
+/// Returns the child of a node at a level.
 pub(crate) fn child(nodes: &Slab<Node>, at: NodeId, level: &[u8]) -> Option<NodeId>
     ensures { option_map (λ id. id.number) result ≡ (shape_of nodes.now).child at.number level.now }
 {
@@ -52,7 +52,7 @@ pub(crate) fn child(nodes: &Slab<Node>, at: NodeId, level: &[u8]) -> Option<Node
     }
 }
 
-/// Returns true if the node holds nothing.
+/// Returns true if the node has neither rows nor children.
 pub(crate) fn is_empty(nodes: &Slab<Node>, at: NodeId) -> bool
     ensures { IsTrue result → IsBare (shape_of nodes.now) at.number }
 {
@@ -62,7 +62,7 @@ pub(crate) fn is_empty(nodes: &Slab<Node>, at: NodeId) -> bool
     }
 }
 
-/// Puts a node after a level of another.
+/// Makes one node the child of another at a level.
 pub(crate) fn link(
     nodes: &mut Slab<Node>,
     alloc: Global,
@@ -81,7 +81,7 @@ pub(crate) fn link(
     }
 }
 
-/// Removes what is after a level of a node.
+/// Removes the link to the child at a level. The child itself stays.
 pub(crate) fn unlink(nodes: &mut Slab<Node>, at: NodeId, level: &[u8])
     requires { (shape_of nodes.old).used at.number ≡ true }
     ensures { Links (shape_of nodes.old) (shape_of nodes.new) at.number level.now None }
@@ -113,7 +113,7 @@ pub(crate) fn set_at(
     }
 }
 
-/// Puts these rows in place of those at a slot.
+/// Replaces all rows at a slot.
 pub(crate) fn put_at(nodes: &mut Slab<Node>, slot: Slot, rows: Rows)
     requires { (shape_of nodes.old).used slot.node.number ≡ true }
     ensures { Fills (shape_of nodes.old) (shape_of nodes.new) slot.node.number slot.rest
@@ -124,7 +124,7 @@ pub(crate) fn put_at(nodes: &mut Slab<Node>, slot: Slot, rows: Rows)
     }
 }
 
-/// Takes the client's row at a slot out, and says whether there was one.
+/// Removes the client's row at a slot and returns whether there was one.
 pub(crate) fn clear_at(nodes: &mut Slab<Node>, slot: Slot, client: &ClientId) -> bool
     requires { (shape_of nodes.old).used slot.node.number ≡ true }
     ensures found { result

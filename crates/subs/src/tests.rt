@@ -9,10 +9,11 @@ use topics::Filter;
 
 const FILTERS: u32 = 100_000;
 
-/// The root, `a`, 331 groups, in each of which is a `+`, and one for each filter.
+/// The root, `a`, 331 groups, each with a `+` below it, and one node for each filter.
 const NODES: usize = 1 + 1 + 331 + 331 + 100_000;
 
-// Returns a filter of four levels, of which some begin alike and some have a `+`.
+// Returns the filter with this number: four levels, of which some have a common prefix and some a
+// `+`.
 fn filter_of(alloc: Global, number: u32) -> Option<Filter> {
     let group = number % 331;
     let text = if number % 2 == 0 {
@@ -23,7 +24,7 @@ fn filter_of(alloc: Global, number: u32) -> Option<Filter> {
     Filter::new(alloc, text.ok()?.as_str()).ok()
 }
 
-// Sets the filter of a number, and says whether there was memory.
+// Sets the filter with this number; false if memory ran out.
 fn set_one(alloc: Global, index: &mut TreeIndex, client: &ClientId, number: u32) -> bool {
     match filter_of(alloc, number) {
         Some(filter) => index.set(client, &filter, QoS::AtLeastOnce).is_ok(),
@@ -31,7 +32,7 @@ fn set_one(alloc: Global, index: &mut TreeIndex, client: &ClientId, number: u32)
     }
 }
 
-// Clears the filter of a number, and says whether it was there.
+// Clears the filter with this number; false if it was not set.
 fn clear_one(alloc: Global, index: &mut TreeIndex, client: &ClientId, number: u32) -> bool {
     match filter_of(alloc, number) {
         Some(filter) => index.clear(client, &filter),
@@ -39,7 +40,7 @@ fn clear_one(alloc: Global, index: &mut TreeIndex, client: &ClientId, number: u3
     }
 }
 
-// Sets all filters, and says whether there was memory.
+// Sets all filters; false if memory ran out.
 fn set_all(alloc: Global, index: &mut TreeIndex, client: &ClientId) -> bool {
     for number in 0..FILTERS {
         if !set_one(alloc, index, client, number) {
@@ -49,7 +50,7 @@ fn set_all(alloc: Global, index: &mut TreeIndex, client: &ClientId) -> bool {
     true
 }
 
-// Clears all filters, and says whether each was there.
+// Clears all filters; false if one was not set.
 fn clear_all(alloc: Global, index: &mut TreeIndex, client: &ClientId) -> bool {
     for number in 0..FILTERS {
         if !clear_one(alloc, index, client, number) {
@@ -59,13 +60,13 @@ fn clear_all(alloc: Global, index: &mut TreeIndex, client: &ClientId) -> bool {
     true
 }
 
-// Returns how many nodes there are, and for how many there is capacity.
+// Returns the number of nodes, and the capacity of the slab.
 fn counts(index: &TreeIndex) -> (usize, usize) {
     (index.nodes.slab.len(), index.nodes.slab.capacity())
 }
 
-// Returns how many nodes all filters have, and whether that stays so once they were dropped, set,
-// cleared and set again. Says too whether only the root was left in between.
+// Returns how many nodes all filters have; whether that number is the same after dropping, setting,
+// clearing and setting them again; and whether only the root was left in between.
 fn nodes_in_turn(alloc: Global) -> Option<(usize, bool, bool)> {
     let mut index = TreeIndex::new(alloc);
     let client = ClientId::new(alloc, "a").ok()?;
@@ -86,7 +87,7 @@ fn nodes_are_used_again(rt: HostRuntime) {
     assert_eq!(rt; nodes_in_turn(rt.alloc()), Some((NODES, true, true)));
 }
 
-// Sets the filters of all numbers in a list, and says whether there was memory.
+// Sets all filters in a list; false if memory ran out.
 fn list_all(alloc: Global, list: &mut ListIndex, client: &ClientId) -> bool {
     for number in 0..FILTERS {
         match filter_of(alloc, number) {
@@ -97,7 +98,7 @@ fn list_all(alloc: Global, list: &mut ListIndex, client: &ClientId) -> bool {
     true
 }
 
-// Returns how many nodes the tree has that is built of the list of all filters.
+// Returns how many nodes the tree has that is built from the list of all filters.
 fn nodes_built(alloc: Global) -> Option<usize> {
     let client = ClientId::new(alloc, "a").ok()?;
     let mut list = ListIndex::new(alloc);

@@ -1,4 +1,13 @@
-// The index as a tree of the filters' levels.
+// The index of subscriptions as a tree of the filters' levels.
+//
+// The same subscriptions are held twice, and the invariant says that both contents are equal. The
+// list, by client and then by filter, finds the filters of a client that is dropped, and is the
+// value of the index in contracts. The tree, by the levels of the filters, answers `granted`: the
+// walk follows at most the child of a level and the child of `+`, so its cost depends on the topic
+// and on what matches, not on all subscriptions. Nodes are numbered in a slab and do not own each
+// other, so the index can be passed from thread to thread. The nodes are a tree: no two paths lead
+// to one node, and each node on a path is in use. A change that runs out of memory changes neither
+// side.
 
 ghost use Rattle.std.specs.Prelude.{◌≡◌, ◌++◌, IfOk, OnOk, OnErr, take, length};
 ghost use Rattle.std.specs.BTreeMap.{IsOrdered, get};
@@ -20,14 +29,14 @@ use subs_base::{ListIndex, SubIndex};
 use topics::{Filter, TopicName};
 
 /// An index that walks the levels of a topic: the cost of a publication depends on its levels and
-/// the rows that are found, not on other subscriptions. No clause speaks of cost.
+/// the rows that match, not on other subscriptions. No contract states the cost.
 #[derive(Debug)]
 pub struct TreeIndex {
-    // Each client with its filters, which are removed with it.
+    // Finds the filters of a client that is dropped.
     clients: ListIndex,
-    /// The same subscriptions by the levels of their filters. No two ways lead to one node.
+    /// The same subscriptions by the levels of their filters.
     pub(crate) nodes: Nodes,
-    // The allocator of what is found for a publication.
+    // For the map of clients found for a publication.
     alloc: Global,
 }
 
@@ -100,7 +109,7 @@ impl SubIndex for TreeIndex {
 }
 
 impl TreeIndex {
-    /// Builds the tree of a whole list in one pass, in place of a `set` for each of its filters.
+    /// Builds the index of a whole list in one pass, in place of one `set` for each of its filters.
     pub fn of_list(alloc: Global, clients: ListIndex) -> Result<TreeIndex, Memory>
         ensures { IfOk result (λ index. index ≡ clients) }
     {
@@ -114,7 +123,7 @@ impl TreeIndex {
     }
 }
 
-// Removes the client's subscriptions of these filters.
+// Removes the client's rows of these filters.
 fn clear_all(nodes: &mut Nodes, filters: &BTreeMap<Filter, QoS>, client: &ClientId)
     requires { IsSoundTree nodes.old }
     ensures after { content_of_nodes nodes.new
@@ -126,7 +135,7 @@ fn clear_all(nodes: &mut Nodes, filters: &BTreeMap<Filter, QoS>, client: &Client
     }
 }
 
-// Appends the rows. If memory runs out, some of them may be there.
+// Appends the rows. If memory runs out, some of them may have been appended.
 fn append_rows(
     found: &BTreeMap<ClientId, QoS>,
     rows: &mut Vec<(ClientId, QoS)>,

@@ -1,4 +1,4 @@
--- Who gets a publication, and at which QoS (MQTT 3.3.5).
+-- The clients that get a publication, and at which QoS (MQTT 3.3.5).
 use Rattle.std.specs.Prelude.{◌≡◌, ◌≤◌, ℕ, List, [], ◌∷◌, ◌++◌, map, All, Contains, Option}
 use Rattle.std.specs.Prelude.{Some, None}
 use Rattle.std.specs.List.Sorted.{IsStrictlySortedBy}
@@ -47,7 +47,7 @@ IsWanted content topic =
     (client : List ℕ) × (filter : List ℕ) × (qos : QoS) × (content client filter ≡ Some qos)
     × Matches filter topic
 
--- the granted rows of a topic come after the rows that were there
+-- the granted rows of a topic are appended to the rows that were there
 abbrev pub AppendsGranted : Content → List ℕ → List Row → List Row → Type 0
 AppendsGranted content topic old new =
     (rows : List Row) × IsGranted content topic rows × (new ≡ old ++ rows)

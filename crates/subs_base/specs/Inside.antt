@@ -1,4 +1,4 @@
--- How a `ListIndex` goes through its clients and their filters.
+-- How a `ListIndex` scans its clients and their filters.
 use Rattle.std.specs.Prelude.{ℕ, List, [], ◌∷◌, ◌++◌, Option, Some, None, if◌then◌else◌, map}
 use Rattle.std.specs.BTreeMap.{BTreeMap}
 use Rattle.std.specs.Map.{keys_of}
@@ -15,7 +15,7 @@ use Rattle.subs_base.specs.ListIndex.{Filters, Clients}
 abbrev pub listed : List (List ℕ × BTreeMap (List ℕ) QoS) → Clients
 listed entries = map (λ entry. (entry.0, entry.1.entries)) entries
 
--- the greatest QoS so far, and of the filters that match
+-- the greatest of this QoS and those of the filters that match
 abbrev pub greatest_from : List ℕ → Option QoS → Filters → Option QoS
 greatest_from topic best [] = best
 greatest_from topic best (entry ∷ entries) =

@@ -1,5 +1,5 @@
-//! Which clients asked for which filters, and who gets a publication: the trait of such an index
-//! and the simple one.
+//! Which client subscribed to which filter, and which clients a publication goes to: the trait of
+//! an index of subscriptions, and a simple one.
 #![tactic(auto)]
 
 mod list_index;

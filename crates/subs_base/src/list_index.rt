@@ -1,4 +1,11 @@
-// The simple index: each client with its filters, all of them looked at for a publication.
+// The simple index: a map from clients to their filters, scanned for each publication.
+//
+// Two nested maps have each pair of client and filter once, so setting a filter again replaces it.
+// The value in contracts is the list of clients in the order of their bytes, each with its filters;
+// the content of which the trait's clauses speak, a function, is read from that list, since a value
+// in contracts must be data. `granted` tests every filter, which makes it easy to prove and slow:
+// programs use the tree of `subs`, which keeps a `ListIndex` beside its nodes and proves that both
+// have the same content.
 
 ghost use Rattle.std.specs.Prelude.{
   ◌≡◌,
@@ -37,12 +44,11 @@ use std::collections::BTreeMap;
 use std::marker::Model;
 use topics::{Filter, TopicName, matches};
 
-/// An index that looks at every filter of every client for each publication.
+/// An index that tests every filter of every client for each publication.
 #[derive(Debug)]
 pub struct ListIndex {
-    // The filters of each client, each with the QoS that was granted last.
+    // Each filter with the QoS that was granted last.
     clients: BTreeMap<ClientId, BTreeMap<Filter, QoS>>,
-    // The allocator of each client's map.
     alloc: Global,
 }
 
@@ -107,15 +113,14 @@ impl SubIndex for ListIndex {
 }
 
 impl ListIndex {
-    /// Returns the clients by their bytes, each with its filters by theirs.
+    /// Returns the clients in the order of their bytes, each with its filters in theirs.
     pub fn clients(&self) -> &BTreeMap<ClientId, BTreeMap<Filter, QoS>>
         ensures { listed result.now.entries ≡ self.now }
     {
         &self.clients
     }
 
-    /// Puts these filters of a client in place of those that it has. If memory runs out the index
-    /// stays as it was.
+    /// Replaces all filters of a client by these. If memory runs out the index is unchanged.
     pub fn put(&mut self, client: &ClientId, filters: BTreeMap<Filter, QoS>) -> Result<(), Memory>
         ensures ok { OnOk result
             (content_of self.new ≡ with_client_filters (content_of self.old) client.now
@@ -130,15 +135,15 @@ impl ListIndex {
         Ok(())
     }
 
-    /// Returns the filters of a client that has one, in the order of their bytes.
+    /// Returns the filters of a client, if it has any, in the order of their bytes.
     pub fn filters_of(&self, client: &ClientId) -> Option<&BTreeMap<Filter, QoS>>
         ensures { option_map (λ filters. filters.now.entries) result ≡ at client.now self.now }
     {
         self.clients.get(client)
     }
 
-    // Removes the subscription, and leaves the client's map, which may then be empty. Returns
-    // whether the subscription was there.
+    // Removes the subscription and returns whether it was there. The client's map stays, and may be
+    // empty.
     fn clear_row(&mut self, client: &ClientId, filter: &Filter) -> bool
         ensures found { IsTrue result ↔ IsSome (content_of self.old client.now filter.now) }
         ensures after { content_of self.new
@@ -150,7 +155,7 @@ impl ListIndex {
         }
     }
 
-    // Removes the client's map if no filter is in it.
+    // Removes the client's map if it is empty.
     fn drop_empty(&mut self, client: &ClientId)
         ensures same { content_of self.new ≡ content_of self.old }
         ensures gone { at client.now self.new ≢ Some [] }
@@ -164,7 +169,7 @@ impl ListIndex {
     }
 }
 
-// Sets the QoS of a filter. On an error nothing is changed.
+// Sets the QoS of a filter. After an error nothing has changed.
 fn set_filter(filters: &mut BTreeMap<Filter, QoS>, filter: &Filter, qos: QoS) -> Result<(), Memory>
     ensures ok { OnOk result
         (Updates (slice_cmp nat_cmp) filters.old filters.new filter.now (Some qos)) }
@@ -179,7 +184,7 @@ fn set_filter(filters: &mut BTreeMap<Filter, QoS>, filter: &Filter, qos: QoS) ->
     Ok(())
 }
 
-// Removes a filter. Returns whether it was there.
+// Removes a filter and returns whether it was there.
 fn clear_filter(filters: &mut BTreeMap<Filter, QoS>, filter: &Filter) -> bool
     ensures found { result ≡ is_some (get (slice_cmp nat_cmp) filters.old filter.now) }
     ensures after { Updates (slice_cmp nat_cmp) filters.old filters.new filter.now None }
@@ -187,7 +192,8 @@ fn clear_filter(filters: &mut BTreeMap<Filter, QoS>, filter: &Filter) -> bool
     filters.remove(filter).is_some()
 }
 
-// Appends the clients' rows. If memory runs out, some of them may be there.
+// Appends a row for each client with a matching filter. If memory runs out, some of them may have
+// been appended.
 fn append_rows(
     clients: &BTreeMap<ClientId, BTreeMap<Filter, QoS>>,
     topic: &TopicName,
@@ -208,7 +214,7 @@ fn append_rows(
     Ok(())
 }
 
-// Returns the greatest QoS of the filters that match a topic, if any does.
+// Returns the greatest QoS of the filters that match the topic, if any does.
 fn greatest(filters: &BTreeMap<Filter, QoS>, topic: &TopicName) -> Option<QoS>
     ensures value { result ≡ greatest_from topic.now None filters.now.entries }
     ensures ordered { IsOrdered (slice_cmp nat_cmp) filters.now }

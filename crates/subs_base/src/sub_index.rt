@@ -1,4 +1,4 @@
-// What an index of subscriptions has to do.
+// The trait of an index of subscriptions.
 
 ghost use Rattle.std.specs.Prelude.{◌≡◌, ◌↔◌, None, IsTrue, IsSome, OnOk, OnErr};
 ghost use Rattle.subs_base.specs.Content.{
@@ -15,7 +15,7 @@ use packet_base::{ClientId, QoS};
 use std::alloc::Global;
 use topics::{Filter, TopicName};
 
-/// The subscriptions of all clients, each pair of client and filter once.
+/// The subscriptions of all clients; each pair of client and filter occurs once.
 pub trait SubIndex: Drop {
     ghost content: { Self → Content };
 
@@ -23,15 +23,15 @@ pub trait SubIndex: Drop {
     fn new(alloc: Global) -> Self
         ensures { content result ≡ no_subscriptions };
 
-    /// Sets the client's subscription of this filter, replacing an identical one, which takes no
-    /// memory (MQTT 3.8.4).
+    /// Sets the client's subscription to this filter. Replacing an identical one takes no memory
+    /// (MQTT 3.8.4).
     fn set(&mut self, client: &ClientId, filter: &Filter, qos: QoS) -> Result<(), Memory>
         ensures ok { OnOk result
             (content self.new ≡ with_row (content self.old) client.now filter.now qos) }
         ensures err { OnErr result (content self.new ≡ content self.old) }
         ensures absent { OnErr result (content self.old client.now filter.now ≡ None) };
 
-    /// Removes the client's subscription of exactly this filter, and says whether there was one
+    /// Removes the client's subscription to exactly this filter, and returns whether there was one
     /// (MQTT 3.10.4). Takes no memory.
     fn clear(&mut self, client: &ClientId, filter: &Filter) -> bool
         ensures found { IsTrue result ↔ IsSome (content self.old client.now filter.now) }
@@ -43,8 +43,8 @@ pub trait SubIndex: Drop {
         ensures { content self.new ≡ without_client (content self.old) client.now };
 
     /// Appends a row for each client with a filter that matches the topic, with the greatest QoS of
-    /// these filters (MQTT 3.3.5). The rows are in the order of the clients' bytes. If memory runs
-    /// out the rows stay as they were. If no filter matches it takes none.
+    /// these filters (MQTT 3.3.5), in the order of the clients' bytes. If memory runs out `rows` is
+    /// unchanged; if no filter matches no memory is taken.
     fn granted(&self, topic: &TopicName, rows: &mut Vec<(ClientId, QoS)>) -> Result<(), Memory>
         ensures ok { OnOk result
             (AppendsGranted (content self.now) topic.now rows.old.items rows.new.items) }

@@ -1,9 +1,9 @@
-// Laws of the definitions: functions whose contract is the law.
+// Theorems about the definitions. The functions do nothing; their contracts are the theorems.
 
 ghost use Rattle.subs_base.specs.Theorems.{GrantsOneList};
 
-/// States that what is granted is determined by the content: by no order of the calls, and by no
-/// index.
+/// States that the content of an index determines the granted rows, whatever the order of the calls
+/// and the index type.
 pub fn grants_one_list()
     ensures { GrantsOneList }
 {}

@@ -19,11 +19,12 @@ use Rattle.std.specs.Prelude.{
 }
 use Rattle.topics.specs.Text.{Levels, levels, is_last}
 
--- `#` with nothing after it matches every rest, including the empty one (MQTT 4.7.1.2)
+-- the levels that are left are `#` alone, which matches every rest, the empty one included (MQTT
+-- 4.7.1.2)
 abbrev pub IsAll : List ℕ → Levels → Type 0
 IsAll part filter = (part ≡ codes "#") × (filter ≡ [])
 
--- level by level: `+` matches any one level, and every other level itself (MQTT 4.7.1.3)
+-- level by level: `+` matches any one level, any other level only itself (MQTT 4.7.1.3)
 abbrev pub MatchesRest : Levels → Levels → Type 0
 MatchesRest [] [] = Unit {0}
 MatchesRest [] (level ∷ topic) = ⊥
@@ -36,11 +37,12 @@ abbrev pub starts_with : ℕ → List ℕ → Bool
 starts_with byte [] = false
 starts_with byte (first ∷ _) = first == byte
 
--- whether a filter begins with `#` or `+`, which are 35 and 43
+-- whether a filter begins with `#` (35) or `+` (43)
 abbrev pub starts_with_wildcard : List ℕ → Bool
 starts_with_wildcard filter = starts_with 35 filter || starts_with 43 filter
 
--- no wildcard at the front matches a topic that begins with `$`, which is 36 (MQTT 4.7.2)
+-- a filter that begins with a wildcard does not match a topic that begins with `$` (36) (MQTT
+-- 4.7.2)
 abbrev pub is_hidden : List ℕ → List ℕ → Bool
 is_hidden filter topic = starts_with_wildcard filter && starts_with 36 topic
 

@@ -1,4 +1,4 @@
--- The numbers of the refusals that a malformed packet or text gets.
+-- The numbers of malformed packets and texts.
 use Rattle.std.specs.Prelude.{ℕ}
 use Rattle.topics.specs.declared.malformed.MalformedKind.{MalformedKind}
 use Rattle.topics.specs.declared.malformed.MalformedKind.TheVariants.{

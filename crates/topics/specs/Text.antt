@@ -32,15 +32,15 @@ use Rattle.topics.specs.declared.survey.TheConstants.{MAX_LEVELS}
 use Rattle.topics.specs.declared.malformed.MalformedKind.{MalformedKind}
 use Rattle.topics.specs.declared.malformed.MalformedKind.TheVariants as kinds
 
--- a text's levels, each by its bytes
+-- the levels of a text, each as its bytes
 abbrev pub Levels : Type 0
 Levels = List (List ℕ)
 
--- the texts between the `/`, which is 47, including empty levels (MQTT 4.7.1.1)
+-- the texts between the `/` (47), empty ones included (MQTT 4.7.1.1)
 abbrev pub levels : List ℕ → Levels
 levels text = slice_split (λ byte. byte == 47) text
 
--- the levels of what follows, none if nothing does
+-- the levels of what follows a `/`; none if no `/` was there
 abbrev pub levels_of : Option (Bor (List ℕ)) → Levels
 levels_of None = []
 levels_of (Some text) = levels text.now
@@ -57,16 +57,17 @@ has_length text = nat_lt 0 (length text) && nat_le (length text) MAX_TEXT_BYTES
 abbrev pub is_shallow : List ℕ → Bool
 is_shallow text = nat_le (length (levels text)) MAX_LEVELS
 
--- a Topic Name has no wildcard, 43 is `+` and 35 is `#` (MQTT 4.7.1)
+-- neither `+` (43) nor `#` (35) occurs in the text, as in each Topic Name (MQTT 4.7.1)
 abbrev pub has_no_wildcard : List ℕ → Bool
 has_no_wildcard text = not (contains_byte 43 text) && not (contains_byte 35 text)
 
--- a level without wildcards, or `+` alone, or `#` alone as the last one (MQTT 4.7.1.2, 4.7.1.3)
+-- a level may stand at its place: it has no wildcards, or is `+`, or is `#` and the last one (MQTT
+-- 4.7.1.2, 4.7.1.3)
 abbrev pub may_stand : List ℕ → Bool → Bool
 may_stand level last =
     has_no_wildcard level || bytes_eq level (codes "+") || (bytes_eq level (codes "#") && last)
 
--- whether no level comes after
+-- whether no level follows
 abbrev pub is_last : Levels → Bool
 is_last [] = true
 is_last (_ ∷ _) = false

@@ -1,4 +1,4 @@
--- The laws that `src/laws.rt` proves.
+-- Theorems about matching, proved by `src/theorems.rt`.
 use Rattle.std.specs.Prelude.{◌≡◌, ℕ, true, List, IsTrue, ◌↔◌}
 use Rattle.topics.specs.Text.{has_no_wildcard}
 use Rattle.topics.specs.Matching.{Matches, is_match}

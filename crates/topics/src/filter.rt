@@ -77,8 +77,8 @@ impl Filter {
     }
 }
 
-// Returns the first fault of a text as a Topic Filter. Only a text with wildcards is scanned
-// again.
+// Returns the first fault of a text as a Topic Filter. Only a text with wildcards is scanned a
+// second time.
 fn fault_of(text: &[u8]) -> Option<MalformedKind>
     ensures { result ≡ filter_fault text.now }
 {
@@ -95,7 +95,7 @@ fn fault_of(text: &[u8]) -> Option<MalformedKind>
     None
 }
 
-// Returns true if the wildcards are in their places, as they are if there are none.
+// Returns true if the wildcards are in their places, or if there are none.
 #[tactic(auto, using(crate::proofs::OnePass::bare_is_in_place))]
 fn is_formed(text: &[u8], is_bare: bool) -> bool
     requires { is_bare ≡ has_no_wildcard text.now }
@@ -119,7 +119,7 @@ fn has_wildcards_in_place(text: &[u8]) -> bool
     true
 }
 
-// Returns true if the level has no wildcard, or is one, `#` only as the last level.
+// Returns true if the level has no wildcard, is `+`, or is `#` and the last level.
 fn may_stand(level: &[u8], last: bool) -> bool
     ensures { result ≡ may_stand level.now last }
 {

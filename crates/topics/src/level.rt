@@ -1,4 +1,4 @@
-// Going through a text level by level.
+// Splitting a text into levels.
 
 ghost use Rattle.std.specs.Prelude.{◌≡◌, ◌∷◌, ◌||◌, codes, bytes_eq};
 ghost use Rattle.topics.specs.Text.{levels, levels_of, has_length, has_no_wildcard, is_last};
@@ -20,7 +20,7 @@ pub fn split_level(text: &[u8]) -> (&[u8], Option<&[u8]>)
     (text, None)
 }
 
-/// Returns true if no level follows.
+/// Returns true if nothing follows the level.
 #[tactic(auto, using(crate::proofs::LevelByLevel::is_last_levels))]
 pub(crate) fn is_last(rest: Option<&[u8]>) -> bool
     ensures { result ≡ is_last (levels_of rest.entry) }
@@ -45,14 +45,14 @@ pub fn has_no_wildcard(text: &[u8]) -> bool
     !text.contains(&b'+') && !text.contains(&b'#')
 }
 
-/// Returns true if the level is the wildcard for any one level.
+/// Returns true if the level is `+`, which matches any one level.
 pub(crate) fn is_plus(level: &[u8]) -> bool
     ensures { result ≡ bytes_eq level.now (codes "+") }
 {
     level == b"+".as_slice()
 }
 
-/// Returns true if the level is the wildcard for every rest.
+/// Returns true if the level is `#`, which matches all levels that are left.
 pub(crate) fn is_hash(level: &[u8]) -> bool
     ensures { result ≡ bytes_eq level.now (codes "#") }
 {

@@ -1,5 +1,5 @@
 //! Topic Names, Topic Filters and their matching (MQTT 3.1.1, section 4.7), and the kinds of
-//! malformed input that every decoder returns.
+//! malformed input that every decoder reports.
 #![tactic(auto)]
 
 mod filter;

@@ -1,4 +1,4 @@
-// The thirteen causes for which bytes or texts are refused, with their numbers.
+// The thirteen kinds of malformed bytes and texts, with their numbers.
 
 ghost use Rattle.std.specs.Prelude.{◌≡◌};
 ghost use Rattle.topics.specs.Refusals.{malformed_number};
@@ -7,7 +7,7 @@ use std::alloc::{AllocError, AllocFailed};
 use std::error::Error;
 use std::fmt;
 
-/// Why bytes or a text are not of the form that MQTT requires, or that memory ran out. Each kind
+/// Why bytes or a text do not have the form that MQTT requires, or that memory ran out. Each kind
 /// has a number of its own ([`MalformedKind::number`]); `docs/REFUSALS.md` has the whole table.
 #[derive(Clone, Copy, Debug, PartialEq, Eq, Hash)]
 pub enum MalformedKind {

@@ -1,4 +1,12 @@
-// Which topics a filter matches (MQTT 4.7).
+// Matching a Topic Filter against a Topic Name (MQTT 4.7).
+//
+// Neither text is split into a list of levels. The loop drops the longest common prefix of both
+// texts, then a `+` of the filter together with the level of the topic that it stands for, and so
+// on; the time is linear in the bytes of both texts, and no memory is taken. This is right because
+// a `+` or a `#` of a `Filter` is always a level of its own and a `TopicName` has neither: where
+// the texts first differ, the filter is at a wildcard, or at `/#` with the topic at its end, or
+// they do not match. That the loop decides the relation of the standard, level by level (`Matches`
+// in `specs/Matching.antt`), is the theorem `matches_is_tested`.
 
 ghost use Rattle.std.specs.Prelude.{◌≡◌, ◌≤◌, ◌||◌, ◌↔◌, IsTrue, false, length};
 ghost use Rattle.topics.specs.Matching.{Matches, is_match, starts_with};
@@ -30,8 +38,8 @@ fn is_match(filter: &[u8], topic: &[u8]) -> bool
     !is_hidden(filter, topic) && matches_levels(filter, topic)
 }
 
-// Returns true if the texts match level by level: what both begin with is skipped, and so is each
-// `+` with the level that it matches.
+// Returns true if the texts match level by level: drops their common prefix, then each `+` with the
+// level that it matches.
 #[tactic(auto, using(crate::proofs::LeftInALoop::some_first))]
 fn matches_levels(filter: &[u8], topic: &[u8]) -> bool
     requires { IsPair filter.now topic.now }
@@ -44,7 +52,7 @@ fn matches_levels(filter: &[u8], topic: &[u8]) -> bool
     ends_match(filter_rest, topic_rest)
 }
 
-// Returns what is left of the texts after the bytes with which both begin.
+// Returns what is left of both texts after their longest common prefix.
 #[tactic(auto, using(crate::proofs::LeftInALoop::front_step))]
 fn after_front<'a>(filter: &'a [u8], topic: &'a [u8]) -> (&'a [u8], &'a [u8])
     requires { IsPair filter.now topic.now }
@@ -77,7 +85,8 @@ fn after_level(text: &[u8]) -> &[u8]
     &[]
 }
 
-// Returns true if what is left matches, once the next bytes differ.
+// Returns true if the rests match. They have no first byte in common, and the filter's does not
+// begin with `+`.
 fn ends_match(filter_rest: &[u8], topic_rest: &[u8]) -> bool
     ensures { result ≡ ends_match filter_rest.now topic_rest.now }
 {
@@ -105,8 +114,8 @@ fn starts_with_wildcard(filter: &[u8]) -> bool
     starts_with(b'#', filter) || starts_with(b'+', filter)
 }
 
-// Returns true if a filter begins with a wildcard and a topic with `$`, which do not match (MQTT
-// 4.7.2).
+// Returns true if the filter begins with a wildcard and the topic with `$`: these do not match
+// (MQTT 4.7.2).
 fn is_hidden(filter: &[u8], topic: &[u8]) -> bool
     ensures { result ≡ is_hidden filter.now topic.now }
 {

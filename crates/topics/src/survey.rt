@@ -1,4 +1,4 @@
-// What is checked in a text, in one pass over its bytes.
+// One pass over the bytes of a text, which finds all that both kinds of text are checked for.
 
 ghost use Rattle.std.specs.Prelude.{◌≡◌};
 ghost use Rattle.topics.specs.Text.{contains_byte, has_no_wildcard, is_shallow};
@@ -18,7 +18,7 @@ pub(crate) struct Survey {
 }
 
 impl Survey {
-    /// Reads the text once, and returns what is known of it.
+    /// Reads the text once and returns what was found.
     #[tactic(auto, using(crate::proofs::OnePass::shallow_is))]
     pub(crate) fn of(text: &[u8]) -> Survey
         ensures null { result.has_null ≡ contains_byte 0 text.now }

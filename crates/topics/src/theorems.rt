@@ -1,4 +1,4 @@
-// Laws of the definitions: functions whose contract is the law.
+// Theorems about the definitions. The functions do nothing; their contracts are the theorems.
 
 ghost use Rattle.topics.specs.Theorems.{MatchesIsTested, BareMatchesItself};
 

@@ -1,5 +1,5 @@
--- What a client is sent for its session: at a step of a handshake, when the session continues, and
--- of a publication.
+-- What a client is sent for its session: at an acknowledgement, when the session is resumed, and
+-- for a publication.
 use Rattle.std.specs.Prelude.{ℕ, Bool, true, false, List, [], ◌∷◌, ◌++◌, Option, Some, None}
 use Rattle.packet_base.specs.declared.qos.QoS.{QoS}
 use Rattle.packet.specs.declared.packet.Packet.{Packet}
@@ -11,7 +11,7 @@ use Rattle.session_base.specs.Queue.{on_puback, on_pubrec, on_pubcomp}
 use Rattle.session_base.specs.EntryPackets.{fill_sends, pubrec_sends, resend}
 use Rattle.broker_base.specs.ClientSession.{ClientSession}
 
--- whether a packet is a step of a handshake
+-- whether a packet is PUBACK, PUBREC, PUBREL or PUBCOMP
 abbrev pub is_handshake : Packet → Bool
 is_handshake (packets.Puback id) = true
 is_handshake (packets.Pubrec id) = true
@@ -19,7 +19,7 @@ is_handshake (packets.Pubrel id) = true
 is_handshake (packets.Pubcomp id) = true
 is_handshake _ = false
 
--- what its sender is sent for a step of a handshake
+-- what the sender of such a packet is sent
 abbrev pub handshake_sends : ℕ → Packet → SessionState → List Packet
 handshake_sends window (packets.Puback id) session =
     fill_sends window (on_puback id session.queue.in_flight) session.queue.waiting
@@ -30,7 +30,7 @@ handshake_sends window (packets.Pubcomp id) session =
     fill_sends window (on_pubcomp id session.queue.in_flight) session.queue.waiting
 handshake_sends window _ session = []
 
--- what a client whose session continues is sent of it (MQTT 4.4)
+-- what a client whose session is resumed is sent (MQTT 4.4)
 abbrev pub sent_to_resumed : ℕ → Option ClientSession → List Packet
 sent_to_resumed window (Some kept) =
     resend kept.state.queue.in_flight

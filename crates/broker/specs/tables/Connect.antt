@@ -1,4 +1,4 @@
--- What a Connect does, and whose its connection becomes (MQTT 3.1.2.4).
+-- The outcome of a Connect, and the owner of its connection (MQTT 3.1.2.4).
 use Rattle.std.specs.Prelude.{◌≡◌, Bool, not, if◌then◌else◌}
 use Rattle.broker_spec.specs.Connection.{ConnectionName}
 use Rattle.broker_spec.specs.Place.{Client}
@@ -12,8 +12,8 @@ use Rattle.broker.specs.declared.tables.tables.Tables.{Tables}
 use Rattle.broker.specs.tables.Tables.{owners_at}
 use Rattle.broker_base.specs.State.{State, session_in}
 
--- what a Connect does that is no violation: it resumes the client's session, or begins one if there
--- is room for it (MQTT 3.1.2.4, 3.2.2.3)
+-- the outcome of a Connect that is no violation: it resumes the client's session, or begins one if
+-- the limit of sessions allows it (MQTT 3.1.2.4, 3.2.2.3)
 abbrev pub connect_outcome : State → Client → Bool → ConnectOutcome
 connect_outcome state client clean =
     if not (begins_in state client clean) then outcomes.Resumes else

@@ -1,5 +1,5 @@
--- Definitions of private calls: which packets end their connection, and what a call leaves as it
--- was.
+-- Definitions for private functions: which packets end their connection, and what a call leaves as
+-- it was.
 use Rattle.std.specs.Prelude.{◌≡◌, Bool, true, false}
 use Rattle.packet.specs.declared.packet.Packet.{Packet}
 use Rattle.packet.specs.declared.packet.Packet.TheVariants as packets

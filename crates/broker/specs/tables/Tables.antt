@@ -1,4 +1,4 @@
--- The tables of a broker: the state that they represent, and how they correspond to each other.
+-- The tables of a broker: the state that they show, and how they agree with each other.
 use Rattle.std.specs.Prelude.{◌≡◌, List, ◌++◌}
 use Rattle.std.specs.declared.cmp.Ordering.{Ordering}
 use Rattle.std.specs.Ordering.{nat_cmp, ordering_then}
@@ -18,16 +18,16 @@ use Rattle.broker_base.specs.rows.Owners.{Owners, owners_in}
 use Rattle.broker_base.specs.rows.Indexed.{content_in}
 use Rattle.broker.specs.declared.tables.tables.Tables.{Tables}
 
--- connections come by ballot, then by number
+-- connections are ordered by ballot, then by number
 abbrev pub by_connection : ConnectionName → ConnectionName → Ordering
 by_connection name other =
     ordering_then (nat_cmp name.ballot other.ballot) (nat_cmp name.count other.count)
 
--- the client of each connection, as the map of connections has it
+-- the client of each connection, from the entries of the map of connections
 abbrev pub owners_at : List (ConnectionName × Client) → Owners
 owners_at entries connection = lookup (is_at (by_connection connection)) entries
 
--- what a broker with these tables keeps of all its clients
+-- the state that the tables show
 abbrev pub state_in : Tables → State
 state_in tables =
     record {
@@ -36,15 +36,15 @@ state_in tables =
       retained = tables.retained;
     }
 
--- the map of connections holds those of the sessions, and the index the subscriptions of the
--- sessions
+-- the map of connections has exactly those of the sessions, and the content of the index is the
+-- subscriptions of the sessions
 pub record IsTied (tables : Tables) : Type 0 where
   pub owners :
       (connection : ConnectionName)
       → owners_at tables.owners.entries connection ≡ owners_in tables.sessions.entries connection
   pub index : content_of tables.index ≡ content_in tables.sessions.entries
 
--- the tables are tied to the sessions, and the sessions are sound
+-- the tables are tied and their sessions are sound
 pub record IsConsistent (tables : Tables) : Type 0 where
   pub sound : IsSound (state_in tables)
   pub tied : IsTied tables
@@ -53,8 +53,8 @@ pub record IsConsistent (tables : Tables) : Type 0 where
 unfoldable pub stepped : Tables → Command → State × List Output
 stepped tables command = step usual_limits wide_window (state_in tables) command
 
--- The command was done: the state after it is that of the step, and the answers of the step come
--- after what was sent before (docs/MODEL.md, *The step*).
+-- The command was applied: the state after it is that of the step, and the answers of the step are
+-- appended to the outputs that were there (docs/MODEL.md, *The step*).
 pub record DoesCommand (old new : Tables) (before after : List Output) (command : Command)
     : Type 0 where
   pub state : state_in new ≡ (stepped old command).0

@@ -1,4 +1,4 @@
-// What is kept of one client.
+// The row of one client.
 
 ghost use Rattle.std.specs.Prelude.{◌≡◌, ◌++◌, false, Some, OnOk};
 ghost use Rattle.broker_base.specs.SessionStep.{session_anew, session_resumed};
@@ -11,14 +11,14 @@ use session::Session;
 use std::alloc::Global;
 use std::marker::Model;
 
-/// A client's session, with the CleanSession flag of its CONNECT and the connection on which the
-/// client is served, if any.
+/// A client's session with the CleanSession flag of its CONNECT and its current connection, if it
+/// has one.
 pub struct ClientRow {
-    /// CleanSession of the CONNECT that opened its connection last (MQTT 3.1.2.4).
+    /// CleanSession of the client's last accepted CONNECT (MQTT 3.1.2.4).
     pub clean: bool,
-    /// The connection on which the client is served.
+    /// The client's current connection.
     pub connection: Option<ConnectionName>,
-    /// What is in the session.
+    /// The contents of the session.
     pub state: Session,
 }
 
@@ -42,7 +42,7 @@ impl Model for ClientRow {
 }
 
 impl ClientRow {
-    /// Returns a session that begins on a connection, with nothing in it.
+    /// Returns an empty session that begins on this connection.
     pub fn new(alloc: Global, connection: ConnectionName, clean: bool) -> ClientRow
         ensures { result ≡ session_anew (connection, clean) }
     {
@@ -53,8 +53,8 @@ impl ClientRow {
         }
     }
 
-    /// Resumes a session that is not clean on this connection. What is in flight is sent again,
-    /// then what may start starts (MQTT 4.4).
+    /// Resumes a session that is not clean on this connection: appends the retransmissions, then
+    /// starts what may start (MQTT 4.4).
     pub fn resume(
         &mut self,
         connection: ConnectionName,

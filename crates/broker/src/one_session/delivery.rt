@@ -1,4 +1,4 @@
-// Putting copies of publications into sessions (MQTT 3.3.5, 4.6).
+// Adding copies of publications to sessions (MQTT 3.3.5, 4.6).
 
 ghost use Rattle.std.specs.Prelude.{◌≡◌, ◌≤◌, ◌++◌, [], ◌∷◌, true, false, Some, OnOk, IfOk};
 ghost use Rattle.packet.specs.declared.packet.Packet.TheVariants as packets;
@@ -24,7 +24,7 @@ use session::Session;
 use session_base::{MAX_ENTRIES, Publication};
 use std::alloc::AllocError;
 
-/// Returns what a PUBLISH carries.
+/// Returns the publication that a PUBLISH carries.
 pub fn publication_of(publish: &Publish) -> Result<Publication, AllocError>
     ensures { IfOk result (λ publication. publication ≡ publication_of publish.now) }
 {
@@ -36,8 +36,8 @@ pub fn publication_of(publish: &Publish) -> Result<Publication, AllocError>
     })
 }
 
-// Returns a copy of a publication for a subscriber: with RETAIN 0 (MQTT 3.3.1.3), at the lower QoS
-// of the two.
+// Returns the copy of a publication for a subscriber: with RETAIN 0 (MQTT 3.3.1.3), at the lower of
+// its QoS and `qos`.
 fn copy_at(publication: &Publication, qos: QoS) -> Result<Publication, AllocError>
     ensures { IfOk result (λ copy. copy ≡ lowered publication.now qos) }
 {
@@ -49,8 +49,8 @@ fn copy_at(publication: &Publication, qos: QoS) -> Result<Publication, AllocErro
     })
 }
 
-/// Puts a copy into the session of a connected client: one of QoS 0 is sent at once, and after any
-/// other what may start starts.
+/// Adds a copy to the session of a connected client. A copy at QoS 0 is sent at once; any other is
+/// queued, and then what may start starts. Requires room for a copy that is queued.
 pub(crate) fn put_copy(
     session: &mut Session,
     window: Window,
@@ -72,7 +72,7 @@ pub(crate) fn put_copy(
     Ok(())
 }
 
-// Returns the PUBLISH of a copy at QoS 0, which no packet answers (MQTT 4.3.1).
+// Returns the PUBLISH of a copy at QoS 0, which has no acknowledgement (MQTT 4.3.1).
 fn unanswered_publish(copy: Publication) -> Packet
     requires { copy.qos ≡ qos_levels.AtMostOnce }
     ensures { result ≡ packets.Publish (publish_for false 0 copy) }
@@ -85,8 +85,8 @@ fn unanswered_publish(copy: Publication) -> Packet
     })
 }
 
-/// Puts a publication that the client is granted at this QoS into its session. A client without a
-/// connection gets it later, at QoS 1 and 2.
+/// Adds a publication to the session of a client that is granted it at `qos`. If the client is not
+/// connected, a copy at QoS 1 or 2 waits, and one at QoS 0 is dropped.
 pub fn deliver(
     row: &mut ClientRow,
     window: Window,

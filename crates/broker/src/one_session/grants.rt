@@ -1,4 +1,4 @@
-// The filters of a SUBSCRIBE, in the session of its client (MQTT 3.8.4).
+// Granting the filters of a SUBSCRIBE in its client's session (MQTT 3.8.4).
 
 ghost use Rattle.std.specs.Prelude.{◌≡◌, ◌++◌, OnOk, IfOk};
 ghost use Rattle.broker_spec.specs.Commands.{usual_limits};
@@ -14,8 +14,8 @@ use retained::RetainedStore;
 use session::Session;
 use session_base::MAX_SUBSCRIPTIONS;
 
-/// Takes the filters one by one: each is granted or not, and what is retained of it is put into the
-/// session of a connected client. Returns which are granted.
+/// Handles the filters one by one: grants each or not, and adds the retained publications that
+/// match a granted one to the session of the connected client. Returns which are granted.
 pub fn grant_all(
     session: &mut Session,
     window: Window,
@@ -40,8 +40,8 @@ pub fn grant_all(
     Ok(which)
 }
 
-// Grants a filter if it is not one too many and there is room for the retained publications that
-// match it. It is then a subscription, and those publications are put into the session.
+// Grants a filter unless it would exceed the limit of subscriptions or the session lacks room for
+// the matching retained publications; then sets the subscription and adds those publications.
 fn grant(
     session: &mut Session,
     window: Window,
@@ -68,7 +68,8 @@ fn grant(
     Ok(true)
 }
 
-// Returns true if the filter would be a subscription too many: an identical one is only replaced.
+// Returns true if the filter would exceed the limit of subscriptions. An identical one is only
+// replaced.
 fn is_one_too_many(session: &Session, subscription: &Subscription) -> bool
     ensures { result ≡ is_one_too_many usual_limits session.now.subscriptions subscription.now }
 {

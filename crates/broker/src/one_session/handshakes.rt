@@ -1,4 +1,4 @@
-// The steps of handshakes in one session: PUBACK, PUBREC, PUBREL and PUBCOMP (MQTT 3.4 to 3.7).
+// The acknowledgements of one session: PUBACK, PUBREC, PUBREL and PUBCOMP (MQTT 3.4 to 3.7).
 
 ghost use Rattle.std.specs.Prelude.{◌≡◌, ◌++◌, OnOk, true};
 ghost use Rattle.broker_base.specs.rows.PacketTheorems.{handled_state};
@@ -9,7 +9,7 @@ use machine::Halted;
 use packet::Packet;
 use session::Session;
 
-/// Returns true if a packet is a step of a handshake.
+/// Returns true for PUBACK, PUBREC, PUBREL and PUBCOMP.
 pub fn is_handshake(packet: &Packet) -> bool
     ensures { result ≡ is_handshake packet.now }
 {
@@ -19,8 +19,8 @@ pub fn is_handshake(packet: &Packet) -> bool
     )
 }
 
-/// Takes a step of a handshake in the session of a connected client. What waits may start once an
-/// entry is finished (MQTT 4.6).
+/// Handles such a packet in the session of a connected client. Waiting publications may start once
+/// an entry is finished (MQTT 4.6).
 pub fn do_handshake(
     session: &mut Session,
     window: Window,

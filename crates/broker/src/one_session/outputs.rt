@@ -7,7 +7,7 @@ use broker_spec::{ConnectionName, Output};
 use machine::Halted;
 use packet::Packet;
 
-/// Appends the sending of packets on a connection, in order.
+/// Appends an output `Send` on this connection for each packet, in order.
 pub fn send_all(
     connection: ConnectionName,
     sent: Vec<Packet>,

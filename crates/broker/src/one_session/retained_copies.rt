@@ -1,4 +1,4 @@
-// What a subscriber is sent of the retained publications (MQTT 3.3.1.3, 3.8.4).
+// The copies of retained publications for a new subscription (MQTT 3.3.1.3, 3.8.4).
 
 ghost use Rattle.std.specs.Prelude.{◌≡◌, ◌≤◌, ◌++◌, length, OnOk, IfOk};
 ghost use Rattle.session_base.specs.Queue.{room};
@@ -18,8 +18,8 @@ use session_base::{MAX_ENTRIES, Publication};
 use std::alloc::{AllocError, Global};
 use topics::TopicName;
 
-// Returns a copy of a retained publication, with RETAIN 1, at the lower of its QoS and the one that
-// is asked for.
+// Returns the copy of a retained publication: with RETAIN 1, at the lower of its QoS and the
+// requested one.
 fn retained_copy(asked: QoS, topic: TopicName, kept: RetainedPublication) -> Publication
     ensures { result ≡ retained_copy asked (topic, kept) }
 {
@@ -31,7 +31,8 @@ fn retained_copy(asked: QoS, topic: TopicName, kept: RetainedPublication) -> Pub
     }
 }
 
-/// Returns what a filter is sent of the retained publications, by topic.
+/// Returns the copies of the retained publications that a filter matches, in the order of the
+/// topics' bytes.
 pub(crate) fn copies_for(
     alloc: Global,
     retained: &RetainedStore,
@@ -48,7 +49,7 @@ pub(crate) fn copies_for(
     Ok(copies)
 }
 
-/// Returns how many of these are queued: those of QoS 1 and 2.
+/// Returns how many of these copies are queued: those at QoS 1 and 2.
 pub(crate) fn queued_count(copies: &[Publication]) -> usize
     ensures { result ≡ length (queued copies.now) }
 {
@@ -61,7 +62,7 @@ pub(crate) fn queued_count(copies: &[Publication]) -> usize
     many
 }
 
-/// Puts copies one by one into the session of a connected client.
+/// Adds the copies one by one to the session of a connected client.
 pub(crate) fn put_copies(
     session: &mut Session,
     window: Window,

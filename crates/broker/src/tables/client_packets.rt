@@ -1,4 +1,4 @@
-// Packets, and the clients that are served on the connections on which they come.
+// Dispatching a packet to the client on whose connection it came.
 
 ghost use Rattle.std.specs.Prelude.{◌≡◌, Some, IfOk, OnOk};
 ghost use Rattle.broker_spec.specs.declared.command.Command.TheVariants as commands;
@@ -16,8 +16,8 @@ use packet_base::ClientId;
 use std::alloc::AllocError;
 
 impl Tables {
-    /// Handles a packet that arrived on a connection. On a connection that is no client's current
-    /// one it does nothing.
+    /// Handles a packet that arrived on a connection. If that is no client's current connection,
+    /// nothing happens.
     pub(crate) fn handle_packet(
         &mut self,
         connection: ConnectionName,
@@ -73,7 +73,7 @@ impl Tables {
         }
     }
 
-    // Returns the client that is served on a connection, if one is.
+    // Returns the client that is served on this connection, if any.
     fn owner_of(&self, connection: ConnectionName) -> Result<Option<ClientId>, AllocError>
         requires { IsTied self.now }
         ensures { IfOk result (λ client. client ≡ owners_in self.now.sessions.entries connection) }

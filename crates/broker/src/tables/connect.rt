@@ -27,20 +27,20 @@ use packet_base::{ClientId, RefusalCode};
 use std::collections::BTreeMap;
 use subs_base::SubIndex;
 
-/// What a Connect does on a connection that is no client's current one.
+/// The outcome of a Connect on a connection that is no client's current one.
 #[derive(Clone, Copy, Debug, PartialEq, Eq)]
 pub(crate) enum ConnectOutcome {
-    /// A session begins.
+    /// A new session begins.
     Begins,
     /// The client's session is resumed.
     Resumes,
-    /// There are too many sessions.
+    /// The limit of sessions is reached.
     Full,
 }
 
 impl Tables {
-    /// Handles a Connect. On a connection that is a client's current one it is a violation
-    /// (MQTT-3.1.0-2).
+    /// Handles a Connect. On a connection that is some client's current one it is a violation,
+    /// which closes that connection (MQTT-3.1.0-2).
     pub(crate) fn connect(
         &mut self,
         connection: ConnectionName,
@@ -66,9 +66,9 @@ impl Tables {
         Ok(())
     }
 
-    // Says what a Connect does that is no violation. A session is resumed if it exists and neither
-    // it nor the Connect is clean. Otherwise one begins, if the client has one or there is room for
-    // one more (MQTT 3.1.2.4). If there is none, the client is turned away.
+    // Decides the outcome of a Connect that is no violation. A session is resumed if it exists and
+    // neither it nor the Connect is clean. Otherwise a new one begins if the client has one or the
+    // limit of sessions allows one more (MQTT 3.1.2.4), and if not, the Connect is refused.
     fn outcome_of(&self, client: &ClientId, clean: bool) -> ConnectOutcome
         ensures { result ≡ connect_outcome (state_in self.now) client.now clean }
     {
@@ -90,7 +90,7 @@ impl Tables {
         }
     }
 
-    // Begins an empty session; an old one of the client ends (MQTT 3.1.2.4).
+    // Begins an empty session in place of any old one of the client (MQTT 3.1.2.4).
     fn begin(
         &mut self,
         connection: ConnectionName,
@@ -114,8 +114,8 @@ impl Tables {
         Ok(())
     }
 
-    // Serves the client on this connection from now on, and tells it whether a session continues
-    // (MQTT 3.2.2.2). The connection that it had is closed (MQTT 3.1.4).
+    // Makes this the client's current connection: closes the old one (MQTT 3.1.4) and appends
+    // CONNACK with Session Present (MQTT 3.2.2.2).
     fn take_client_over(
         &mut self,
         connection: ConnectionName,
@@ -135,7 +135,7 @@ impl Tables {
         move_client(&mut self.owners, left, connection, client)
     }
 
-    /// Returns the connection on which a client is served, if it is.
+    /// Returns the client's current connection, if it has one.
     pub(crate) fn connection_of(&self, client: &ClientId) -> Option<ConnectionName>
         ensures { result ≡ connection_of (session_in client.now self.now.sessions.entries) }
     {
@@ -145,8 +145,8 @@ impl Tables {
         }
     }
 
-    // Resumes a session on a new connection: what is in flight is sent again, then what may start
-    // starts (MQTT 4.4).
+    // Resumes a session on a new connection: sends the retransmissions, then starts what may start
+    // (MQTT 4.4).
     fn resume(
         &mut self,
         connection: ConnectionName,
@@ -169,7 +169,7 @@ impl Tables {
 }
 
 impl Tables {
-    // Resumes the client's session on this connection, and sends what it has for the client.
+    // Resumes the client's row on this connection and appends its packets as outputs.
     fn resume_row(
         &mut self,
         connection: ConnectionName,
@@ -193,7 +193,7 @@ impl Tables {
     }
 }
 
-// Enters the client in the map of connections at this connection, and removes its old one.
+// Enters the connection in the map as the client's, and removes the client's old one.
 fn move_client(
     owners: &mut BTreeMap<ConnectionName, ClientId>,
     left: Option<ConnectionName>,
@@ -211,8 +211,8 @@ fn move_client(
     Ok(())
 }
 
-// Appends the answers to a Connect that is accepted: the Close of the connection that the client
-// had (MQTT 3.1.4), and a CONNACK that says whether a session continues (MQTT 3.2.2.2).
+// Appends the answers to an accepted Connect: the Close of the client's old connection (MQTT
+// 3.1.4), then CONNACK with Session Present (MQTT 3.2.2.2).
 fn answer_connect(
     left: Option<ConnectionName>,
     connection: ConnectionName,
@@ -231,7 +231,7 @@ fn answer_connect(
     Ok(())
 }
 
-// Appends the answers to a Connect that would begin a session too many (MQTT 3.2.2.3).
+// Appends the answers to a Connect over the limit of sessions: CONNACK 3 and Close (MQTT 3.2.2.3).
 fn turn_away(connection: ConnectionName, out: &mut Vec<Output>) -> Result<(), Halted>
     ensures { OnOk result
         (out.new.items ≡ out.old.items ++ turned_away connection ∷ outputs.Close connection ∷ []) }

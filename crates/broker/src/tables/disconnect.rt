@@ -1,4 +1,4 @@
-// The end of a connection: its loss, a DISCONNECT, and what MQTT forbids (MQTT 3.1.2.4, 3.14.4,
+// The end of a connection: its loss, DISCONNECT, and protocol violations (MQTT 3.1.2.4, 3.14.4,
 // 4.8).
 
 ghost use Rattle.std.specs.Prelude.{◌≡◌, ◌++◌, [], ◌∷◌, OnOk, OnErr};
@@ -17,9 +17,9 @@ use std::collections::BTreeMap;
 use subs_base::SubIndex;
 
 impl Tables {
-    /// Ends a connection in the tables, and appends nothing: its client is no longer served, and a
-    /// clean session ends with it, including its subscriptions. A connection that is no client's
-    /// current one changes nothing.
+    /// Ends a connection in the tables and appends nothing: its client has no connection any more,
+    /// and a clean session is removed with its subscriptions. If it is no client's current
+    /// connection nothing changes.
     pub(crate) fn end_connection(&mut self, connection: ConnectionName)
         requires { IsConsistent self.old }
         ensures state { state_in self.new ≡ (stepped self.old (commands.Lost connection)).0 }
@@ -37,7 +37,7 @@ impl Tables {
         row.connection = None;
     }
 
-    /// Closes a connection: appends its Close, and ends it in the tables.
+    /// Closes a connection: appends its Close and ends it in the tables.
     pub(crate) fn close(
         &mut self,
         connection: ConnectionName,
@@ -56,7 +56,7 @@ impl Tables {
     }
 }
 
-/// Appends the Close of a connection, if there is one. The tables stay as they are.
+/// Appends the Close of a connection, if there is one.
 pub(crate) fn push_close(left: Option<ConnectionName>, out: &mut Vec<Output>) -> Result<(), Halted>
     ensures closes { OnOk result (out.new.items ≡ out.old.items ++ close_outputs left) }
     ensures unsent { OnErr result (out.new.items ≡ out.old.items) }

@@ -12,9 +12,9 @@ use packet_base::ClientId;
 use subs_base::SubIndex;
 
 impl Tables {
-    /// Ends a client's session, with its subscriptions, its received identifiers and its entries,
-    /// and closes its connection. Without a session nothing changes. Only the Close takes memory:
-    /// if there is none for it, all stays as it was.
+    /// Removes a client's session, with its subscriptions, received identifiers and entries, and
+    /// closes its connection. Without a session nothing changes. Only the Close takes memory: if
+    /// there is none for it, nothing has changed.
     pub(crate) fn expel(&mut self, client: &ClientId, out: &mut Vec<Output>) -> Result<(), Halted>
         requires { IsConsistent self.old }
         ensures step { OnOk result

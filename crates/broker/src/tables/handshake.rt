@@ -1,5 +1,5 @@
-// The steps of handshakes: PUBACK, PUBREC, PUBREL and PUBCOMP (MQTT 3.4 to 3.7). Each changes only
-// its sender's session, and answers it.
+// PUBACK, PUBREC, PUBREL and PUBCOMP (MQTT 3.4 to 3.7). Each changes only its sender's session, and
+// only its sender is answered.
 
 ghost use Rattle.std.specs.Prelude.{◌≡◌, OnOk, Some, true};
 ghost use Rattle.broker_spec.specs.declared.command.Command.TheVariants as commands;
@@ -15,7 +15,7 @@ use packet::Packet;
 use packet_base::ClientId;
 
 impl Tables {
-    /// Takes a step of a handshake of the client that is served on this connection.
+    /// Handles such a packet of the client that is served on this connection.
     pub(crate) fn handshake(
         &mut self,
         connection: ConnectionName,

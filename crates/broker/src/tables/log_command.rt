@@ -1,4 +1,4 @@
-// One command of the log.
+// Applying one command of the log.
 
 ghost use Rattle.std.specs.Prelude.{OnOk};
 ghost use Rattle.broker.specs.tables.Tables.{DoesCommand, IsConsistent, IsTied};
@@ -8,8 +8,8 @@ use broker_spec::{Command, Output};
 use machine::Halted;
 
 impl Tables {
-    /// Applies one command, and appends its outputs. `Halted` says that memory ran out: the tables
-    /// may then be half changed, and are not used again.
+    /// Applies one command and appends its outputs. `Halted` if memory ran out: the tables may then
+    /// be half changed and must not be used again.
     pub fn apply(&mut self, command: &Command, out: &mut Vec<Output>) -> Result<(), Halted>
         requires { IsConsistent self.old }
         ensures step { OnOk result

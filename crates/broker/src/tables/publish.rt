@@ -1,4 +1,12 @@
-// PUBLISH: a client's publication, sent to each client that subscribed to it (MQTT 3.3).
+// PUBLISH: a client publishes (MQTT 3.3).
+//
+// The order of the calls in `publish` matters. Whether the publication is a repeat, who is granted
+// it, and whether every one of those sessions and the retained store has room is decided before
+// anything changes: a publication is taken as a whole or refused as a whole, and a refused one ends
+// its publisher's connection, so that no later publication overtakes it. Room that was there
+// beforehand lasts until each copy is queued, since each session gets one copy
+// (`room_lasts_to_its_turn`). After that the only error is that memory ran out. The publisher is
+// acknowledged first, then the copies go out in the order of the clients' bytes.
 
 ghost use Rattle.std.specs.Prelude.{◌≡◌, ◌++◌, false, Some, OnOk, IfOk, IfSome};
 ghost use Rattle.std.specs.List.{list_any};
@@ -30,8 +38,9 @@ use subs_base::SubIndex;
 use topics::TopicName;
 
 impl Tables {
-    /// Handles a PUBLISH of the client that is served on this connection. A repeat is answered once
-    /// more, one for which there is no room closes the connection, and any other is taken.
+    /// Handles a PUBLISH of the client that is served on this connection. A repeat is acknowledged
+    /// once more, a publication for which there is no room closes the connection, and any other is
+    /// taken.
     pub(crate) fn publish(
         &mut self,
         connection: ConnectionName,
@@ -63,7 +72,7 @@ impl Tables {
         Ok(())
     }
 
-    // Returns the clients with a subscription that matches, each with the greatest QoS.
+    // Returns the clients with a matching subscription, each with the greatest QoS of those.
     fn granted(&self, topic: &TopicName) -> Result<Vec<(ClientId, QoS)>, Memory>
         requires { IsConsistent self.now }
         ensures { IfOk result
@@ -74,8 +83,8 @@ impl Tables {
         Ok(rows)
     }
 
-    // Returns true if a session that is granted the publication lacks room for it, or it is one
-    // topic too many.
+    // Returns true if a granted session lacks room for the publication, or retaining it would
+    // exceed the topic limit.
     fn refuses(&self, publication: &Publication, granted: &[(ClientId, QoS)]) -> bool
         requires { granted.now ≡ granted_rows publication.now.topic self.now.sessions.entries }
         ensures { result ≡ is_refused_by_rows usual_limits (state_in self.now) publication.now }
@@ -84,8 +93,8 @@ impl Tables {
             || is_one_topic_over(&self.retained, publication)
     }
 
-    // Notes the identifier of a PUBLISH at QoS 2 in the session of this client, if it has one (MQTT
-    // 4.3.3).
+    // Registers the identifier of a PUBLISH at QoS 2 in the session of this client, if it has one
+    // (MQTT 4.3.3).
     fn note_received(&mut self, client: &ClientId, delivery: Delivery) -> Result<(), Halted>
         requires { IfSome (session_in client.now self.old.sessions.entries)
             (λ kept. repeats_taken kept delivery ≡ false) }
@@ -101,7 +110,7 @@ impl Tables {
     }
 }
 
-// Returns true if a delivery is a repeat of one that the session took (MQTT 4.3.3).
+// Returns true if the session received this identifier at QoS 2 and no PUBREL since (MQTT 4.3.3).
 fn repeats_taken(row: &ClientRow, delivery: Delivery) -> bool
     ensures { result ≡ repeats_taken row.now delivery }
 {
@@ -111,7 +120,7 @@ fn repeats_taken(row: &ClientRow, delivery: Delivery) -> bool
     }
 }
 
-// Appends the answer to a PUBLISH, by its QoS (MQTT 3.3.4).
+// Appends the acknowledgement of a PUBLISH: none, PUBACK or PUBREC, by its QoS (MQTT 3.3.4).
 fn acknowledge(
     connection: ConnectionName,
     delivery: Delivery,
@@ -127,7 +136,7 @@ fn acknowledge(
     Ok(())
 }
 
-// Notes the identifier of a PUBLISH at QoS 2 in the session of a row (MQTT 4.3.3).
+// Registers the identifier of a PUBLISH at QoS 2 in this row (MQTT 4.3.3).
 fn note_identifier(row: &mut ClientRow, delivery: Delivery) -> Result<(), Halted>
     requires { repeats_taken row.old delivery ≡ false }
     ensures { OnOk result (row.new ≡ received_on delivery row.old) }
@@ -138,7 +147,7 @@ fn note_identifier(row: &mut ClientRow, delivery: Delivery) -> Result<(), Halted
     Ok(())
 }
 
-// Returns true if a session would have to queue the publication and is full.
+// Returns true if the session would have to queue the publication and is full.
 fn lacks_room(
     sessions: &BTreeMap<ClientId, ClientRow>,
     publication: &Publication,
@@ -154,7 +163,7 @@ fn lacks_room(
     }
 }
 
-// Returns true if a session that is granted it would have to queue the publication and is full.
+// Returns true if a granted session would have to queue the publication and is full.
 fn any_lacks_room(
     sessions: &BTreeMap<ClientId, ClientRow>,
     publication: &Publication,
@@ -169,14 +178,14 @@ fn any_lacks_room(
         .any(|row| lacks_room(sessions, publication, row))
 }
 
-// Returns true if the publication is to be retained on a topic too many.
+// Returns true if retaining the publication would exceed the topic limit.
 fn is_one_topic_over(retained: &RetainedStore, publication: &Publication) -> bool
     ensures { result ≡ is_one_topic_over usual_limits retained.now publication.now }
 {
     publication.retain && retained.refuses(&publication.topic, &publication.payload)
 }
 
-// Gives each session that is granted the publication its copy, and each client what is sent of it.
+// Adds the publication to each granted session, and appends what each client is sent.
 fn deliver_all(
     sessions: &mut BTreeMap<ClientId, ClientRow>,
     window: Window,
@@ -199,7 +208,7 @@ fn deliver_all(
     Ok(())
 }
 
-// Gives a session that is granted the publication its copy, and its client what is sent of it.
+// Adds the publication to one granted session, and appends what its client is sent.
 fn deliver_to(
     sessions: &mut BTreeMap<ClientId, ClientRow>,
     window: Window,
@@ -223,8 +232,7 @@ fn deliver_to(
     Ok(())
 }
 
-// Keeps a publication with RETAIN 1 (MQTT 3.3.1.3). There is room for it, since the publication is
-// taken.
+// Retains the publication if it has RETAIN 1 (MQTT 3.3.1.3). `refuses` said that there is room.
 fn retain(retained: &mut RetainedStore, publication: Publication) -> Result<(), Halted>
     requires { is_one_topic_over usual_limits retained.old publication ≡ false }
     ensures { OnOk result (retained.new ≡ retains publication retained.old) }

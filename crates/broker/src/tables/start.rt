@@ -17,8 +17,8 @@ use subs::TreeIndex;
 use subs_base::SubIndex;
 
 impl Tables {
-    /// Handles a Start: no client is served any more, the clean sessions end, and the window is the
-    /// wide one.
+    /// Handles a Start: no client has a connection any more, clean sessions are removed, and the
+    /// window is the wide one from now on.
     pub(crate) fn start(&mut self, ballot: u64)
         requires { IsConsistent self.old }
         ensures state { state_in self.new ≡ (stepped self.old (commands.Start ballot)).0 }
@@ -31,7 +31,7 @@ impl Tables {
     }
 }
 
-// Drops the clients of the clean sessions from the index.
+// Drops the clients of clean sessions from the index.
 fn drop_clean_clients(index: &mut TreeIndex, sessions: &BTreeMap<ClientId, ClientRow>)
     ensures { content_of index.new
         ≡ all_dropped (clean_clients sessions.now.entries) (content_of index.old) }
@@ -43,14 +43,14 @@ fn drop_clean_clients(index: &mut TreeIndex, sessions: &BTreeMap<ClientId, Clien
     }
 }
 
-// Leaves each session without a connection, or ends it.
+// Removes the connection of each session, and each clean session.
 fn leave_off_all(sessions: &mut BTreeMap<ClientId, ClientRow>)
     ensures { sessions.new.entries ≡ all_left_off sessions.old.entries }
 {
     sessions.retain(|_, row| leave_off(row));
 }
 
-// Leaves a session without a connection, and says whether it stays.
+// Removes the connection of a session; false if the session is clean and ends.
 fn leave_off(row: &mut ClientRow) -> bool
     ensures { left_off row.old ≡ if result then Some row.new else None }
 {

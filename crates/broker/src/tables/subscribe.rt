@@ -22,7 +22,7 @@ use subs_base::SubIndex;
 
 impl Tables {
     /// Handles a SUBSCRIBE of the client that is served on this connection. Each filter is granted
-    /// or not, SUBACK says which, and what is retained of those that are is sent after it.
+    /// or not; SUBACK says which, and the retained publications that match a granted one follow.
     pub(crate) fn subscribe(
         &mut self,
         connection: ConnectionName,
@@ -58,7 +58,7 @@ impl Tables {
     }
 }
 
-// Sets the filters that are granted in the index.
+// Sets the granted filters in the index.
 fn set_all(
     index: &mut TreeIndex,
     client: &ClientId,
@@ -78,7 +78,7 @@ fn set_all(
     Ok(())
 }
 
-// Returns the answer to each filter (MQTT 3.9.3).
+// Returns the return code of each filter (MQTT 3.9.3).
 fn codes_of(
     alloc: Global,
     filters: &[Subscription],

@@ -1,4 +1,13 @@
-// What a broker keeps of all its clients.
+// The tables of a broker.
+//
+// `window`, `sessions` and `retained` are the state; `owners` and `index` are derived from the
+// sessions and find a row without a scan: the client of a connection, the clients of a topic.
+// Tables are tied (`IsTied`) if `owners` has exactly the connections of the sessions and the
+// content of `index` is the subscriptions of the sessions. Each command, one file for each kind,
+// expects tied tables over a sound state and leaves them so; while it runs they are not, so if
+// memory runs out in the middle the tables must not be used again. No command except a Start goes
+// over all sessions. The sessions are ordered by the bytes of their clients: that is the order of
+// copies and of the frozen form, the same on each replica.
 
 ghost use Rattle.std.specs.Prelude.{◌≡◌};
 ghost use Rattle.broker_base.specs.State.{empty_state};
@@ -14,20 +23,18 @@ use std::collections::BTreeMap;
 use subs::TreeIndex;
 use subs_base::SubIndex;
 
-/// The sessions by client, and the retained publications. The map of connections and the index of
-/// subscriptions contain nothing new: they find a row without a walk over all.
+/// The sessions by client, and the retained publications. The map of connections and the index add
+/// no state: they find a row without a scan over all.
 pub struct Tables {
-    /// How many entries of a session may be in flight at once.
+    /// The most entries of a session in flight.
     pub window: Window,
-    /// By client.
     pub sessions: BTreeMap<ClientId, ClientRow>,
     /// The client of each current connection.
     pub owners: BTreeMap<ConnectionName, ClientId>,
-    /// All clients' subscriptions.
+    /// The subscriptions of all clients.
     pub index: TreeIndex,
-    /// By topic.
     pub retained: RetainedStore,
-    /// The allocator for what is made for a command.
+    /// For what a command allocates.
     pub alloc: Global,
 }
 

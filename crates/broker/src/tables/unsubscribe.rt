@@ -44,7 +44,7 @@ impl Tables {
     }
 }
 
-// Removes these filters from the session, one by one.
+// Removes these filters from the session.
 fn unsubscribe_all(session: &mut Session, filters: &[Filter])
     ensures { session.new
         ≡ with_granted (without_filters filters.now session.old.subscriptions) session.old }
@@ -54,7 +54,7 @@ fn unsubscribe_all(session: &mut Session, filters: &[Filter])
     }
 }
 
-// Removes these filters of the client from the index.
+// Removes the client's subscriptions to these filters from the index.
 fn clear_all(index: &mut TreeIndex, client: &ClientId, filters: &[Filter])
     ensures { content_of index.new ≡ all_cleared client.now filters.now (content_of index.old) }
 {

@@ -1,4 +1,4 @@
--- What a command does to a broker, and the rules of its machine.
+-- The rules of the broker's machine.
 use Rattle.std.specs.Prelude.{List}
 use Rattle.machine.specs.Machine.{Rules}
 use Rattle.broker_spec.specs.Commands.{usual_limits}
@@ -19,8 +19,8 @@ after state command = (step usual_limits wide_window state command).0
 abbrev pub answers : State → Command → List Output
 answers state command = (step usual_limits wide_window state command).1
 
--- the rules of the broker's machine: it begins with the wide window, then goes step by step, and
--- is frozen to form 2
+-- the rules of the broker's machine: it begins empty with the wide window, applies one step for
+-- each command, and is frozen to form 2
 abbrev pub broker_rules : Rules State Command Output
 broker_rules =
     record {

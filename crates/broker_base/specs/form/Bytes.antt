@@ -1,5 +1,5 @@
--- The bytes to which a broker is frozen: form 2, and form 1 as it was. Numbers are big-endian, a
--- text has its length in two bytes before it.
+-- The bytes to which a broker is frozen: form 2, and the earlier form 1. Numbers are big-endian; a
+-- text comes after its length in two bytes.
 use Rattle.std.specs.Prelude.{ℕ, List, [], ◌∷◌, ◌++◌, length, Option, Some, None}
 use Rattle.std.specs.Int.{w64, to_be_bytes}
 use Rattle.packet_base.specs.Spelling.{number, text, bit}
@@ -16,7 +16,7 @@ use Rattle.broker_base.specs.State.{State}
 abbrev pub wide_number : ℕ → List ℕ
 wide_number value = to_be_bytes w64 value
 
--- whether there is a current connection, and which
+-- whether there is a current connection, and its name
 abbrev pub connection_bytes : Option ConnectionName → List ℕ
 connection_bytes None = 0 ∷ []
 connection_bytes (Some connection) =
@@ -27,7 +27,7 @@ abbrev pub row_bytes : Client × ClientSession → List ℕ
 row_bytes row =
     text row.0 ++ (bit row.1.clean ∷ (connection_bytes row.1.connection ++ state_bytes row.1.state))
 
--- the bytes of a topic with what is retained of it
+-- the bytes of a topic with its retained publication
 abbrev pub retained_bytes : List ℕ × RetainedPublication → List ℕ
 retained_bytes row =
     qos_number row.1.qos ∷ (text row.0 ++ (long_number (length row.1.payload) ++ row.1.payload))

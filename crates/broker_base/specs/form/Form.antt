@@ -1,4 +1,4 @@
--- The broker that is thawed from bytes of form 1 or 2 (`Writing.antt`), if any.
+-- Reading a broker from its bytes, form 1 or 2 (`Bytes.antt`).
 use Rattle.std.specs.Prelude.{ℕ, not, ◌&&◌, ◌||◌, ◌==◌, Bool, nat_lt, nat_le, if◌then◌else◌, List}
 use Rattle.std.specs.Prelude.{length, Option, Some, None, is_some, Result, Ok, Err}
 use Rattle.std.specs.Int.{w64, from_be_bytes}
@@ -35,12 +35,12 @@ name_at bytes = do
   check_form (is_connection_name (record { ballot = ballot.0; count = count.0 }))
   Ok (Some (record { ballot = ballot.0; count = count.0 }), count.1)
 
--- whether there is a current connection, and which
+-- whether there is a current connection, and its name
 unfoldable pub connection_at : List ℕ → Result (Option ConnectionName × List ℕ) Stop
 connection_at bytes =
     flag_at bytes >>= (λ flag. if flag.0 then name_at flag.1 else Ok (None, flag.1))
 
--- a Client Identifier, as the broker accepts it
+-- a Client Identifier in the range of this broker
 unfoldable pub client_at : List ℕ → Result (Client × List ℕ) Stop
 client_at bytes = do
   client ← text_at bytes
@@ -68,7 +68,7 @@ retainable row = do
   check_form (is_retainable row)
   Ok row
 
--- a topic with what is retained of it
+-- a topic with its retained publication
 unfoldable pub retained_at : List ℕ → Result ((List ℕ × RetainedPublication) × List ℕ) Stop
 retained_at bytes = do
   qos ← qos_at bytes
@@ -108,7 +108,7 @@ broker_at bytes = do
   head ← head_at bytes
   content_at head.0 head.1
 
--- what was read, if the reading did not stop
+-- the value that was read, if the reading did not stop
 abbrev pub found : {A : Type 0} → Result A Stop → Option A
 found (Ok value) = Some value
 found (Err stop) = None

@@ -29,7 +29,7 @@ content_of_a =
     0 ∷ 1 ∷ 0 ∷ 1 ∷ 0x61 ∷ 0 ∷ 1 ∷ 0 ∷ 0 ∷ 0 ∷ 0 ∷ 0 ∷ 0 ∷ 0 ∷ 1 ∷ 0 ∷ 0 ∷ 0 ∷ 0 ∷ 0 ∷ 0 ∷ 0 ∷ 1
     ∷ 0 ∷ 0 ∷ 0 ∷ 0 ∷ 0 ∷ 0 ∷ 0 ∷ 0 ∷ 0 ∷ []
 
--- a new broker is frozen to form 2, with the window of 64
+-- a new broker is frozen to form 2 with the window of 64
 abbrev pub FreshIsFrozen : Type 0
 FreshIsFrozen = frozen (empty_state 64) ≡ 0x02 ∷ 0x40 ∷ no_content
 

@@ -1,5 +1,5 @@
--- A frozen broker is thawed as that broker; what is thawed is in its ranges, and is frozen to the
--- same bytes.
+-- A frozen broker thaws to that broker; a thawed broker is in its ranges, and is frozen to the same
+-- bytes.
 use Rattle.std.specs.Prelude.{◌≡◌, ℕ, ◌⊎◌, List, Some, IfOk}
 use Rattle.packet_base.specs.Readers.{AreBytes}
 use Rattle.broker_spec.specs.Commands.{usual_limits}
@@ -10,8 +10,8 @@ use Rattle.broker_base.specs.form.InRange.{IsBrokerState}
 use Rattle.broker_base.specs.form.Form.{broker_at, thawed}
 use Rattle.broker_base.specs.form.Bytes.{frozen, frozen_before}
 
--- a state of this broker: its window is 16 or 64, and no more of a session is in flight than it
--- allows
+-- a state of this broker: its window is 16 or 64, and no more entries of a session are in flight
+-- than it allows
 abbrev pub IsUsualState : State → Type 0
 IsUsualState state =
     IsBrokerState usual_limits state × IsWindowSize state.window

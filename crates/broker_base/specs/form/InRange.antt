@@ -1,5 +1,5 @@
--- What holds in every state of a broker, whatever its commands were: no more than the limits allow,
--- and each number, text and publication in its range (MQTT 1.5.3, 2.3.1, 3.3, 4.7).
+-- The range of every state of a broker, whatever its commands were: within the limits, and each
+-- number, text and publication as the standard requires (MQTT 1.5.3, 2.3.1, 3.3, 4.7).
 use Rattle.std.specs.Prelude.{ℕ, ◌≤◌, IsTrue, true, List, length, Option, Some, None}
 use Rattle.std.specs.List.{AllByRecursion}
 use Rattle.packet_base.specs.Spelling.{IsId}
@@ -14,14 +14,14 @@ use Rattle.broker_base.specs.ClientSession.{ClientSession}
 use Rattle.broker_base.specs.State.{State}
 use Rattle.broker_base.specs.StateTheorems.{IsSound}
 
--- ---- what is retained
+-- ---- retained publications
 
--- what is retained: a publication with a payload, on its topic (MQTT 3.3.1.3)
+-- a retained publication with its topic (MQTT 3.3.1.3)
 abbrev pub as_publication : List ℕ × RetainedPublication → Publication
 as_publication row =
     record { retain = true; qos = row.1.qos; topic = row.0; payload = row.1.payload }
 
--- the payload has a byte, and its PUBLISH can be sent
+-- it has a payload, and its PUBLISH can be encoded
 abbrev pub IsRetained : List ℕ × RetainedPublication → Type 0
 IsRetained row = (1 ≤ length row.1.payload) × CanBeSent (as_publication row)
 
@@ -32,7 +32,7 @@ abbrev pub IsNamed : Option ConnectionName → Type 0
 IsNamed (Some connection) = IsConnectionName connection
 IsNamed None = Unit {0}
 
--- a session of a client, with no more filters and entries than it may hold, and each in its range
+-- a client's session, with no more filters and entries than the limits, and each in its range
 pub record IsSession (limits : Limits) (owner : Client) (kept : ClientSession) : Type 0 where
   pub client : IsTrue (is_client owner)
   pub connection : IsNamed kept.connection
@@ -41,7 +41,7 @@ pub record IsSession (limits : Limits) (owner : Client) (kept : ClientSession) :
   pub received : AllByRecursion IsId kept.state.received
   pub queue : IsQueue limits.entries kept.state.queue
 
--- ---- all of it
+-- ---- the whole state
 
 -- a state that is sound, within the limits, and in its ranges
 pub record IsBrokerState (limits : Limits) (state : State) : Type 0 where

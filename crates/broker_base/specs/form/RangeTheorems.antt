@@ -1,5 +1,5 @@
--- Laws: a command of the log keeps a state in its ranges, and everything that the broker sends can
--- be spelled.
+-- Theorems: a command of the log keeps a state in its ranges, and every packet that the broker
+-- sends can be encoded.
 use Rattle.std.specs.Prelude.{ℕ, ◌<◌, ◌^◌, List}
 use Rattle.std.specs.List.{AllByRecursion}
 use Rattle.packet.specs.Spelling.{IsPacket}
@@ -26,7 +26,7 @@ abbrev pub CanBeSpelled : Output → Type 0
 CanBeSpelled (Send connection packet) = IsPacket packet
 CanBeSpelled (Close connection) = Unit {0}
 
--- every answer to a command has one
+-- every packet in the answers to a command has a spelling
 abbrev pub AnswersAreSpelled : Type 0
 AnswersAreSpelled =
     (limits : Limits) → (later : ℕ) → (state : State) → (command : Command) →

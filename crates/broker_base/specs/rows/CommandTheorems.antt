@@ -37,7 +37,8 @@ NobodyChangesNothing =
     owner_in connection state.sessions ≡ None → is_accepted (mark_in limits state command) ≡ false →
     (step limits later state command).0.sessions ≡ state.sessions
 
--- a map from connections to clients that is kept in step finds the row that owns a connection
+-- a map from connections to clients that agrees with the sessions finds the row that owns a
+-- connection
 abbrev pub OwnerIsFoundByMap : Type 0
 OwnerIsFoundByMap =
     (owners : Owners) → (connection : ConnectionName) → (sessions : Sessions) →

@@ -1,6 +1,6 @@
--- What a Connect does on a connection that is no client's current one: the client's session begins
--- or continues, and no other is touched; and what a Start changes (MQTT 3.1.2.4, 3.1.4, 3.2.2,
--- 4.4).
+-- The step of a Connect on a connection that is no client's current one, whose client's session
+-- begins or is resumed while no other is touched; and the step of a Start (MQTT 3.1.2.4, 3.1.4,
+-- 3.2.2, 4.4).
 use Rattle.std.specs.Prelude.{◌≡◌, ℕ, Bool, true, false, ◌||◌, nat_lt, length, [], ◌∷◌, ◌++◌, map}
 use Rattle.std.specs.Prelude.{Some, None, is_some, option_map}
 use Rattle.std.specs.BTreeMap.{insert_entry}
@@ -20,7 +20,7 @@ use Rattle.broker_spec.specs.declared.command.Output.TheVariants.{Send, Close}
 use Rattle.broker_base.specs.rows.Touched.{written}
 use Rattle.broker_base.specs.rows.Served.{with_session, left_off}
 
--- whether the client has a session, or one more may begin
+-- whether the client has a session, or the limit of sessions allows one more
 abbrev pub may_have_session : Limits → State → Client → Bool
 may_have_session limits state client =
     is_some (session_in client state.sessions) || nat_lt (length state.sessions) limits.sessions
@@ -50,8 +50,8 @@ BeginningStep =
           ++ welcome connection false ∷ [],
     )
 
--- Any other continues with the session that it finds: what is in flight is sent again in order, and
--- what may start then starts (MQTT 4.4).
+-- Any other resumes the session that it finds: what is in flight is retransmitted in order, and
+-- then what may start starts (MQTT 4.4).
 abbrev pub ResumingStep : Type 0
 ResumingStep =
     (limits : Limits) → (later : ℕ) → (state : State) → (connection : ConnectionName) →
@@ -68,7 +68,7 @@ ResumingStep =
           ++ fill_sends state.window kept.state.queue.in_flight kept.state.queue.waiting),
     )
 
--- one that would begin a session too many is refused (MQTT 3.2.2.3)
+-- one that would exceed the limit of sessions is refused (MQTT 3.2.2.3)
 abbrev pub FullStep : Type 0
 FullStep =
     (limits : Limits) → (later : ℕ) → (state : State) → (connection : ConnectionName) →
@@ -77,7 +77,7 @@ FullStep =
     step limits later state (commands.Connect connection client clean)
     ≡ (state, turned_away connection ∷ Close connection ∷ [])
 
--- if the client has a session, the insertion of one writes it
+-- if the client has a session, inserting one is writing it
 abbrev pub InsertionWrites : Type 0
 InsertionWrites =
     (client : Client) → (old new : ClientSession) → (sessions : Sessions) → AreByClient sessions →

@@ -1,5 +1,5 @@
--- Copies that come to a connected client's session in parts, as a loop brings them, and a SUBSCRIBE
--- filter by filter (MQTT 3.8.4, 4.6).
+-- Copies that a loop adds to a connected client's session in parts, and a SUBSCRIBE filter by
+-- filter (MQTT 3.8.4, 4.6).
 use Rattle.std.specs.Prelude.{◌≡◌, ℕ, ◌-◌, Bool, true, false, not, ◌||◌, nat_lt, if◌then◌else◌}
 use Rattle.std.specs.Prelude.{List, [], ◌∷◌, ◌++◌, length}
 use Rattle.packet.specs.declared.packet.Packet.{Packet}
@@ -17,8 +17,8 @@ use Rattle.broker_spec.specs.Entries.{copies_for, copies_for_all, queued}
 use Rattle.broker_spec.specs.Marks.{is_one_too_many, entries_for, grants}
 use Rattle.broker_base.specs.rows.PacketTheorems.{subscribed_to}
 
--- copies that come in two parts lead to the same session as all at once, and the same packets are
--- sent
+-- copies that are added in two parts lead to the same session and send the same packets as all at
+-- once
 abbrev pub CopiesJoin : Type 0
 CopiesJoin =
     (window : ℕ) → (copies more : List Publication) → (queue : Queue) →
@@ -44,8 +44,8 @@ CopiesFindRoom =
 
 -- ---- filter by filter
 
--- whether a filter is granted to this session: it is not one too many, and there is room for its
--- copies
+-- whether this session grants a filter: it does not exceed the limit of subscriptions, and there is
+-- room for its copies
 abbrev pub is_granted_in : Limits → RetainedTopics → SessionState → Subscription → Bool
 is_granted_in limits content session new =
     not
@@ -65,7 +65,7 @@ sent_by limits window content session new =
     then copies_sent window (copies_for content new) session.queue
     else []
 
--- which filters are granted, each of the session that those before it left
+-- which filters are granted, each by the session that those before it left
 abbrev pub granted_in_turn : Limits → ℕ → RetainedTopics → SessionState → List Subscription →
     List Bool
 granted_in_turn limits window content session (new ∷ more) =

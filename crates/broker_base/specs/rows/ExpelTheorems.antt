@@ -14,7 +14,7 @@ use Rattle.broker_base.specs.rows.Served.{with_session}
 use Rattle.broker_base.specs.rows.Owners.{owners_in, without_owner}
 use Rattle.broker_base.specs.rows.Indexed.{content_in}
 
--- the session with all that it kept is removed, and its connection, if it has one, is closed
+-- the session is removed with everything in it, and its connection, if it has one, is closed
 abbrev pub ExpelStep : Type 0
 ExpelStep =
     (limits : Limits) → (later : ℕ) → (state : State) → (client : Client) → (kept : ClientSession) →

@@ -1,4 +1,4 @@
--- Packets that change nothing: PINGREQ, a repeat, a packet of nobody.
+-- Packets that change nothing: PINGREQ, a repeat, and any packet on no client's current connection.
 use Rattle.std.specs.Prelude.{◌≡◌, ℕ, true, [], ◌∷◌, None}
 use Rattle.packet.specs.declared.publish.Publish.{Publish}
 use Rattle.packet.specs.declared.packet.Packet.{Packet}
@@ -22,7 +22,7 @@ PingreqStep =
     step limits later state (commands.Packet connection packets.Pingreq)
     ≡ (state, Send connection packets.Pingresp ∷ [])
 
--- a repeat of a PUBLISH that was taken is answered once more (MQTT 4.3.3)
+-- a repeat of a taken PUBLISH is acknowledged once more (MQTT 4.3.3)
 abbrev pub RepeatStep : Type 0
 RepeatStep =
     (limits : Limits) → (later : ℕ) → (state : State) → (connection : ConnectionName) →

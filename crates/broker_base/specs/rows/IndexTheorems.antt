@@ -1,5 +1,5 @@
--- How an index of the sessions' subscriptions follows a step: how it has to change, if it contained
--- them before (MQTT 3.1.2.4, 3.8.4, 3.10.4).
+-- How an index of the sessions' subscriptions has to change with each step to stay in agreement
+-- with them (MQTT 3.1.2.4, 3.8.4, 3.10.4).
 use Rattle.std.specs.Prelude.{◌≡◌, ℕ, Bool, if◌then◌else◌, List, Some}
 use Rattle.std.specs.BTreeMap.{insert_entry}
 use Rattle.packet.specs.declared.delivery.Delivery.{Delivery}
@@ -21,7 +21,7 @@ use Rattle.broker_base.specs.rows.Published.{session_changed, received_on, all_d
 use Rattle.broker_base.specs.rows.Indexed.{content_in, all_set, all_cleared, all_dropped}
 use Rattle.broker_base.specs.rows.Indexed.{clean_clients, all_subscribed}
 
--- nothing changes if a session is written with the subscriptions that it had
+-- writing a session with the subscriptions that it had changes nothing
 abbrev pub WritingKeepsContent : Type 0
 WritingKeepsContent =
     (client : Client) → (old new : ClientSession) → (rows : Sessions) → AreByClient rows →
@@ -55,7 +55,7 @@ LeavingDropsTheClean =
     content_in (written client (left_off kept) rows)
     ≡ (if kept.clean then without_client (content_in rows) client else content_in rows)
 
--- if a session begins, what the client had before is dropped (MQTT 3.1.2.4)
+-- if a session begins, the client's old subscriptions are dropped (MQTT 3.1.2.4)
 abbrev pub BeginningDrops : Type 0
 BeginningDrops =
     (client : Client) → (opened : ConnectionName × Bool) → (rows : Sessions) → AreByClient rows →
@@ -68,7 +68,7 @@ StartDropsTheClean =
     (rows : Sessions) → AreByClient rows →
     content_in (all_left_off rows) ≡ all_dropped (clean_clients rows) (content_in rows)
 
--- nothing changes if a publication is noted and delivered
+-- taking and delivering a publication changes nothing
 abbrev pub PublishingKeepsContent : Type 0
 PublishingKeepsContent =
     (window : ℕ) → (publication : Publication) → (granted : List Row) → (publisher : Client) →
@@ -77,7 +77,7 @@ PublishingKeepsContent =
     (session_changed publisher (received_on delivery) rows))
     ≡ content_in rows
 
--- an index that is rebuilt gets each session's filters
+-- an index that is rebuilt from the sessions has each session's filters
 abbrev pub IndexMadeAnew : Type 0
 IndexMadeAnew =
     (rows : Sessions) → AreByClient rows → AllSound rows

@@ -1,4 +1,4 @@
--- What an index of the sessions' subscriptions shows.
+-- The content of an index of the sessions' subscriptions.
 use Rattle.std.specs.Prelude.{ℕ, List, [], ◌∷◌, filter, Option, Some, None}
 use Rattle.std.specs.Map.{keys_of}
 use Rattle.packet_base.specs.declared.qos.QoS.{QoS}
@@ -9,7 +9,7 @@ use Rattle.broker_base.specs.ClientSession.{ClientSession}
 use Rattle.broker_base.specs.State.{Sessions, session_in}
 use Rattle.subs_base.specs.Content.{Content, with_row, without_row, without_client}
 
--- the subscription of this filter in a session, if there is one
+-- the QoS of this filter in a session, if it has it
 abbrev pub subscribed_in : List ℕ → Option ClientSession → Option QoS
 subscribed_in filter (Some kept) = qos_asked filter kept.state.subscriptions
 subscribed_in filter None = None
@@ -32,7 +32,7 @@ all_cleared client (filter ∷ more) content =
     all_cleared client more (without_row content client filter)
 all_cleared client [] content = content
 
--- ---- and of several
+-- ---- how it changes for several clients
 
 -- these clients are dropped, one by one
 abbrev pub all_dropped : List (List ℕ) → Content → Content

@@ -1,4 +1,4 @@
--- What ends a served client's connection (MQTT-3.1.0-2, MQTT 3.14.4, 4.8): its session stays
+-- What ends a client's current connection (MQTT-3.1.0-2, MQTT 3.14.4, 4.8): its session is left
 -- without one, and a clean session ends (MQTT 3.1.2.4).
 use Rattle.std.specs.Prelude.{◌≡◌, ℕ, true, Bool, [], ◌∷◌, None}
 use Rattle.packet.specs.declared.packet.Packet.{Packet}
@@ -23,7 +23,7 @@ LeavingStep =
     step limits later state (commands.Packet connection packet)
     ≡ (with_session client (left_off kept) state, Close connection ∷ [])
 
--- a further Connect on a served client's connection closes it, whichever client it names
+-- a further Connect on a client's current connection closes it, whichever client it names
 abbrev pub FurtherConnectStep : Type 0
 FurtherConnectStep =
     (limits : Limits) → (later : ℕ) → (state : State) → (connection : ConnectionName) →
@@ -32,7 +32,7 @@ FurtherConnectStep =
     step limits later state (commands.Connect connection named clean)
     ≡ (with_session client (left_off kept) state, Close connection ∷ [])
 
--- the loss of a served client's connection has no answer
+-- the loss of a client's current connection has no answer
 abbrev pub LostStep : Type 0
 LostStep =
     (limits : Limits) → (later : ℕ) → (state : State) → (connection : ConnectionName) →

@@ -1,5 +1,5 @@
--- How the map from connections to clients follows a step: how it has to change, if it contained the
--- sessions' connections before.
+-- How the map from connections to clients has to change with each step to stay in agreement with
+-- the sessions.
 use Rattle.std.specs.Prelude.{◌≡◌, ℕ, List, Some, None}
 use Rattle.std.specs.BTreeMap.{insert_entry}
 use Rattle.packet.specs.declared.delivery.Delivery.{Delivery}
@@ -17,7 +17,7 @@ use Rattle.broker_base.specs.rows.ConnectTheorems.{all_left_off}
 use Rattle.broker_base.specs.rows.Published.{session_changed, received_on, all_delivered}
 use Rattle.broker_base.specs.rows.Owners.{owners_in, with_owner, without_owner, no_owners, all_owned}
 
--- nothing changes if a session is written with the connection that it had
+-- writing a session with the connection that it had changes nothing
 abbrev pub WritingKeepsOwners : Type 0
 WritingKeepsOwners =
     (client : Client) → (old new : ClientSession) → (rows : Sessions) →
@@ -25,7 +25,7 @@ WritingKeepsOwners =
     new.connection ≡ old.connection → (connection : ConnectionName) →
     owners_in (written client (Some new) rows) connection ≡ owners_in rows connection
 
--- if a served client's connection ends, it is removed from the map
+-- if a client's current connection ends, it is removed from the map
 abbrev pub LeavingRemovesTheOwner : Type 0
 LeavingRemovesTheOwner =
     (state : State) → (connection : ConnectionName) → (client : Client) → (kept : ClientSession) →
@@ -47,8 +47,8 @@ ConnectingSetsTheOwner =
     (without_owner (connection_of (session_in client state.sessions)) (owners_in state.sessions))
     other
 
--- if a session continues on a connection that is no client's current one, it becomes the client's,
--- and the client's old one is removed
+-- if a session is resumed on a connection that is no client's current one, that becomes the
+-- client's, and the client's old one is removed
 abbrev pub ResumingSetsTheOwner : Type 0
 ResumingSetsTheOwner =
     (state : State) → (connection : ConnectionName) → (client : Client) →
@@ -59,13 +59,13 @@ ResumingSetsTheOwner =
     owners_in (written client (Some new) state.sessions) other
     ≡ with_owner connection client (without_owner old.connection (owners_in state.sessions)) other
 
--- a Start leaves none
+-- after a Start no connection is left
 abbrev pub StartRemovesTheOwners : Type 0
 StartRemovesTheOwners =
     (rows : Sessions) → (connection : ConnectionName) →
     owners_in (all_left_off rows) connection ≡ None
 
--- nothing changes if a publication is noted and delivered
+-- taking and delivering a publication changes nothing
 abbrev pub PublishingKeepsOwners : Type 0
 PublishingKeepsOwners =
     (window : ℕ) → (publication : Publication) → (granted : List Row) → (publisher : Client) →
@@ -74,7 +74,7 @@ PublishingKeepsOwners =
     (session_changed publisher (received_on delivery) rows)) connection
     ≡ owners_in rows connection
 
--- a map that is rebuilt gets each session's connection
+-- a map that is rebuilt from the sessions has each session's connection
 abbrev pub OwnersMadeAnew : Type 0
 OwnersMadeAnew =
     (rows : Sessions) → ConnectionsAreApart rows → (connection : ConnectionName)

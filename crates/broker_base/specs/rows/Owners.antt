@@ -1,15 +1,15 @@
--- Which client has each connection as its current one, as a map keeps it.
+-- The map from current connections to clients.
 use Rattle.std.specs.Prelude.{if◌then◌else◌, [], ◌∷◌, Option, Some, None, option_map}
 use Rattle.broker_spec.specs.Connection.{ConnectionName, same_connection}
 use Rattle.broker_spec.specs.Place.{Client}
 use Rattle.broker_base.specs.ClientSession.{ClientSession}
 use Rattle.broker_base.specs.State.{Sessions, session_in, owner_in}
 
--- at each connection the client whose current one it is
+-- for each connection the client whose current one it is
 abbrev pub Owners : Type 0
 Owners = ConnectionName → Option Client
 
--- the map that these sessions make: at each connection the client whose current one it is
+-- the map of these sessions
 abbrev pub owners_in : Sessions → Owners
 owners_in sessions connection =
     option_map (λ (row : Client × ClientSession). row.0) (owner_in connection sessions)
@@ -20,7 +20,7 @@ row_in sessions (Some client) =
     option_map (λ (kept : ClientSession). (client, kept)) (session_in client sessions)
 row_in sessions None = None
 
--- the connection becomes the client's
+-- the connection becomes the client's current one
 abbrev pub with_owner : ConnectionName → Client → Owners → Owners
 with_owner connection client owners other =
     if same_connection connection other then Some client else owners other
@@ -40,7 +40,7 @@ abbrev pub owned_by : Option ConnectionName → Client → Owners → Owners
 owned_by (Some connection) client owners = with_owner connection client owners
 owned_by None client owners = owners
 
--- the connections of all these sessions become their clients'
+-- the map after the connections of all these sessions are entered
 abbrev pub all_owned : Sessions → Owners → Owners
 all_owned (row ∷ rows) owners = all_owned rows (owned_by row.1.connection row.0 owners)
 all_owned [] owners = owners

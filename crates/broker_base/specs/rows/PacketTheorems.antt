@@ -1,5 +1,5 @@
--- What a packet of a served client does if its connection stays open: one session is written, and
--- only its client is answered (MQTT 3.8.4, 3.10.4, 3.12.4, 4.3, 4.6).
+-- The step of a packet that leaves its client's connection open: one session is written, and only
+-- its client is answered (MQTT 3.8.4, 3.10.4, 3.12.4, 4.3, 4.6).
 use Rattle.std.specs.Prelude.{◌≡◌, ℕ, Bool, List, ◌∷◌, map, Some}
 use Rattle.packet.specs.declared.subscribe.Subscription.{Subscription}
 use Rattle.packet.specs.declared.subscribe.Subscribe.{Subscribe}
@@ -47,7 +47,7 @@ handled_state window (packets.Unsubscribe unsubscribe) session =
     with_granted (without_filters unsubscribe.filters session.subscriptions) session
 handled_state window _ session = session
 
--- a packet that is handled writes that to its sender's session, and only its sender is answered
+-- such a packet writes that to its sender's session, and only its sender is answered
 abbrev pub HandledStep : Type 0
 HandledStep =
     (limits : Limits) → (later : ℕ) → (state : State) → (connection : ConnectionName) →
@@ -63,22 +63,22 @@ HandledStep =
 
 -- ---- SUBSCRIBE
 
--- a session whose client is granted these filters: each is set, and the copies of what is retained
--- come (MQTT 3.8.4)
+-- a session that is granted these filters: each is set, and the copies of the matching retained
+-- publications are added (MQTT 3.8.4)
 abbrev pub subscribed_to : ℕ → RetainedTopics → List Subscription → SessionState → SessionState
 subscribed_to window content granted session =
     with_granted (with_subscriptions (map as_granted granted) session.subscriptions)
     (with_queue (copies_left window (copies_for_all content granted) session.queue) session)
 
 -- the packets that answer a SUBSCRIBE if these of its filters are granted: SUBACK, then the copies
--- of what is retained (MQTT 3.8.4)
+-- of the matching retained publications (MQTT 3.8.4)
 abbrev pub subscribe_answers : ℕ → RetainedTopics → Subscribe → List Bool → SessionState →
     List Packet
 subscribe_answers window content subscribe which session =
     packets.Suback (record { id = subscribe.id; codes = codes_of subscribe.filters which })
     ∷ copies_sent window (copies_for_all content (granted_of subscribe.filters which)) session.queue
 
--- SUBSCRIBE sets the filters that are granted, and its client is sent what is retained of them
+-- SUBSCRIBE sets the granted filters, and its client is sent the matching retained publications
 -- (MQTT 3.8.4)
 abbrev pub SubscribeStep : Type 0
 SubscribeStep =

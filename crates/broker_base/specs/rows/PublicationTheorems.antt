@@ -1,4 +1,4 @@
--- A taken publication depends on the rows that an index grants, and on no others (MQTT 3.3.5).
+-- A taken publication depends only on the rows that an index grants (MQTT 3.3.5).
 use Rattle.std.specs.Prelude.{◌≡◌, ℕ, List, flat_map}
 use Rattle.std.specs.List.{list_any}
 use Rattle.packet.specs.declared.publish.Publish.{Publish}
@@ -17,8 +17,7 @@ use Rattle.broker_base.specs.StepAnswers.{copies_answered}
 use Rattle.broker_base.specs.rows.Indexed.{content_in}
 use Rattle.broker_base.specs.rows.Published.{granted_rows, session_lacks_room, copy_answered}
 
--- the rows that an index grants, if it holds the sessions' subscriptions, are the sessions that
--- match
+-- an index that agrees with the sessions grants exactly the sessions that match
 abbrev pub GrantedRowsMatch : Type 0
 GrantedRowsMatch =
     (content : Content) → (topic : List ℕ) → (sessions : Sessions) → (rows : List Row) →
@@ -26,7 +25,7 @@ GrantedRowsMatch =
     content ≡ content_in sessions → IsGranted content topic rows →
     rows ≡ granted_rows topic sessions
 
--- a session lacks room for a publication exactly if a granted one does
+-- some session lacks room for a publication exactly if a granted one does
 abbrev pub RoomIsOfGrantedRows : Type 0
 RoomIsOfGrantedRows =
     (limits : Limits) → (publication : Publication) → (rows : Sessions) → AreByClient rows →
@@ -34,7 +33,7 @@ RoomIsOfGrantedRows =
     ≡ list_any (λ row. session_lacks_room limits publication row.1 (session_in row.0 rows))
     (granted_rows publication.topic rows)
 
--- what all sessions are sent of it is what the granted ones are, in order
+-- what all clients are sent of a publication is what the granted ones are sent, in order
 abbrev pub AnswersAreOfGrantedRows : Type 0
 AnswersAreOfGrantedRows =
     (window : ℕ) → (connection : ConnectionName) → (publish : Publish) → (publisher : Client) →

@@ -1,6 +1,5 @@
--- What a PUBLISH of a served client does, if it is no repeat. It is refused as a whole, or it is
--- taken, and only the granted rows are touched, each of them once (MQTT 3.3.1.3, 3.3.4, 3.3.5,
--- 4.3).
+-- The step of a PUBLISH of a served client that is no repeat. It is refused as a whole, or it is
+-- taken, and then only the granted rows are touched, each once (MQTT 3.3.1.3, 3.3.4, 3.3.5, 4.3).
 use Rattle.std.specs.Prelude.{◌≡◌, ℕ, Bool, false, true, ◌||◌, List, [], ◌∷◌, ◌++◌, Some, None}
 use Rattle.std.specs.List.{list_any}
 use Rattle.packet.specs.declared.publish.Publish.{Publish}
@@ -25,14 +24,15 @@ use Rattle.broker_base.specs.rows.Served.{ServesClient, with_session, left_off}
 use Rattle.broker_base.specs.rows.Published.{granted_rows, session_changed, received_on, delivered_on}
 use Rattle.broker_base.specs.rows.Published.{all_delivered, session_lacks_room, answered_in_turn}
 
--- whether a granted row's session is full for it, or it would be retained on a topic too many
+-- whether a granted session is full for the publication, or retaining it would exceed the topic
+-- limit
 abbrev pub is_refused_by_rows : Limits → State → Publication → Bool
 is_refused_by_rows limits state publication =
     list_any (λ row. session_lacks_room limits publication row.1 (session_in row.0 state.sessions))
     (granted_rows publication.topic state.sessions)
     || is_one_topic_over limits state.retained publication
 
--- a publication that is refused closes its publisher's connection, and no client gets it (MQTT 4.8)
+-- a refused publication closes its publisher's connection, and no client gets it (MQTT 4.8)
 abbrev pub RefusedStep : Type 0
 RefusedStep =
     (limits : Limits) → (later : ℕ) → (state : State) → (connection : ConnectionName) →
@@ -43,9 +43,9 @@ RefusedStep =
     step limits later state (commands.Packet connection (packets.Publish publish))
     ≡ (with_session client (left_off kept) state, Close connection ∷ [])
 
--- A publication that is taken is retained, its publisher's session notes it, and each granted
--- session gets its copy. Its publisher is answered first (MQTT 3.3.4), then each granted client,
--- one after another.
+-- A taken publication is retained if it has RETAIN 1, its publisher's session registers its
+-- identifier, and each granted session gets its copy. The publisher is acknowledged first (MQTT
+-- 3.3.4), then each granted client is served in turn.
 abbrev pub TakenStep : Type 0
 TakenStep =
     (limits : Limits) → (later : ℕ) → (state : State) → (connection : ConnectionName) →
@@ -76,7 +76,7 @@ HaveRoomInTurn limits window publication (row ∷ granted) rows =
     (session_changed row.0 (delivered_on window publication row.1) rows)
 HaveRoomInTurn limits window publication [] rows = Unit {0}
 
--- if no granted session is full beforehand, no copy of a taken publication finds its queue full
+-- if no granted session is full beforehand, each still has room when its copy is queued
 abbrev pub RoomLastsToItsTurn : Type 0
 RoomLastsToItsTurn =
     (limits : Limits) → (window : ℕ) → (publication : Publication) → (publisher : Client) →
@@ -89,8 +89,8 @@ RoomLastsToItsTurn =
 
 -- ---- one session changed
 
--- a change of a client's session writes it in its place; nothing changes if there is no session, or
--- if the change leaves it as it is
+-- changing a client's session writes it in its place; nothing changes if there is no session, or if
+-- the change has no effect
 abbrev pub ChangeIsOfOneRow : Type 0
 ChangeIsOfOneRow =
     (client : Client) → (change : ClientSession → ClientSession) → (rows : Sessions) →

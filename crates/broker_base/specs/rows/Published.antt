@@ -1,5 +1,5 @@
--- A taken publication, by the rows that an index grants it (MQTT 3.3.5): who gets it, whose room it
--- needs, and what each of them is sent.
+-- A taken publication in terms of the rows that an index grants it (MQTT 3.3.5): who gets it, whose
+-- room it takes, and what each of them is sent.
 use Rattle.std.specs.Prelude.{ℕ, Bool, false, ◌&&◌, ◌==◌, List, [], ◌∷◌, ◌++◌, Option, Some}
 use Rattle.std.specs.Prelude.{None, option_map}
 use Rattle.std.specs.List.{fold}
@@ -24,7 +24,7 @@ use Rattle.subs_base.specs.Granted.{Row, row_of}
 use Rattle.broker_base.specs.rows.Touched.{written}
 use Rattle.broker_base.specs.rows.Served.{with_content}
 
--- a row for each session with a subscription that matches the topic, with the greatest QoS
+-- a row for each session with a matching subscription, with the greatest QoS of those
 abbrev pub granted_rows : List ℕ → Sessions → List Row
 granted_rows topic (row ∷ rows) =
     row_of row.0 (granted_qos topic row.1.state.subscriptions) ++ granted_rows topic rows
@@ -37,12 +37,12 @@ abbrev pub session_changed : Client → (ClientSession → ClientSession) → Se
 session_changed client change rows =
     written client (option_map change (session_in client rows)) rows
 
--- a publisher's session takes note of the identifier of a PUBLISH at QoS 2 (MQTT 4.3.3)
+-- a session registers the identifier of a PUBLISH at QoS 2 (MQTT 4.3.3)
 abbrev pub received_on : Delivery → ClientSession → ClientSession
 received_on delivery kept =
     with_content (with_received (receives delivery kept.state.received) kept.state) kept
 
--- a session that is granted a publication at this QoS gets its copy, and what may start then starts
+-- a session that is granted a publication at this QoS gets its copy, and then what may start starts
 abbrev pub delivered_on : ℕ → Publication → QoS → ClientSession → ClientSession
 delivered_on window publication qos kept =
     with_content
@@ -73,7 +73,7 @@ copy_answered window publication qos (Some kept) =
     kept.state.queue)
 copy_answered window publication qos None = []
 
--- what the clients of all granted rows are sent, each from the sessions that those before it left
+-- what the clients of the granted rows are sent, each by the session that those before it left
 abbrev pub answered_in_turn : ℕ → Publication → List Row → Sessions → List Output
 answered_in_turn window publication (row ∷ granted) rows =
     copy_answered window publication row.1 (session_in row.0 rows)

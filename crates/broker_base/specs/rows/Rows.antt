@@ -1,6 +1,6 @@
--- Three clients' sessions, and what the definitions of the laws say about them, computed. Client a
--- is clean and served on connection 1; b is offline and holds t/# at QoS 1; c is clean, served on
--- connection 2 and holds t/1 at QoS 2.
+-- Worked examples: the sessions of three clients, and what the definitions say about them. Client a
+-- is clean and served on connection 1; b is offline and has subscribed to t/# at QoS 1; c is clean,
+-- served on connection 2 and has subscribed to t/1 at QoS 2.
 use Rattle.std.specs.Prelude.{◌≡◌, ℕ, Bool, true, false, List, [], ◌∷◌, Option, Some, None, codes}
 use Rattle.packet_base.specs.declared.qos.QoS.{QoS}
 use Rattle.packet_base.specs.declared.qos.QoS.TheVariants as qos_levels
@@ -25,7 +25,7 @@ use Rattle.broker_base.specs.rows.ConnectTheorems.{all_left_off}
 abbrev pub c : Client
 c = codes "c"
 
--- a client's row, with this in its session
+-- a client's row with this session
 abbrev pub row : Client → Bool → Option ConnectionName → List GrantedSubscription → List ℕ → Queue →
     Client × ClientSession
 row client clean connection subscriptions received queue = (
@@ -37,7 +37,7 @@ row client clean connection subscriptions received queue = (
   },
 )
 
--- what b and c hold
+-- the subscriptions of b
 abbrev pub of_b : List GrantedSubscription
 of_b = (codes "t/#", qos_levels.AtLeastOnce) ∷ []
 
@@ -45,7 +45,7 @@ of_b = (codes "t/#", qos_levels.AtLeastOnce) ∷ []
 abbrev pub of_c : List GrantedSubscription
 of_c = (codes "t/1", qos_levels.ExactlyOnce) ∷ []
 
--- the sessions of three clients: a and c are connected, b is away
+-- the three sessions: a and c are connected, b is offline
 abbrev pub three : Sessions
 three =
     row a true (Some (nth 1)) [] [] empty_queue
@@ -68,7 +68,7 @@ TwoAreGranted =
     granted_rows (codes "t/1") three
     ≡ (b, qos_levels.AtLeastOnce) ∷ (c, qos_levels.ExactlyOnce) ∷ []
 
--- a's session takes note of 7, o waits for b, and c is sent o and owes PUBREC
+-- a's session registers 7, o waits for b, and c is sent o and has to answer with PUBREC
 abbrev pub EachGetsItsCopy : Type 0
 EachGetsItsCopy =
     all_delivered 16 (o_at qos_levels.ExactlyOnce) (granted_rows (codes "t/1") three)
@@ -98,7 +98,7 @@ EachOwnsItsConnection =
     × (without_owner (Some (nth 1)) (owners_in three) (nth 2) ≡ Some c)
     × (with_owner (nth 1) c (owners_in three) (nth 1) ≡ Some c)
 
--- a filter is compared character by character, replaced, given up, and dropped with its client
+-- a filter is compared character by character, replaced, removed, and dropped with its client
 abbrev pub EachHoldsItsFilters : Type 0
 EachHoldsItsFilters =
     (content_in three b (codes "t/#") ≡ Some qos_levels.AtLeastOnce)

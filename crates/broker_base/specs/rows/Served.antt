@@ -1,4 +1,4 @@
--- A client that is served on a connection, and what a step leaves of its session (MQTT 3.1.2.4,
+-- A client on its current connection, and its session after the connection ended (MQTT 3.1.2.4,
 -- 4.1).
 use Rattle.std.specs.Prelude.{◌≡◌, if◌then◌else◌, Option, Some, None}
 use Rattle.session_base.specs.Session.{SessionState}
@@ -9,7 +9,7 @@ use Rattle.broker_base.specs.State.{State, session_in, owner_in}
 use Rattle.broker_base.specs.StateTheorems.{IsSound}
 use Rattle.broker_base.specs.rows.Touched.{written}
 
--- in a sound state the client is served on the connection, and this is kept of its session
+-- in a sound state this is the client's current connection, and this its session
 pub record ServesClient (state : State) (connection : ConnectionName) (client : Client)
     (kept : ClientSession) : Type 0 where
   pub sound : IsSound state
@@ -24,12 +24,12 @@ with_session client session state =
       retained = state.retained;
     }
 
--- a client's session with this content, and all else as it was
+-- a client's session with this content, and the rest as it was
 abbrev pub with_content : SessionState → ClientSession → ClientSession
 with_content session kept =
     record { clean = kept.clean; connection = kept.connection; state = session }
 
--- a session whose connection is over: a clean one is over with it (MQTT 3.1.2.4)
+-- a session whose connection has ended: a clean one ends with it (MQTT 3.1.2.4)
 abbrev pub left_off : ClientSession → Option ClientSession
 left_off kept =
     if kept.clean then None

@@ -1,4 +1,4 @@
--- Which rows a place touches, and what is written to one.
+-- Which rows a place touches, and what it writes to one.
 use Rattle.std.specs.Prelude.{◌≡◌, ◌⊎◌, Bool, true, false, [], ◌∷◌, Option, Some, None}
 use Rattle.std.specs.BTreeMap.{is_at}
 use Rattle.std.specs.Map.{remove_entry, set_value}
@@ -16,7 +16,7 @@ abbrev pub Untouched : Place → Sessions → Type 0
 Untouched place (row ∷ rows) = (touches place row.0 row.1 ≡ false) × Untouched place rows
 Untouched place [] = Unit {0}
 
--- the place touches the client's row at most
+-- the place touches no row except possibly the client's
 abbrev pub TouchesOnly : Place → Client → Sessions → Type 0
 TouchesOnly place client (row ∷ rows) =
     ((same_client client row.0 ≡ true) × Untouched place rows)
@@ -24,7 +24,7 @@ TouchesOnly place client (row ∷ rows) =
     × TouchesOnly place client rows)
 TouchesOnly place client [] = Unit {0}
 
--- the client's row with this session, or without a row of it
+-- the sessions with this one for the client, or without one
 abbrev pub written : Client → Option ClientSession → Sessions → Sessions
 written client (Some kept) rows = set_value (is_at (by_bytes client)) rows kept
 written client None rows = remove_entry (is_at (by_bytes client)) rows
@@ -54,7 +54,7 @@ abbrev pub is_accepted : Mark → Bool
 is_accepted Mark.Accepted = true
 is_accepted _ = false
 
--- the mark is that of a command that touches this client's row at most
+-- a command with this mark touches no row except possibly this client's
 abbrev pub IsMarkOf : Client → Mark → Type 0
 IsMarkOf client Mark.Unmarked = Unit {0}
 IsMarkOf client Mark.Full = Unit {0}
@@ -66,7 +66,7 @@ IsMarkOf client (Mark.Repeat sender) = sender ≡ client
 IsMarkOf client (Mark.Granted sender which) = sender ≡ client
 IsMarkOf client (Mark.Handled sender) = sender ≡ client
 
--- the mark is that of a command that touches no row
+-- a command with this mark touches no row
 abbrev pub TouchesNoRow : Mark → Type 0
 TouchesNoRow Mark.Unmarked = Unit {0}
 TouchesNoRow Mark.Full = Unit {0}

@@ -1,12 +1,12 @@
-// Laws of the rows. The calls do nothing; their contracts are the laws.
+// Theorems about rows. The functions do nothing; their contracts are the theorems.
 
 ghost use Rattle.broker_base.specs.rows.CommandTheorems.{OneRowIsWritten, NobodyChangesNothing};
 ghost use Rattle.broker_base.specs.rows.CommandTheorems.{OwnerIsFoundByMap};
 ghost use Rattle.broker_base.specs.rows.PublicationTheorems.{GrantedRowsMatch, RoomIsOfGrantedRows};
 ghost use Rattle.broker_base.specs.rows.PublicationTheorems.{AnswersAreOfGrantedRows};
 
-/// States that a command on a client's current connection writes that client's row or removes it
-/// (MQTT 3.1.4). It touches no other, unless it is a PUBLISH that is taken.
+/// States that a command on a client's current connection writes or removes that client's row (MQTT
+/// 3.1.4), and touches no other unless it is a PUBLISH that is taken.
 pub fn one_row_is_written()
     ensures { OneRowIsWritten }
 {}
@@ -17,8 +17,8 @@ pub fn nobody_changes_nothing()
     ensures { NobodyChangesNothing }
 {}
 
-/// States that a map from connections to clients that is kept in step finds the row that owns a
-/// connection.
+/// States that a map from connections to clients that agrees with the sessions finds the row that
+/// owns a connection.
 pub fn owner_is_found_by_map()
     ensures { OwnerIsFoundByMap }
 {}
@@ -29,13 +29,14 @@ pub fn granted_rows_match()
     ensures { GrantedRowsMatch }
 {}
 
-/// States that some session lacks room for a publication exactly if a granted row's session does.
+/// States that some session lacks room for a publication exactly if the session of a granted row
+/// does.
 pub fn room_is_of_granted_rows()
     ensures { RoomIsOfGrantedRows }
 {}
 
-/// States that what all clients are sent of a publication is what those of the granted rows are, in
-/// order.
+/// States that what all clients are sent of a publication is what the clients of the granted rows
+/// are sent, in order.
 pub fn answers_are_of_granted_rows()
     ensures { AnswersAreOfGrantedRows }
 {}

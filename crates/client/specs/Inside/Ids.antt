@@ -1,4 +1,4 @@
--- The identifier of a request or a publication.
+-- The identifier of the next request or publication.
 use Rattle.std.specs.Prelude.{◌≡◌, ℕ, true, false, ◌&&◌, nat_lt, Some, None, Result, Ok, Err}
 use Rattle.client_base.specs.declared.error.ClientError.{ClientError}
 use Rattle.client_base.specs.declared.error.ClientError.TheVariants as errors
@@ -6,7 +6,7 @@ use Rattle.client_base.specs.State.{ClientState, kept_count}
 use Rattle.client_base.specs.Publications.{next_id, has_free_id, max_kept}
 use Rattle.client_base.specs.Steps.{request_refusal}
 
--- the next identifier, or why the request is refused
+-- the next identifier, or the error of a request
 abbrev pub RequestId : ClientState → Result ℕ ClientError → Type 0
 RequestId state (Ok id) = (id ≡ next_id state) × (request_refusal state ≡ None)
 RequestId state (Err cause) = request_refusal state ≡ Some cause

@@ -1,4 +1,4 @@
--- What the handling of one packet does to a client, before its connection is dropped.
+-- The effect of handling one packet, before the connection is dropped.
 use Rattle.std.specs.Prelude.{◌≡◌, ℕ, Bool, true, false, if◌then◌else◌, List, [], ◌∷◌, ◌++◌, Option}
 use Rattle.std.specs.Prelude.{Some, None, Result, Ok, Err}
 use Rattle.packet.specs.declared.packet.Packet.{Packet}
@@ -16,7 +16,7 @@ use Rattle.client_base.specs.Publications.{is_over_limit}
 use Rattle.client.specs.Core.{Core, IsDone}
 use Rattle.client.specs.Input.{ReadsPacket, outcome_of_packet, StopsFor, Handles, cause_of, fed}
 
--- the whole outcome comes about; one that ends the connection changes nothing here
+-- the whole outcome takes effect; one that ends the connection changes nothing here
 abbrev pub Tries : ClientOutcome → Core → Result (Unit {0}) ClientError → Core → Type 0
 Tries outcome old (Ok done) new = (outcome.refusal ≡ None) × IsDone outcome old new
 Tries outcome old (Err errors.Memory) new = new ≡ old
@@ -46,7 +46,7 @@ quiet_outcome outcome core = record core { state = outcome.state }
 abbrev pub with_state : ClientState → Core → Core
 with_state state core = record core { state = state }
 
--- the client with these bytes written, and none of its publications unsent
+-- the client with these written bytes; its queued publications are sent
 abbrev pub all_sent : List ℕ → Core → Core
 all_sent bytes core =
     record core {
@@ -54,13 +54,14 @@ all_sent bytes core =
       out = bytes;
     }
 
--- why the reading stops; a stream that failed is dropped at once, so that it is never read again
+-- the error with which reading stops; a stream with a fault is dropped at once, so it is never read
+-- again
 abbrev pub cut_cause : CutError → ClientError
 cut_cause (cuts.Decode fault) = cause_of fault
 cut_cause cuts.Memory = errors.Memory
 cut_cause cuts.Failed = errors.Memory
 
--- how the reading of a piece ends, before the connection is dropped
+-- how the reading of a chunk ends, before the connection is dropped
 abbrev pub StopsAt : Core → Result (Unit {0}) ClientError → Core → Type 0
 StopsAt core (Ok done) new = Takes core.unread (Ok None) core.unread × (new ≡ core)
 StopsAt core (Err errors.Memory) new = (new.state ≡ core.state) × (new.out ≡ core.out)
@@ -70,20 +71,20 @@ StopsAt core (Err errors.SessionLost) new =
     × IsDone (outcome_of_packet packet next) next new
 StopsAt core (Err cause) new = StopsFor cause core × (new.state ≡ core.state) × (new.out ≡ core.out)
 
--- whole packets are handled, and then it ends
+-- whole packets are handled, and then the call ends
 abbrev pub HandlesPackets : Core → Result (Unit {0}) ClientError → Core → Type 0
 HandlesPackets old result new = (last : Core) × Handles old last × StopsAt last result new
 
--- a piece is appended to what is not yet read
+-- a chunk is appended to the unread bytes
 abbrev pub Feeds : List ℕ → Core → Result (Unit {0}) ClientError → Core → Type 0
 Feeds piece old (Ok done) new = new ≡ fed piece old
 Feeds piece old (Err cause) new = (cause ≡ errors.Memory) × (new ≡ old)
 
--- a piece is appended and handled
+-- a chunk is appended, and its packets are handled
 abbrev pub FeedsAndReads : List ℕ → Core → Result (Unit {0}) ClientError → Core → Type 0
 FeedsAndReads piece old result new = HandlesPackets (fed piece old) result new
 
--- whether the connection is lost after this answer to a piece
+-- whether the connection is lost after this result of a chunk
 abbrev pub is_fatal : Result (Unit {0}) ClientError → Bool
 is_fatal (Ok done) = false
 is_fatal (Err errors.SessionLost) = false
@@ -99,7 +100,7 @@ TakesNext old (Err cause) new =
     × (cause ≡ cause_of fault))
     × (new.state ≡ old.state) × (new.out ≡ old.out)
 
--- a publication is sent, and kept as sent
+-- a publication is written, and kept as sent
 abbrev pub sent_publication : UnacknowledgedPublication → ClientState → ClientOutcome
 sent_publication kept state =
     going_on (record state { sent = state.sent ++ kept ∷ [] }) (publish_kept false kept ∷ [])

@@ -19,8 +19,8 @@ pub fn print_line(accepted: &Accepted, line: &mut Vec<u8>) -> Result<(), AllocEr
     line.extend_from_slice(b"\n")
 }
 
-/// Appends a text, in which each byte from 0x21 to 0x7E except the backslash is written as it is,
-/// and every other byte is `\x` and two hexadecimal digits.
+/// Appends a text: each byte from 0x21 to 0x7E except the backslash as it is, every other byte as
+/// `\x` and two hexadecimal digits.
 pub fn print_text(text: &[u8], line: &mut Vec<u8>) -> Result<(), AllocError>
     ensures { OnOk result (line.new.items ≡ line.old.items ++ printed text.now) }
 {
@@ -30,7 +30,7 @@ pub fn print_text(text: &[u8], line: &mut Vec<u8>) -> Result<(), AllocError>
     Ok(())
 }
 
-// Appends a byte as it is, or its two digits after a backslash and an x.
+// Appends a byte as it is, or as `\x` and two digits.
 fn print_byte(byte: u8, line: &mut Vec<u8>) -> Result<(), AllocError>
     ensures { OnOk result (line.new.items ≡ line.old.items ++ printed_byte byte) }
 {
@@ -41,7 +41,7 @@ fn print_byte(byte: u8, line: &mut Vec<u8>) -> Result<(), AllocError>
     }
 }
 
-// Returns true if a byte is written as it is.
+// Returns true if a byte is printed as it is.
 fn is_plain(byte: u8) -> bool
     ensures { result ≡ is_plain byte }
 {
