@@ -1,5 +1,5 @@
 //! Measurements, one a run: the first word names it, and without a word the names are listed. The
-//! figures are in `docs/PARTS.md`.
+//! figures are in `docs/PERFORMANCE.md`.
 #![tactic(auto)]
 
 mod granted;

@@ -1,5 +1,5 @@
 //! Measurements of the broker, alone and in a node, one per run: the first word names it, and
-//! without a word the names are listed. The figures are in `docs/PARTS.md`.
+//! without a word the names are listed. The figures are in `docs/PERFORMANCE.md`.
 #![tactic(auto)]
 
 mod clients;

@@ -1,6 +1,6 @@
 //! Measurements of what replicates: of a group of replicas that add numbers, and of a world of
 //! three nodes and four clients. One a run: the first word names it, and without a word the names
-//! are listed. The figures are in `docs/PARTS.md`.
+//! are listed. The figures are in `docs/PERFORMANCE.md`.
 #![tactic(auto)]
 
 mod course;

@@ -36,7 +36,8 @@ use std::alloc::Global;
 use std::marker::Model;
 use topics::{Filter, TopicName};
 
-/// How many entries of a session are in flight at most, once a broker's ballot has begun (MQTT 4.6).
+/// How many entries of a session are in flight at most, once a broker's ballot has begun (MQTT
+/// 4.6).
 pub const WINDOW: usize = 64;
 
 /// One client's session: its subscriptions, the identifiers of received QoS 2 publications, and its
@@ -157,9 +158,9 @@ impl Session {
         Ok(())
     }
 
-    /// Starts what waits while fewer than [`WINDOW`] entries are in flight: the first that waits takes
-    /// the least identifier from 1 up that is not in flight, and its PUBLISH is appended with DUP 0
-    /// (MQTT 4.6). If memory runs out nothing changes; if nothing starts it takes none.
+    /// Starts what waits while fewer than [`WINDOW`] entries are in flight: the first that waits
+    /// takes the least identifier from 1 up that is not in flight, and its PUBLISH is appended with
+    /// DUP 0 (MQTT 4.6). If memory runs out nothing changes; if nothing starts it takes none.
     pub fn fill(&mut self, out: &mut Vec<Packet>) -> Result<(), Memory>
         ensures state { OnOk result
             (self.new ≡ with_queue (filled WINDOW self.old.queue) self.old) }

@@ -70,7 +70,7 @@ fn a_store_keeps_16384_topics(rt: HostRuntime) {
     assert_eq!(rt; first_fault(rt.alloc(), &mut store, AT_THE_LIMIT), None);
 }
 
-// Why nothing is kept, with the numbers of docs/REFUSALS.md.
+// Why nothing is kept, with the numbers of docs/MANUAL.md.
 const REFUSALS: &[(RetainedError, u8, &str)] = &[
     (RetainedError::RetainedFull, 16, "too many retained topics"),
     (RetainedError::Memory, 12, "out of memory"),

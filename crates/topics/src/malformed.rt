@@ -8,7 +8,7 @@ use std::error::Error;
 use std::fmt;
 
 /// Why bytes or a text do not have the form that MQTT requires, or that memory ran out. Each kind
-/// has a number of its own ([`MalformedKind::number`]); `docs/REFUSALS.md` has the whole table.
+/// has a number of its own ([`MalformedKind::number`]); `docs/MANUAL.md` has the whole table.
 #[derive(Clone, Copy, Debug, PartialEq, Eq, Hash)]
 pub enum MalformedKind {
     /// A packet type that is reserved (MQTT 2.2.1).

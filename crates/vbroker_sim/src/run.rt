@@ -72,8 +72,8 @@ pub fn drawn(alloc: Global, options: &Options, seed: u64) -> Option<Run> {
 }
 
 // Draws events and lets them happen. Returns what does not hold in the end, and how far it came. A
-// value with a long drop is lent to functions with several exits, and dropped here (`docs/GATE.md`,
-// *Owners*).
+// value with a long drop is lent to functions with several exits, and dropped here
+// (`CONTRIBUTING.md`, *Owners*).
 fn play(
     alloc: Global,
     options: &Options,

@@ -89,9 +89,9 @@ impl Model for World {
 
 impl World {
     /// Opens nodes 1 to `nodes` in ballot 1, with these members and this primary, and clients that
-    /// were never connected. [`OpeningError::BadMembers`] comes for more than 15 nodes, for a member
-    /// above `nodes`, and for members and a primary that no ballot may have: no member, more than 7,
-    /// not strictly rising, one outside 1 to 15, or a primary that is none of them.
+    /// were never connected. [`OpeningError::BadMembers`] comes for more than 15 nodes, for a
+    /// member above `nodes`, and for members and a primary that no ballot may have: no member, more
+    /// than 7, not strictly rising, one outside 1 to 15, or a primary that is none of them.
     /// [`OpeningError::Memory`] comes only if memory ran out.
     pub fn opening(
         alloc: Global,

@@ -1,4 +1,4 @@
-// Why a packet is no answer of a broker, with the numbers of docs/REFUSALS.md.
+// Why a packet is no answer of a broker, with the numbers of docs/MANUAL.md.
 
 use broker_spec::Unspellable;
 use std::test::Fail;

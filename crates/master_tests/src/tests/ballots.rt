@@ -144,7 +144,7 @@ fn a_primary_is_a_member(rt: HostRuntime) {
     assert_eq!(rt; refusal, Some(AssignError::BadMembers));
 }
 
-// Why no ballot is given, with the numbers of docs/REFUSALS.md and what a user is told.
+// Why no ballot is given, with the numbers of docs/MANUAL.md and what a user is told.
 const ASSIGNING: &[(AssignError, u8, &str)] = &[
     (
         AssignError::BadMembers,

@@ -246,7 +246,7 @@ fn a_text_that_is_no_client_identifier_is_refused(rt: HostRuntime) {
     }
 }
 
-// Faults of reading, with the number that docs/REFUSALS.md gives them; a refused CONNECT has none.
+// Faults of reading, with the number that docs/MANUAL.md gives them; a refused CONNECT has none.
 const UNREAD: &[(DecodeFault, Option<u8>, &str)] = &[
     (
         DecodeFault::Malformed(MalformedKind::Shape),

@@ -25,8 +25,8 @@ abbrev pub ReportsItsLosses : CoreState → Type 0
 ReportsItsLosses core =
     Each (λ (connection : Connection). has_failed connection ≡ false) core.connections
 
--- the node's replica is as its own step leaves it; the node sends exactly the messages of that step,
--- and accepts no connection
+-- the node's replica is as its own step leaves it; the node sends exactly the messages of that
+-- step, and accepts no connection
 pub record IsDelivery (core : CoreState) (replica_outcome : Outcome State Command Output)
     (outcome : StepOutcome) : Type 0 where
   pub replica : outcome.core.replica ≡ record core.replica { state = replica_outcome.state }

@@ -149,7 +149,7 @@ fn a_queue_takes_4096_entries(rt: HostRuntime) {
     assert_eq!(rt; first_fault_of_fresh(rt.alloc(), QUEUE_IS_FULL), None);
 }
 
-// Why nothing is queued, with the numbers of docs/REFUSALS.md.
+// Why nothing is queued, with the numbers of docs/MANUAL.md.
 const REFUSALS: &[(EnqueueError, u8, &str)] = &[
     (EnqueueError::QueueFull, 15, "the session's queue is full"),
     (EnqueueError::Memory, 12, "out of memory"),

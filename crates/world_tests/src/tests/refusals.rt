@@ -1,4 +1,4 @@
-// Why a world has no recovery, with the numbers of docs/REFUSALS.md and what a user is told.
+// Why a world has no recovery, with the numbers of docs/MANUAL.md and what a user is told.
 
 use std::test::Fail;
 use world_pipes::events::EscapeError;

@@ -1,4 +1,4 @@
-// Each refusal with the number that docs/REFUSALS.md gives it, and what a user is told.
+// Each refusal with the number that docs/MANUAL.md gives it, and what a user is told.
 
 use ballot_base::errors::{OpeningError, ProposeError};
 use machine::{Halted, Memory, ThawFault};

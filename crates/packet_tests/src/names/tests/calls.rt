@@ -209,7 +209,7 @@ fn bare_filters_are_topics(rt: HostRuntime) {
     }
 }
 
-// Each kind with the number that docs/REFUSALS.md gives it, and what a user is told.
+// Each kind with the number that docs/MANUAL.md gives it, and what a user is told.
 const KINDS: &[(MalformedKind, u8, &str)] = &[
     (MalformedKind::PacketType, 1, "reserved packet type"),
     (MalformedKind::Flags, 2, "flags of the fixed header"),

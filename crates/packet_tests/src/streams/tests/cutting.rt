@@ -217,7 +217,7 @@ fn a_fault_after_good_packets_stays(rt: HostRuntime) {
     assert_eq!(rt; first_fault_of_fresh(rt.alloc()), None);
 }
 
-// Why no packet comes from a stream, with the numbers of docs/REFUSALS.md.
+// Why no packet comes from a stream, with the numbers of docs/MANUAL.md.
 const FAULTS: &[(CutError, Option<u8>, &str)] = &[
     (FAULT, Some(1), "malformed packet: reserved packet type"),
     (CutError::Memory, Some(12), "out of memory"),

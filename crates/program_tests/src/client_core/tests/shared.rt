@@ -5,7 +5,7 @@ use packet_base::PacketId;
 use std::test::Fail;
 use topics::MalformedKind;
 
-// Each refusal, with the number that docs/REFUSALS.md gives it and what a user is told.
+// Each refusal, with the number that docs/MANUAL.md gives it and what a user is told.
 const REFUSALS: &[(ClientError, u8, &str)] = &[
     (ClientError::TooLarge, 4, "packet too large"),
     (ClientError::Protocol, 11, "packet out of its place"),

@@ -129,7 +129,7 @@ fn a_publication_at_qos_0_is_written(rt: HostRuntime) {
     assert_eq!(rt; fault, None);
 }
 
-// An identifier and a topic, and the number with which they are refused (docs/REFUSALS.md): an
+// An identifier and a topic, and the number with which they are refused (docs/MANUAL.md): an
 // empty identifier, one with U+0000, and one of 65 bytes; then an empty topic, one with a wildcard,
 // one with U+0000, and one of 33 levels. The identifier is looked at first.
 const REFUSED: &[(&str, &str, u8)] = &[

@@ -86,7 +86,7 @@ fn a_subscription_is_asked_for_again(rt: HostRuntime) {
     assert_eq!(rt; fault, None);
 }
 
-// An identifier and a filter, and the number with which they are refused (docs/REFUSALS.md): an
+// An identifier and a filter, and the number with which they are refused (docs/MANUAL.md): an
 // empty identifier, and one with U+0000; then an empty filter, one in which `#` is not the last
 // level, one with U+0000, and one of 33 levels.
 const REFUSED: &[(&str, &str, u8)] = &[

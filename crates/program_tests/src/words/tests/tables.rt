@@ -114,7 +114,7 @@ fn tables_are_read(rt: HostRuntime) {
     }
 }
 
-// Why a text is no table, with the numbers of docs/REFUSALS.md.
+// Why a text is no table, with the numbers of docs/MANUAL.md.
 const FAULTS: &[(TableFault, u8, &str)] = &[
     (TableFault::Shape, 10, "table of nodes"),
     (TableFault::Memory, 12, "out of memory"),
