@@ -40,7 +40,9 @@ pub(crate) fn thawed_tables(alloc: Global, bytes: &[u8]) -> Result<Tables, Stop>
 {
     thawed_is_in_range();
     let (window, rows, retained) = read_broker(alloc, bytes)?;
-    let index = index_of(alloc, &rows.sessions)?;
+    let Ok(index) = index_of(alloc, &rows.sessions) else {
+        return Err(OUT_OF_MEMORY);
+    };
     Ok(Tables {
         window,
         sessions: rows.sessions,

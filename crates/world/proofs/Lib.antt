@@ -13,7 +13,7 @@ mod StandsThere
 mod OpenEnds
 mod Gathered
 mod Walked
-mod Handed
+mod HandedOver
 mod HousedOpened
 mod OpensOn
 mod ClientGoes

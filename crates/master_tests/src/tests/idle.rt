@@ -97,7 +97,7 @@ fn is_refused(alloc: Global, nodes: u8, members: &[u8], primary: u8) -> Option<b
 }
 
 fn is_no_group(alloc: Global, nodes: u8, config: Config) -> bool {
-    let opened = Group::<Tally>::opening(alloc, nodes, config);
+    let opened = Group::<Tally>::opening(alloc, nodes, config.members, config.primary);
     matches!(&opened, Err(OpeningError::BadMembers))
 }
 

@@ -2,7 +2,7 @@ use Rattle.std.proofs.Common.{arith}
 use Rattle.master.proofs.Counting.{get_there}
 use Rattle.world.specs.World.{WorldState}
 use Rattle.world.proofs.ClientGoes.{housed_still}
-use Rattle.world.proofs.Handed.{takes_none, takes_nothing_on, takes_on, takes_up_on}
+use Rattle.world.proofs.HandedOver.{takes_none, takes_nothing_on, takes_on, takes_up_on}
 use Rattle.world.proofs.StandsThere.{client_within, pair_within}
 use Rattle.world.proofs.world.World.carry_to_node.Goals as goal
 

@@ -3,7 +3,7 @@ use Rattle.master.proofs.Counting.{get_there}
 use Rattle.world_pipes.specs.clients.SlotsAreValid.{targets_of_clients}
 use Rattle.world.specs.World.{WorldState}
 use Rattle.world.proofs.ClientGoes.{housed_still}
-use Rattle.world.proofs.Handed.{gathers_on, gathering_goes}
+use Rattle.world.proofs.HandedOver.{gathers_on, gathering_goes}
 use Rattle.world_pipes.proofs.of_clients.LeadsKept.{led, led_there}
 use Rattle.world.proofs.StandsThere.{client_within, pair_within}
 use Rattle.world.proofs.world.World.gather_on.Goals as goal
