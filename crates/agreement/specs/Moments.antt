@@ -1,6 +1,5 @@
 -- The moments of a group since it opened, and what its members acknowledged in each ballot.
-use Rattle.std.specs.Prelude.{ℕ, true, false, ◌+◌, ◌≤◌, ◌≡◌, ◌⊎◌, List, [], ◌∷◌, length, slice_get}
-use Rattle.std.specs.Prelude.{take, Some}
+use Rattle.std.specs.Prelude.{ℕ, true, false, ◌+◌, ◌≤◌, ◌≡◌, ◌⊎◌, List, [], ◌∷◌, length, slice_get, take, Some}
 use Rattle.lists.specs.Lists.{In, IsPrefixOf}
 use Rattle.machine.specs.Machine.{Rules}
 use Rattle.agreement.specs.whole_logs.Messages.Body.{Held, Installed}
@@ -102,8 +101,7 @@ pub data HasAcknowledged {S C O : Type 0} (config : Config) (moments : List (Mom
   told_by_message : (moment : Moment S C O) (replica : ReplicaState S C) → In moment moments →
       slice_get moment.world.nodes node ≡ Some replica → replica.held_in ≡ ballot →
       AcknowledgedLength moment.world (node + 1) ballot (length list) →
-      IsPrefixOf list replica.log →
-      HasAcknowledged config moments ballot node list
+      IsPrefixOf list replica.log → HasAcknowledged config moments ballot node list
 
 -- each member of a ballot has acknowledged the list, or a list of which it is a prefix; a member
 -- that acknowledged nothing has not acknowledged the empty list

@@ -64,7 +64,8 @@ impl Acknowledged {
         ensures ballot { self.new.ballot ≡ self.old.ballot }
         ensures counted { (member : ℕ) → member < 16 →
             get_or self.new.held member 0 ≡
-            max (get_or self.old.held member 0) (acknowledged_in member self.old.ballot message.now) }
+            max (get_or self.old.held member 0)
+            (acknowledged_in member self.old.ballot message.now) }
     {
         let (ballot, held) = match message.body {
             Body::Installed(ballot, held) | Body::Held(ballot, held) => (ballot, held),
