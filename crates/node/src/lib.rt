@@ -20,7 +20,7 @@ pub use intake::Intake;
 pub use locked_node::{HasState, Node};
 pub use machine::Memory;
 pub use naming::NodeNaming;
-pub use node_base::devices::{Gate, NoGate, PIECE_BYTES};
+pub use node_base::devices::{Counted, Gate, NoGate, OneRead, OneWrite, PIECE_BYTES, WholeWrite};
 pub use node_state::NodeState;
 pub use overdue::is_overdue;
 pub use permit::Permit;

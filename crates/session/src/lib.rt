@@ -16,4 +16,4 @@ pub use arrival::Arrival;
 pub use error::EnqueueError;
 pub use machine::Memory;
 pub use session::{Session, WINDOW};
-pub use session_base::{MAX_ENTRIES, MAX_SUBSCRIPTIONS};
+pub use session_base::{MAX_ENTRIES, MAX_SUBSCRIPTIONS, Publication};

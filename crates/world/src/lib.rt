@@ -18,6 +18,7 @@ pub use client::ClientCore;
 pub use client_base::Accepted;
 pub use machine::Memory;
 pub use master::Idle;
+pub use session_base::Publication;
 pub use theorems::{an_open_past_the_last_changes_nothing, uncounted_is_exact};
 pub use world::World;
 pub use world_base::node_connections::{Handed, Piece, Port};
