@@ -1,5 +1,4 @@
 //! Tests of subscriptions, retained publications and sessions.
-#![tactic(auto)]
 
 #[cfg(test)]
 mod indexes;

@@ -10,7 +10,7 @@ ghost use Rattle.broker_spec.specs.Place.{Client, Limits, Past};
 ghost use Rattle.broker_spec.specs.Readings.{sent_entries, start_place};
 ghost use Rattle.broker_spec.specs.Retained.{is_retained_over};
 ghost use Rattle.session_base.specs.declared.publication.Publication.{Publication};
-ghost use Rattle.storage_tests.specs.Guards.{
+ghost use Rattle.broker_tests.specs.storage.Guards.{
   EntriesFitTheirQoS,
   AnswersOfAnotherQoSAreNothing,
   ExpelledWhileAway,

@@ -7,7 +7,7 @@ use Rattle.broker_spec.specs.Retained.{retained_publications}
 use Rattle.broker_spec.specs.Times.{entries_of}
 use Rattle.broker_spec.specs.Commands.{past_from}
 use Rattle.broker_spec.specs.AnswersInOrder.{answers_from}
-use Rattle.storage_tests.proofs.readings.expels_of_nobody_are_nothing.Goals as goal
+use Rattle.broker_tests.proofs.storage.readings.expels_of_nobody_are_nothing.Goals as goal
 
 pub returns : goal.returns
 unfolding answers_from past_from current_connection clean_session_of named subscriptions_of received_of retained_publications entries_of

@@ -2,8 +2,8 @@
 // the gate none fails. A call that runs out of memory leaves the store, and what was found, as they
 // were, and does its work when it is made again.
 
-use crate::indexes::memory::filter_of;
-use crate::retaining::row::put;
+use crate::storage::indexes::memory::filter_of;
+use crate::storage::retaining::row::put;
 use packet_base::QoS;
 use retained::{RetainedError, RetainedStore};
 use std::alloc::Global;

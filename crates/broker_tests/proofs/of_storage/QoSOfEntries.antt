@@ -11,7 +11,7 @@ use Rattle.broker_spec.specs.Place.{Client, same_client, Mark}
 use Rattle.broker_spec.specs.Sessions.{current_connection, clean_session_of, begins, in_session}
 use Rattle.broker_spec.specs.Entries.{Entry, copies_at, queued}
 use Rattle.broker_spec.specs.Times.{at_puback, at_pubrec, at_pubcomp, answered_by, start_all, started, window_at, entries_of}
-use Rattle.storage_tests.specs.Guards.{FitsItsQoS, EntriesFitTheirQoS}
+use Rattle.broker_tests.specs.storage.Guards.{FitsItsQoS, EntriesFitTheirQoS}
 use Rattle.broker_spec.specs.declared.command.Command.{Command}
 use Rattle.broker_spec.specs.declared.command.Command.TheVariants as commands
 

@@ -1,7 +1,7 @@
 // Tables of examples: who is granted what (MQTT 3.3.5, 3.8.4, 3.10.4, 4.7).
 
-use crate::indexes::calls::Call::{self, Clear, DropClient, Granted, Set};
-use crate::indexes::calls::{Fault, first_fault};
+use crate::storage::indexes::calls::Call::{self, Clear, DropClient, Granted, Set};
+use crate::storage::indexes::calls::{Fault, first_fault};
 use packet_base::QoS::{AtLeastOnce, AtMostOnce, ExactlyOnce};
 use std::alloc::Global;
 use subs::TreeIndex;

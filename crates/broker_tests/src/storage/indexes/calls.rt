@@ -1,6 +1,6 @@
 // Rows: calls of an index, each with what it is to answer.
 
-use crate::shown::{SHOWN, front_of};
+use crate::storage::shown::{SHOWN, front_of};
 use packet_base::{ClientId, QoS};
 use std::alloc::Global;
 use subs_base::SubIndex;

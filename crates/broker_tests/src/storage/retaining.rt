@@ -3,8 +3,8 @@
 mod memory;
 mod row;
 
-use crate::retaining::row::Row::{Finds, Has, IsFull, Put};
-use crate::retaining::row::{Came, Row, came_instead, first_fault};
+use crate::storage::retaining::row::Row::{Finds, Has, IsFull, Put};
+use crate::storage::retaining::row::{Came, Row, came_instead, first_fault};
 use packet_base::QoS;
 use retained::{RetainedError, RetainedStore};
 use std::alloc::Global;

@@ -4,12 +4,14 @@ mod entries;
 mod memory;
 mod row;
 
-use crate::sessions::sessions::row::Row::{
+use crate::storage::sessions::sessions::row::Row::{
     Enqueue, Fill, Granted, IsFull, Puback, Pubcomp, Publish, Pubrec, Received, Resend, Room,
     Subscribe, Unsubscribe,
 };
-use crate::sessions::sessions::row::Sent::{Again, New};
-use crate::sessions::sessions::row::{Fault, Row, Sent, first_fault, granted, is_received};
+use crate::storage::sessions::sessions::row::Sent::{Again, New};
+use crate::storage::sessions::sessions::row::{
+    Fault, Row, Sent, first_fault, granted, is_received,
+};
 use packet_base::{QoS, Reader};
 use session::{Arrival, EnqueueError, Session};
 use session_base::MAX_ENTRIES;

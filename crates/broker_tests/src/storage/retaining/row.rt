@@ -1,6 +1,6 @@
 // Rows: what is done to a store, and what is to come of it.
 
-use crate::shown::{SHOWN, front_of};
+use crate::storage::shown::{SHOWN, front_of};
 use packet_base::{Payload, QoS};
 use retained::{RetainedError, RetainedPublication, RetainedStore};
 use std::alloc::Global;

@@ -2,7 +2,7 @@ use Rattle.std.proofs.Common.{◌≡◌, true, Option, Some, None, refl, is_some
 use Rattle.broker_spec.specs.Owner.{owner_of}
 use Rattle.broker_spec.specs.Place.{Client}
 use Rattle.broker_spec.proofs.OwnersAreServed.{owner_is_served}
-use Rattle.storage_tests.proofs.readings.live_connections_are_current.Goals as goal
+use Rattle.broker_tests.proofs.storage.readings.live_connections_are_current.Goals as goal
 
 is_there : (owner : Option Client) → is_some owner ≡ true → (c : Client) × (owner ≡ Some c)
 is_there None live = cc

@@ -7,8 +7,8 @@ use Rattle.broker_spec.specs.Retained.{retained_publications}
 use Rattle.broker_spec.specs.Times.{entries_of}
 use Rattle.broker_spec.specs.Commands.{past_from}
 use Rattle.broker_spec.specs.AnswersInOrder.{answers_from}
-use Rattle.storage_tests.proofs.QoSOfEntries.{entries_fit_their_qos}
-use Rattle.storage_tests.proofs.readings.answers_fit_the_qos.Goals as goal
+use Rattle.broker_tests.proofs.of_storage.QoSOfEntries.{entries_fit_their_qos}
+use Rattle.broker_tests.proofs.storage.readings.answers_fit_the_qos.Goals as goal
 
 pub returns : goal.returns
 unfolding answers_from past_from current_connection clean_session_of named subscriptions_of received_of retained_publications entries_of
