@@ -1,1 +1,1 @@
-mod QoSOfEntries
+pub mod QoSOfEntries

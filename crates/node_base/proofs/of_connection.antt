@@ -1,3 +1,3 @@
-mod PiecesJoin
-mod StreamStaysWhole
-mod WritesJoin
+pub mod PiecesJoin
+pub mod StreamStaysWhole
+pub mod WritesJoin

@@ -1,1 +1,1 @@
-mod WritesJoin
+pub mod WritesJoin

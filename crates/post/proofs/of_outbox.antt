@@ -1,4 +1,4 @@
-mod CountsStand
-mod MasterIsReachable
-mod MayBeGiven
-mod OutboxKept
+pub mod CountsStand
+pub mod MasterIsReachable
+pub mod MayBeGiven
+pub mod OutboxKept

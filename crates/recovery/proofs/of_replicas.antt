@@ -15,7 +15,7 @@ pub mod AllAgreed
 pub mod Ways
 pub mod HasRecovery
 pub mod Answering
-mod Counted
+pub mod Counted
 pub mod SameRows
 pub mod Ahead
 pub mod LogsLike

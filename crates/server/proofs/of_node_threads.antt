@@ -1,6 +1,6 @@
-mod AllMet
-mod GivenBySteps
-mod OwnSendsJoin
-mod PortsApart
-mod StartedAlike
-mod TurnsEnd
+pub mod AllMet
+pub mod GivenBySteps
+pub mod OwnSendsJoin
+pub mod PortsApart
+pub mod StartedAlike
+pub mod TurnsEnd

@@ -1,1 +1,1 @@
-mod Spelled
+pub mod Spelled

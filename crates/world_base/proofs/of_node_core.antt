@@ -1,28 +1,28 @@
 pub mod Crossing
 pub mod Calmly
-mod Accounts
-mod Answering
-mod Asked
-mod Changes
-mod Closes
-mod CutsRun
-mod ConnectionsGoOn
-mod Delivering
-mod EndsRun
-mod Failures
-mod FoundWhere
-mod Fronts
-mod FrontsRun
-mod GapsClosed
-mod HandsOver
-mod Hearing
-mod Idle
-mod ItemsRun
-mod Opens
-mod Indices
-mod ProposalsAreSteps
-mod Proposes
-mod Settles
-mod Silences
-mod StepsJoin
-mod Repeats
+pub mod Accounts
+pub mod Answering
+pub mod Asked
+pub mod Changes
+pub mod Closes
+pub mod CutsRun
+pub mod ConnectionsGoOn
+pub mod Delivering
+pub mod EndsRun
+pub mod Failures
+pub mod FoundWhere
+pub mod Fronts
+pub mod FrontsRun
+pub mod GapsClosed
+pub mod HandsOver
+pub mod Hearing
+pub mod Idle
+pub mod ItemsRun
+pub mod Opens
+pub mod Indices
+pub mod ProposalsAreSteps
+pub mod Proposes
+pub mod Settles
+pub mod Silences
+pub mod StepsJoin
+pub mod Repeats
