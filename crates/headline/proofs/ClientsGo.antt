@@ -34,7 +34,7 @@ use Rattle.headline.specs.node_group.Steps.GroupTrace.{then_went}
 use Rattle.headline.proofs.of_node_group.Placed.{get_mapped, set_mapped}
 use Rattle.headline.specs.node_group.Carried.{answers_to}
 use Rattle.world_base.specs.declared.node_core.item.Item.TheVariants.{Opened}
-use Rattle.world_base.specs.declared.node_core.Port.{Port}
+use Rattle.world_base.specs.declared.node_connections.port.Port.{Port}
 use Rattle.headline.specs.byte_world.Steps.{DoesCall}
 use Rattle.headline.specs.byte_world.ClientSteps.{after_connecting, after_packet, story_alone}
 use Rattle.headline.specs.byte_world.World.{ClientPipes, HasPipe, Pipe, ByteWorld, after_writing, newly_written, packets_of, sent_up, with_client}

@@ -15,7 +15,7 @@ use Rattle.exactly_once.specs.Sides.{ClientConnection, Side}
 use Rattle.exactly_once.specs.Story.{StoryStep, Story}
 use Rattle.headline.specs.packet_world.Steps.{is_call}
 use Rattle.world_base.specs.declared.node_core.item.Item.TheVariants.{Bytes}
-use Rattle.world_base.specs.declared.node_core.Port.{Port}
+use Rattle.world_base.specs.declared.node_connections.port.Port.{Port}
 use Rattle.world_base.specs.node_core.Core.{CoreState}
 use Rattle.headline.specs.node_moves.Moves.{NodeCall, done}
 use Rattle.headline.specs.node_moves.Moves.NodeCall.{takes, hands_out}

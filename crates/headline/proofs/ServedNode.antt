@@ -23,7 +23,7 @@ use Rattle.ballot_base.specs.Service.{added, commit, commit_at, proposed}
 use Rattle.machine.specs.Machine.{replay}
 use Rattle.broker_spec.specs.declared.command.Command.{Command}
 use Rattle.broker_spec.specs.declared.command.Command.TheVariants as commands
-use Rattle.world_base.specs.declared.node_core.ConnectionStage.TheVariants.{Proposed}
+use Rattle.world_base.specs.declared.node_connections.connection.ConnectionStage.TheVariants.{Proposed}
 use Rattle.world_base.specs.declared.node_core.item.Item.TheVariants.{Opened, Bytes}
 use Rattle.world_base.specs.node_connections.Connections.{fresh}
 use Rattle.world_base.specs.node_core.Core.{CoreState, opening_core, rules}

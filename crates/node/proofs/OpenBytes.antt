@@ -1,6 +1,6 @@
 -- OpenBytes.antt: no byte is left out of the count of those that are not known to be agreed.
 use Rattle.std.proofs.Common.{◌≡◌, ℕ, ◌+◌, ◌≤◌, Bool, true, false, nat_le, nat_lt, min, if◌then◌else◌, List, [], ◌∷◌, Some, refl, arith}
-use Rattle.world_base.specs.declared.node_core.Status.{Status}
+use Rattle.ballot_base.specs.declared.status.Status.{Status}
 use Rattle.node.specs.Intake.{IntakeView, is_agreed, took}
 use Rattle.node.specs.OpenBytes.{Counts, Taken, bytes_behind, committed_of, held_of}
 use Rattle.node.specs.OpenBytes.Counts.{admits, begins, shows, takes}

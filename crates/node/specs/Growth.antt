@@ -6,8 +6,8 @@ use Rattle.packet.specs.declared.subscribe.Subscription.{Subscription}
 use Rattle.broker_spec.specs.declared.command.Command.{Command}
 use Rattle.broker_spec.specs.declared.command.Command.TheVariants as commands
 use Rattle.world_base.specs.node_core.Core.{CoreState}
-use Rattle.world_base.specs.declared.node_core.Body.{Body}
-use Rattle.world_base.specs.declared.node_core.Body.TheVariants.{Append, State, Install}
+use Rattle.ballot_base.specs.declared.message.Body.{Body}
+use Rattle.ballot_base.specs.declared.message.Body.TheVariants.{Append, State, Install}
 use Rattle.world_base.specs.declared.node_core.item.Item.{Item}
 use Rattle.world_base.specs.declared.node_core.item.Item.TheVariants.{Peer, Bytes, Cut}
 use Rattle.node.specs.declared.growth.TheConstants.{COMMAND_BYTES, MAX_UNCUT_BYTES}

@@ -1,6 +1,6 @@
 -- The intake budget of a node: when it takes no more from its clients, because other members lag.
 use Rattle.std.specs.Prelude.{ℕ, ◌+◌, ◌-◌, ◌≤◌, Bool, ◌&&◌, nat_le, min, if◌then◌else◌, Option, Some, None}
-use Rattle.world_base.specs.declared.node_core.Status.{Status}
+use Rattle.ballot_base.specs.declared.status.Status.{Status}
 use Rattle.ballot_base.specs.Replica.{is_active}
 use Rattle.node_base.specs.declared.devices.counted.TheConstants.{PIECE_BYTES}
 use Rattle.node.specs.declared.intake.TheConstants.{MAX_IN_TRANSIT, MAX_OPEN, MAX_OPEN_BYTES}

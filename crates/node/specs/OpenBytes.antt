@@ -1,6 +1,6 @@
 -- How the count of bytes that are not known to be agreed changes while a node's log only grows.
 use Rattle.std.specs.Prelude.{ℕ, ◌+◌, ◌≤◌, nat_lt, min, if◌then◌else◌, List, [], ◌∷◌, Option, Some, None}
-use Rattle.world_base.specs.declared.node_core.Status.{Status}
+use Rattle.ballot_base.specs.declared.status.Status.{Status}
 use Rattle.node.specs.Intake.{IntakeView, status_shown, took}
 
 -- bytes that a node took, and how long its log was then

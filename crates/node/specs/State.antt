@@ -6,7 +6,7 @@ use Rattle.broker_spec.specs.declared.command.Output.{Output}
 use Rattle.ballot_base.specs.declared.config.Config.{Config}
 use Rattle.ballot_base.specs.declared.message.Effect.{Effect}
 use Rattle.world_base.specs.declared.node_core.item.Item.{Item}
-use Rattle.world_base.specs.declared.node_core.Port.{Port}
+use Rattle.world_base.specs.declared.node_connections.port.Port.{Port}
 use Rattle.world_base.specs.node_core.Core.{CountedCore, opening_core}
 use Rattle.world_base.specs.node_core.PortOutput.{hands_over}
 use Rattle.world_base.specs.node_core.Losses.{ItemStepOrLost}

@@ -3,7 +3,7 @@
 ghost use Rattle.std.specs.Prelude.{◌≡◌, ◌++◌, ◌∷◌, [], false, true};
 ghost use Rattle.lists.specs.Lists.{has_id};
 ghost use Rattle.ballot_base.specs.declared.message.Effect.TheVariants.{To};
-ghost use Rattle.node.specs.declared.Item.TheVariants.{Peer};
+ghost use Rattle.world_base.specs.declared.node_core.item.Item.TheVariants.{Peer};
 ghost use Rattle.post.specs.outbox.Given.{IsMasterNumber};
 ghost use Rattle.post.specs.outbox.Queued.{WasGiven};
 ghost use Rattle.post.specs.outbox.MasterAnswers.{answer_to, master_after_outcome, message_if};

@@ -2,7 +2,7 @@
 use Rattle.std.proofs.Common.{◌≡◌, ◌==◌, ℕ, ◌+◌, ◌<◌, Bool, false, List, [], ◌∷◌, ◌++◌, if◌then◌else◌, refl, ◌∙◌, ap, sym, subst, arith}
 use Rattle.std.proofs.lemmas.Bool.{eq-eqb}
 use Rattle.mailbox.specs.Naming.{no_inbox}
-use Rattle.node.specs.declared.Config.{Config}
+use Rattle.ballot_base.specs.declared.config.Config.{Config}
 use Rattle.lists.specs.Lists.{Each}
 use Rattle.lists.proofs.OfEach.{each_append, each_then}
 use Rattle.server.specs.node_threads.Named.{AreNamed}

@@ -3,7 +3,7 @@ use Rattle.std.specs.Prelude.{◌==◌, ℕ, List, [], ◌∷◌, if◌then◌el
 use Rattle.atomic_table.specs.Seated.{TableId}
 use Rattle.mailbox.specs.Naming.{no_inbox}
 use Rattle.world_base.specs.node_core.Core.{CountedCore, opening_core}
-use Rattle.node.specs.declared.Config.{Config}
+use Rattle.ballot_base.specs.declared.config.Config.{Config}
 use Rattle.server.specs.declared.node_threads.opened_node.OpenedNode.{OpenedNode}
 
 -- the inbox of the node of this number, among nodes that are about to serve

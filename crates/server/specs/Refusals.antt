@@ -1,6 +1,6 @@
 -- The errors of serving that come from the opening of a node.
-use Rattle.node.specs.declared.OpeningError.{OpeningError}
-use Rattle.node.specs.declared.OpeningError.TheVariants as opening
+use Rattle.ballot_base.specs.declared.errors.error.OpeningError.{OpeningError}
+use Rattle.ballot_base.specs.declared.errors.error.OpeningError.TheVariants as opening
 use Rattle.server.specs.declared.serve_error.ServeError.{ServeError}
 use Rattle.server.specs.declared.serve_error.ServeError.TheVariants.{BadMembers, Memory}
 

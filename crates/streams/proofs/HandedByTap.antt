@@ -1,8 +1,8 @@
 -- HandedByTap.antt: what a node gave for a tap's port is handed over by the tap, which counts it.
 use Rattle.std.proofs.Common.{◌≡◌, List, ◌++◌, length, refl, ◌∙◌, ap, inl, inr, arith, length-append}
 use Rattle.std.specs.Prelude.{ℕ, ◌+◌, ◌-◌, ◌^◌, ◌⊎◌, min, Result, Ok, Err, OnOk, OnErr}
-use Rattle.node.specs.declared.Handed.{Handed}
-use Rattle.node.specs.declared.Port.{Port}
+use Rattle.world_base.specs.declared.node_connections.handed.Handed.{Handed}
+use Rattle.world_base.specs.declared.node_connections.port.Port.{Port}
 use Rattle.world_base.specs.node_core.Core.{CountedCore}
 use Rattle.node.specs.Growth.{saturated}
 use Rattle.world_base.specs.node_connections.PendingOutput.{handed_after, pending_bytes}

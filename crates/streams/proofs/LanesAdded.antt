@@ -8,7 +8,7 @@ use Rattle.std.proofs.lemmas.List.{take_all}
 use Rattle.std.proofs.lemmas.List.Folds.{list_any_more}
 use Rattle.std.proofs.lemmas.Nat.{and_le_l, and_or_apart, and_or_self, pow_pos}
 use Rattle.std.proofs.lemmas.Nat.Bits.{and_pow, bit_at-pow_other}
-use Rattle.node.specs.declared.Port.{Port}
+use Rattle.world_base.specs.declared.node_connections.port.Port.{Port}
 use Rattle.streams.specs.ListedConnections.{is_lane_idle}
 use Rattle.streams.specs.Ports.{is_of_lane}
 use Rattle.streams.specs.declared.idle_lanes.IdleLanes.{IdleLanes}

@@ -2,7 +2,7 @@
 use Rattle.std.specs.Prelude.{◌≡◌, ℕ, zero, suc, ◌≤◌, ◌%◌, ◌^◌, ◌==◌, Bool, false, bit_and, nat_le, not}
 use Rattle.std.specs.Prelude.{List, [], ◌∷◌, ◌++◌, length, Option, None, Some, if◌then◌else◌}
 use Rattle.slab.specs.Slab.{Slab, get}
-use Rattle.node.specs.declared.Port.{Port}
+use Rattle.world_base.specs.declared.node_connections.port.Port.{Port}
 use Rattle.lists.specs.Lists.{Each}
 use Rattle.streams.specs.declared.link.Link.{Link}
 use Rattle.streams.specs.declared.idle_lanes.IdleLanes.{IdleLanes}

@@ -1,6 +1,6 @@
 -- The ports of connections, from which their lanes can be told.
 use Rattle.std.specs.Prelude.{ℕ, ◌+◌, ◌*◌, ◌%◌, ◌==◌, Bool}
-use Rattle.node.specs.declared.Port.{Port}
+use Rattle.world_base.specs.declared.node_connections.port.Port.{Port}
 use Rattle.streams.specs.declared.ports.TheConstants.{PORTS_APART}
 
 -- the port of a lane's connection number `count`, from 0

@@ -1,8 +1,8 @@
 -- What a node hands over for a port by a tap, which counts the bytes.
 use Rattle.std.specs.Prelude.{◌≡◌, ℕ, ◌+◌, List, length}
-use Rattle.node.specs.declared.Config.{Config}
-use Rattle.node.specs.declared.Handed.{Handed}
-use Rattle.node.specs.declared.Port.{Port}
+use Rattle.ballot_base.specs.declared.config.Config.{Config}
+use Rattle.world_base.specs.declared.node_connections.handed.Handed.{Handed}
+use Rattle.world_base.specs.declared.node_connections.port.Port.{Port}
 use Rattle.world_base.specs.node_core.Core.{CountedCore}
 use Rattle.node.specs.Growth.{saturated}
 use Rattle.world_base.specs.node_connections.PendingOutput.{handed_after, pending_bytes}

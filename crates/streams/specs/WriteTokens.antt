@@ -1,6 +1,6 @@
 -- A connection's stream, wherever its token is kept.
 use Rattle.std.specs.Prelude.{◌≡◌, ◌==◌, Option, None, Some, if◌then◌else◌}
-use Rattle.node.specs.declared.Port.{Port}
+use Rattle.world_base.specs.declared.node_connections.port.Port.{Port}
 use Rattle.node_base.specs.connection.Whole.{OutflowView, IsWhole}
 use Rattle.streams.specs.Taps.{HandsNone, HandsOut}
 use Rattle.streams.specs.declared.port_tap.PortTap.{PortTap}

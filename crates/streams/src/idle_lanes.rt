@@ -2,7 +2,7 @@
 
 ghost use Rattle.std.specs.Prelude.{◌≡◌, ◌%◌, ◌^◌, ◌||◌};
 ghost use Rattle.std.specs.List.{list_any};
-ghost use Rattle.node.specs.declared.Port.{Port};
+ghost use Rattle.world_base.specs.declared.node_connections.port.Port.{Port};
 
 use world_base::node_connections::Port;
 

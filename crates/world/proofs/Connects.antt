@@ -7,7 +7,7 @@ use Rattle.std.proofs.lemmas.List.{reverse-reverse}
 use Rattle.std.proofs.lemmas.Option.{none-some}
 use Rattle.lists.proofs.Tests.{none_or}
 use Rattle.world_base.specs.declared.node_core.item.Item.TheVariants.{Opened}
-use Rattle.world_base.specs.declared.node_core.Port.{Port}
+use Rattle.world_base.specs.declared.node_connections.port.Port.{Port}
 use Rattle.world_base.specs.node_core.Core.{CoreState, CountedCore}
 use Rattle.world_base.specs.node_core.PortOutput.{listed_at}
 use Rattle.headline.specs.node_moves.Moves.NodeCall.{takes}

@@ -7,8 +7,8 @@ use Rattle.broker_spec.specs.Place.{Client}
 use Rattle.lists.specs.Lists.{In}
 use Rattle.lists.proofs.Tests.{eq_is}
 use Rattle.exactly_once.proofs.Takes.{same_name_self}
-use Rattle.world_base.specs.declared.node_core.Connection.{Connection as NodesEnd}
-use Rattle.world_base.specs.declared.node_core.Port.{Port}
+use Rattle.world_base.specs.declared.node_connections.connection.Connection.{Connection as NodesEnd}
+use Rattle.world_base.specs.declared.node_connections.port.Port.{Port}
 use Rattle.world_base.specs.node_connections.Connections.{is_at}
 use Rattle.world_base.specs.node_core.Core.{CoreState, CountedCore}
 use Rattle.world_base.specs.node_connections.PendingOutput.{pending_bytes}

@@ -4,7 +4,7 @@ use Rattle.std.proofs.lemmas.List.{length-append, length-set}
 use Rattle.std.proofs.lemmas.Option.{same_Some, none-some}
 use Rattle.lists.proofs.Places.{get_pushed, get_set, get_set_other}
 use Rattle.headline.proofs.of_packet_world.Lists.{same_or_other, set_get}
-use Rattle.world_base.specs.declared.node_core.Port.{Port}
+use Rattle.world_base.specs.declared.node_connections.port.Port.{Port}
 use Rattle.world_pipes.specs.declared.clients.connection_slot.ConnectionSlot.{ConnectionSlot}
 use Rattle.world_pipes.specs.clients.SlotsAreValid.{SlotsAreValid, LeadsThere}
 

@@ -3,7 +3,7 @@ use Rattle.std.proofs.Common.{◌≡◌, ℕ, suc, List, [], ◌∷◌, ◌++◌
 use Rattle.std.proofs.lemmas.List.{length-map, map-append, map-set}
 use Rattle.client.specs.Core.{Core}
 use Rattle.headline.proofs.of_node_group.Placed.{get_mapped}
-use Rattle.world_base.specs.declared.node_core.Port.{Port}
+use Rattle.world_base.specs.declared.node_connections.port.Port.{Port}
 use Rattle.world_pipes.specs.declared.pair.PipePair.{PipePair}
 use Rattle.world_pipes.specs.Piped.{Piped, new_pair, piped_up}
 use Rattle.world_pipes.specs.declared.clients.connection_slot.ConnectionSlot.{ConnectionSlot}

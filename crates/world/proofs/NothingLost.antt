@@ -12,7 +12,7 @@ use Rattle.headline.specs.node_moves.Moves.NodeCall.{takes}
 use Rattle.world_base.specs.node_core.Core.{CountedCore}
 use Rattle.world_base.specs.declared.node_core.item.Item.{Item}
 use Rattle.world_base.specs.declared.node_core.item.Item.TheVariants.{Cut, Expel, Peer}
-use Rattle.world_base.specs.declared.node_core.Port.{Port}
+use Rattle.world_base.specs.declared.node_connections.port.Port.{Port}
 use Rattle.world_nodes.specs.ExactSteps.{after_node_call}
 use Rattle.world_nodes.specs.Nodes.{NodesState}
 use Rattle.world_nodes.specs.Steps.{ActsWithLosses, CutsWithLosses, DeliveryOrLost, MasterAnswerOrLost, NodeCutOrLost, NodeExpelOrLost, NodeItemOrLost, NodesLoseNothing, nodes_with_loss}

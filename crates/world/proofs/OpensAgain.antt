@@ -16,8 +16,8 @@ use Rattle.headline.proofs.of_byte_world.NodesHoused.{nodes_are_orderly, ports_h
 use Rattle.lists.proofs.Tests.{eq_is}
 use Rattle.lists.specs.Lists.{Each, In}
 use Rattle.lists.specs.Lists.In.{here, there}
-use Rattle.world_base.specs.declared.node_core.Connection.{Connection}
-use Rattle.world_base.specs.declared.node_core.Port.{Port}
+use Rattle.world_base.specs.declared.node_connections.connection.Connection.{Connection}
+use Rattle.world_base.specs.declared.node_connections.port.Port.{Port}
 use Rattle.world_base.specs.node_connections.Connections.{is_at, is_open_named, is_closed}
 use Rattle.world_base.specs.node_core.Core.{CoreState, CountedCore}
 use Rattle.world.specs.Found.{port_at_node}

@@ -6,7 +6,7 @@ use Rattle.std.specs.Option.{is_some}
 use Rattle.std.proofs.lemmas.Bool.{both_ways}
 use Rattle.std.proofs.lemmas.Option.{none-some}
 use Rattle.world_base.specs.declared.node_core.item.Item.TheVariants.{Opened}
-use Rattle.world_base.specs.declared.node_core.Port.{Port}
+use Rattle.world_base.specs.declared.node_connections.port.Port.{Port}
 use Rattle.world_base.specs.node_core.Core.{CoreState, CountedCore}
 use Rattle.world_base.specs.node_core.PortOutput.{listed_at}
 use Rattle.headline.specs.node_moves.Moves.NodeCall.{takes}

@@ -6,7 +6,7 @@ use Rattle.agreement.specs.World.{can_open}
 use Rattle.broker_spec.specs.Place.{Client}
 use Rattle.headline.specs.packet_world.World.{ClientsAreApart}
 use Rattle.headline.specs.node_group.Group.{opening_group}
-use Rattle.world_base.specs.declared.node_core.Port.{Port}
+use Rattle.world_base.specs.declared.node_connections.port.Port.{Port}
 use Rattle.headline.specs.byte_world.World.{ClientPipes, Pipe, new_client, opening}
 use Rattle.headline.specs.byte_world.Steps.Reached.{begins}
 use Rattle.world_nodes.specs.Nodes.{NodesStandFor}

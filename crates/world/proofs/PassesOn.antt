@@ -11,7 +11,7 @@ use Rattle.headline.proofs.of_node_group.Placed.{get_mapped}
 use Rattle.world_base.specs.node_core.Core.{CountedCore}
 use Rattle.world_base.specs.node_connections.PendingOutput.{pending_bytes}
 use Rattle.world_base.specs.node_core.PortOutput.{listed_at}
-use Rattle.world_base.specs.declared.node_core.Port.{Port}
+use Rattle.world_base.specs.declared.node_connections.port.Port.{Port}
 use Rattle.world_nodes.specs.RunningNodes.{numbered_node}
 use Rattle.world_nodes.specs.Nodes.{NodesState}
 use Rattle.world_nodes.proofs.Exactly.{at_place, gives_acts}

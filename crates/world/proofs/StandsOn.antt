@@ -8,7 +8,7 @@ use Rattle.lists.proofs.Places.{get_set, get_set_other}
 use Rattle.client.specs.Core.{Core}
 use Rattle.headline.proofs.of_packet_world.Lists.{same_or_other}
 use Rattle.world_base.specs.node_core.Core.{CountedCore}
-use Rattle.world_base.specs.declared.node_core.Port.{Port}
+use Rattle.world_base.specs.declared.node_connections.port.Port.{Port}
 use Rattle.world_nodes.specs.RunningNodes.{numbered_node}
 use Rattle.world_pipes.specs.declared.pair.PipePair.{PipePair}
 use Rattle.world_pipes.specs.declared.clients.connection_slot.ConnectionSlot.{ConnectionSlot}

@@ -20,10 +20,10 @@ use Rattle.world_nodes.proofs.of_recoveries.NodesFollow.{deliveries_are_followed
 use Rattle.agreement.specs.cut_logs.Moments.{Moment}
 use Rattle.headline.specs.node_moves.Moves.NodeCall.{takes}
 use Rattle.headline.proofs.of_node_moves.Views.{found_passes}
-use Rattle.world_base.specs.declared.node_core.Connection.{Connection}
-use Rattle.world_base.specs.declared.node_core.Handed.{Handed}
-use Rattle.world_base.specs.declared.node_core.Handed.TheVariants as answers
-use Rattle.world_base.specs.declared.node_core.Port.{Port}
+use Rattle.world_base.specs.declared.node_connections.connection.Connection.{Connection}
+use Rattle.world_base.specs.declared.node_connections.handed.Handed.{Handed}
+use Rattle.world_base.specs.declared.node_connections.handed.Handed.TheVariants as answers
+use Rattle.world_base.specs.declared.node_connections.port.Port.{Port}
 use Rattle.world_base.specs.declared.node_core.item.Item.TheVariants.{Peer}
 use Rattle.world_base.specs.node_connections.Connections.{is_open_named, is_closed}
 use Rattle.world_base.specs.node_core.Core.{CountedCore, rules}

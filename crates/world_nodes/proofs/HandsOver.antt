@@ -4,8 +4,8 @@ use Rattle.std.specs.Prelude.{get_or, slice_get, slice_set}
 use Rattle.std.proofs.lemmas.List.{append-nil}
 use Rattle.ballot_base.specs.declared.message.Message.{Message}
 use Rattle.broker_spec.specs.declared.command.Command.{Command}
-use Rattle.world_base.specs.declared.node_core.Handed.{Handed}
-use Rattle.world_base.specs.declared.node_core.Port.{Port}
+use Rattle.world_base.specs.declared.node_connections.handed.Handed.{Handed}
+use Rattle.world_base.specs.declared.node_connections.port.Port.{Port}
 use Rattle.world_base.specs.node_core.Core.{CountedCore}
 use Rattle.world_base.specs.node_connections.PendingOutput.{handed_after, pending_bytes}
 use Rattle.world_base.specs.node_core.PortOutput.{hands_over, listed_at}

@@ -9,10 +9,10 @@ use Rattle.agreement.specs.cut_logs.Masters.{MasterOutcome, activated, assigned}
 use Rattle.agreement.specs.cut_logs.World.{messages, recorded}
 use Rattle.broker_spec.specs.declared.command.Command.{Command}
 use Rattle.world_base.specs.node_core.Core.{CountedCore}
-use Rattle.world_base.specs.declared.node_core.Handed.{Handed}
+use Rattle.world_base.specs.declared.node_connections.handed.Handed.{Handed}
 use Rattle.world_base.specs.declared.node_core.item.Item.{Item}
 use Rattle.world_base.specs.declared.node_core.item.Item.TheVariants.{Cut, Peer}
-use Rattle.world_base.specs.declared.node_core.Port.{Port}
+use Rattle.world_base.specs.declared.node_connections.port.Port.{Port}
 use Rattle.world_base.specs.node_connections.PendingOutput.{handed_after, pending_bytes}
 use Rattle.world_base.specs.node_core.PortOutput.{listed_at}
 use Rattle.headline.specs.node_moves.Moves.{NodeCall, done}

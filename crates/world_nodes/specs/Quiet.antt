@@ -9,7 +9,7 @@ use Rattle.broker_spec.specs.declared.command.Command.{Command}
 use Rattle.world_base.specs.node_connections.Connections.{has_failed}
 use Rattle.world_base.specs.declared.node_core.item.Item.{Item}
 use Rattle.world_base.specs.declared.node_core.item.Item.TheVariants.{Peer}
-use Rattle.world_base.specs.declared.node_core.Port.{Port}
+use Rattle.world_base.specs.declared.node_connections.port.Port.{Port}
 use Rattle.world_base.specs.node_core.Core.{CountedCore}
 use Rattle.world_base.specs.node_connections.PendingOutput.{pending_bytes}
 use Rattle.world_base.specs.node_core.PortOutput.{listed_at}

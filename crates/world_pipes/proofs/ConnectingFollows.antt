@@ -16,7 +16,7 @@ use Rattle.client_base.specs.Keeper.{Keeper}
 use Rattle.client_base.specs.Steps.{Call, keeper_step}
 use Rattle.client.specs.Core.{AppendsAll, Core, OpensConnection}
 use Rattle.headline.specs.node_moves.Puts.{spelled}
-use Rattle.world_base.specs.declared.node_core.Port.{Port}
+use Rattle.world_base.specs.declared.node_connections.port.Port.{Port}
 use Rattle.headline.specs.byte_world.World.{ClientPipes, new_client}
 use Rattle.headline.specs.byte_world.ClientSteps.{after_connecting}
 use Rattle.world_pipes.specs.declared.pair.PipePair.{PipePair}

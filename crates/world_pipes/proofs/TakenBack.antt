@@ -9,7 +9,7 @@ use Rattle.client_base.specs.State.{ClientState}
 use Rattle.client_base.specs.Steps.{Call, keeper_step}
 use Rattle.client_base.proofs.FollowsHandled.{lost_stands}
 use Rattle.client.specs.Core.{Core, gone}
-use Rattle.world_base.specs.declared.node_core.Port.{Port}
+use Rattle.world_base.specs.declared.node_connections.port.Port.{Port}
 use Rattle.world_pipes.specs.declared.pair.PipePair.{PipePair}
 use Rattle.world_pipes.specs.ModelSteps.{FollowsAll, after_losing}
 use Rattle.world_pipes.specs.Piped.{SendsConnect, Piped, new_pair, piped, taken_back}

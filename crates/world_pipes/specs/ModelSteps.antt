@@ -9,7 +9,7 @@ use Rattle.client_base.specs.Handled.{lost}
 use Rattle.headline.specs.packet_world.Steps.{is_call}
 use Rattle.session_base.specs.declared.publication.Publication.{Publication}
 use Rattle.exactly_once.specs.Story.{StoryStep, Story}
-use Rattle.world_base.specs.declared.node_core.Port.{Port}
+use Rattle.world_base.specs.declared.node_connections.port.Port.{Port}
 use Rattle.headline.specs.byte_world.World.{ClientPipes, after_writing}
 use Rattle.headline.specs.byte_world.ClientSteps.{WritesCanBeSpelled, after_connecting, story_alone}
 use Rattle.headline.specs.byte_world.Published.{published_by_call}

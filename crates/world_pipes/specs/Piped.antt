@@ -1,7 +1,7 @@
 -- What a `PipedClient` shows: the client, and its connections with the bytes in transit, the oldest
 -- first; and what its calls do.
 use Rattle.std.specs.Prelude.{◌≡◌, ℕ, ◌-◌, Bool, true, false, ◌⊎◌, List, [], ◌∷◌, ◌++◌, length, take, drop, Result, Ok, Err}
-use Rattle.world_base.specs.declared.node_core.Port.{Port}
+use Rattle.world_base.specs.declared.node_connections.port.Port.{Port}
 use Rattle.client_base.specs.declared.error.ClientError.{ClientError}
 use Rattle.client_base.specs.declared.error.ClientError.TheVariants as errors
 use Rattle.client_base.specs.State.{is_open}

@@ -13,7 +13,7 @@ use Rattle.broker_spec.specs.Connection.{ConnectionName}
 use Rattle.agreement.specs.MasterState.{refusal}
 use Rattle.agreement.specs.cut_logs.Moments.{Moment, Moments}
 use Rattle.agreement.proofs.of_cut_logs.MomentsAgree.{one_primary_a_ballot}
-use Rattle.world_base.specs.declared.node_core.Connection.{Connection}
+use Rattle.world_base.specs.declared.node_connections.connection.Connection.{Connection}
 use Rattle.world_base.specs.node_core.Core.{CoreState, StepOutcome, rules}
 use Rattle.world_base.specs.node_core.Effects.{without_messages}
 use Rattle.headline.specs.node_moves.Closed.{listed_named}

@@ -11,10 +11,10 @@ use Rattle.lists.specs.Lists.{Each, In}
 use Rattle.lists.specs.Lists.In.{here, there}
 use Rattle.agreement.specs.MasterState.{refusal}
 use Rattle.headline.proofs.of_packet_world.Lists.{same_or_other}
-use Rattle.world_base.specs.declared.node_core.Connection.{Connection}
+use Rattle.world_base.specs.declared.node_connections.connection.Connection.{Connection}
 use Rattle.world_base.specs.declared.node_core.item.Item.{Item}
 use Rattle.world_base.specs.declared.node_core.item.Item.TheVariants.{Peer, Tick, Opened, Bytes, Ended, Expel, Cut, Crash}
-use Rattle.world_base.specs.declared.node_core.Port.{Port}
+use Rattle.world_base.specs.declared.node_connections.port.Port.{Port}
 use Rattle.world_base.specs.node_core.Core.{CoreState, StepOutcome}
 use Rattle.world_base.specs.node_core.LossyStep.{RunsOn}
 use Rattle.world_base.specs.node_core.Step.{next_name}

@@ -7,9 +7,9 @@ use Rattle.ballot_base.specs.declared.config.Config.{Config}
 use Rattle.broker_spec.specs.Connection.{ConnectionName}
 use Rattle.lists.proofs.Tests.{eq_same}
 use Rattle.exactly_once.specs.Sides.{ClientConnection}
-use Rattle.world_base.specs.declared.node_core.Connection.{Connection as NodesEnd}
+use Rattle.world_base.specs.declared.node_connections.connection.Connection.{Connection as NodesEnd}
 use Rattle.world_base.specs.declared.node_core.item.Item.TheVariants.{Opened}
-use Rattle.world_base.specs.declared.node_core.Port.{Port}
+use Rattle.world_base.specs.declared.node_connections.port.Port.{Port}
 use Rattle.world_base.specs.node_core.Core.{CoreState}
 use Rattle.headline.specs.node_moves.Moves.{NodeCall}
 use Rattle.headline.specs.node_moves.Moves.NodeCall.{takes}

@@ -14,9 +14,9 @@ use Rattle.lists.proofs.Tests.{eq_is, eq_same}
 use Rattle.headline.specs.node_moves.Pipe.{Joins}
 use Rattle.exactly_once.specs.Sides.{ClientConnection}
 use Rattle.exactly_once.proofs.Takes.{same_name_self}
-use Rattle.world_base.specs.declared.node_core.Connection.{Connection as NodesEnd}
+use Rattle.world_base.specs.declared.node_connections.connection.Connection.{Connection as NodesEnd}
 use Rattle.world_base.specs.declared.node_core.item.Item.TheVariants.{Peer, Tick, Opened, Bytes, Ended, Expel, Cut, Crash}
-use Rattle.world_base.specs.declared.node_core.Port.{Port}
+use Rattle.world_base.specs.declared.node_connections.port.Port.{Port}
 use Rattle.world_base.specs.node_connections.Connections.{is_at, is_open_at}
 use Rattle.world_base.specs.node_core.Core.{CoreState}
 use Rattle.world_base.specs.node_core.PortOutput.{listed_at}

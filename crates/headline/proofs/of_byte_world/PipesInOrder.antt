@@ -5,7 +5,7 @@ use Rattle.broker_spec.specs.declared.command.Command.{Command}
 use Rattle.broker_spec.specs.Place.{Client}
 use Rattle.lists.specs.Lists.{In, IsPrefixOf}
 use Rattle.exactly_once.specs.Sides.{ClientConnection}
-use Rattle.world_base.specs.declared.node_core.Connection.{Connection as NodesEnd}
+use Rattle.world_base.specs.declared.node_connections.connection.Connection.{Connection as NodesEnd}
 use Rattle.world_base.specs.node_core.Core.{CoreState}
 use Rattle.headline.specs.node_group.Group.{opening_cores}
 use Rattle.headline.specs.node_group.Steps.{GroupTrace}

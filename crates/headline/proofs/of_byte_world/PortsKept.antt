@@ -21,11 +21,11 @@ use Rattle.broker_spec.specs.declared.command.Output.TheVariants as outputs
 use Rattle.lists.specs.Lists.{Each, In}
 use Rattle.lists.specs.Lists.In.{here, there}
 use Rattle.lists.proofs.OfEach.{each_append, each_then}
-use Rattle.world_base.specs.declared.node_core.Connection.{Connection}
+use Rattle.world_base.specs.declared.node_connections.connection.Connection.{Connection}
 use Rattle.world_base.specs.declared.node_core.item.Item.{Item}
 use Rattle.ballot_base.specs.Compaction.{can_cut}
 use Rattle.world_base.specs.declared.node_core.item.Item.TheVariants.{Peer, Tick, Opened, Bytes, Ended, Expel, Cut, Crash}
-use Rattle.world_base.specs.declared.node_core.Port.{Port}
+use Rattle.world_base.specs.declared.node_connections.port.Port.{Port}
 use Rattle.world_base.specs.node_connections.Connections.{fresh, is_at, awaits_first_packet, is_listed, is_open_at, is_open_named, is_proposed}
 use Rattle.world_base.specs.node_connections.ConnectionChanges.{noted_proposed, changed_where, closed_connection, failing, nothing_pending, with_unread, left_with, max_pending, with_queued, putting}
 use Rattle.world_base.specs.node_core.Core.{CoreState, StepOutcome, serves}

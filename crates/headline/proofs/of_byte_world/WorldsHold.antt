@@ -11,8 +11,8 @@ use Rattle.lists.specs.Lists.{Each, In}
 use Rattle.lists.proofs.Places.{get_set, get_set_other}
 use Rattle.headline.proofs.of_packet_world.Lists.{same_or_other, set_get}
 use Rattle.exactly_once.specs.Sides.{ClientConnection}
-use Rattle.world_base.specs.declared.node_core.Connection.{Connection as NodesEnd}
-use Rattle.world_base.specs.declared.node_core.Port.{Port}
+use Rattle.world_base.specs.declared.node_connections.connection.Connection.{Connection as NodesEnd}
+use Rattle.world_base.specs.declared.node_connections.port.Port.{Port}
 use Rattle.world_base.specs.node_core.Core.{CoreState}
 use Rattle.headline.specs.node_moves.Puts.{spelled}
 use Rattle.headline.specs.node_group.Group.{Group}

@@ -15,9 +15,9 @@ use Rattle.headline.proofs.of_packet_world.Lists.{same_or_other, set_get}
 use Rattle.headline.specs.node_moves.Pipe.{Joins}
 use Rattle.exactly_once.specs.Sides.{ClientConnection}
 use Rattle.exactly_once.proofs.Takes.{same_name_self}
-use Rattle.world_base.specs.declared.node_core.Connection.{Connection as NodesEnd}
+use Rattle.world_base.specs.declared.node_connections.connection.Connection.{Connection as NodesEnd}
 use Rattle.world_base.specs.declared.node_core.item.Item.TheVariants.{Opened}
-use Rattle.world_base.specs.declared.node_core.Port.{Port}
+use Rattle.world_base.specs.declared.node_connections.port.Port.{Port}
 use Rattle.world_base.specs.node_core.Core.{CoreState}
 use Rattle.world_base.specs.node_core.PortOutput.{listed_at}
 use Rattle.world_base.specs.node_core.Step.{next_name}

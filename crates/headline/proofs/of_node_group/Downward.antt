@@ -8,7 +8,7 @@ use Rattle.broker_spec.specs.Connection.{ConnectionName}
 use Rattle.broker_base.specs.State.{State}
 use Rattle.lists.specs.Lists.{IsPrefixOf}
 use Rattle.lists.proofs.Prefixes.{prefix_length, prefix_take, prefix_then, take_prefix}
-use Rattle.world_base.specs.declared.node_core.Connection.{Connection}
+use Rattle.world_base.specs.declared.node_connections.connection.Connection.{Connection}
 use Rattle.world_base.specs.node_connections.PendingOutput.{pending_bytes}
 use Rattle.headline.proofs.of_node_moves.Kept.{live}
 use Rattle.headline.proofs.of_node_moves.Views.{some_none}

@@ -44,8 +44,8 @@ use Rattle.agreement.proofs.Agreed.MomentsKnown.{moments_known}
 use Rattle.agreement.proofs.of_cut_logs.NextPlaces.{answers_at_the_next_places}
 use Rattle.agreement.proofs.Given.Places.{none_between}
 use Rattle.agreement.proofs.Given.StepGives.{from_active}
-use Rattle.world_base.specs.declared.node_core.Connection.{Connection}
-use Rattle.world_base.specs.declared.node_core.Port.{Port}
+use Rattle.world_base.specs.declared.node_connections.connection.Connection.{Connection}
+use Rattle.world_base.specs.declared.node_connections.port.Port.{Port}
 use Rattle.world_base.specs.node_core.Core.{CoreState, StepOutcome, rules, serves}
 use Rattle.world_base.specs.node_core.FailedConnections.{closes_failed}
 use Rattle.world_base.specs.node_core.PacketInput.{changes}

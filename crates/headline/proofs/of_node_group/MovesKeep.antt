@@ -21,7 +21,7 @@ use Rattle.headline.specs.node_moves.Pipe.{IsPiped}
 use Rattle.exactly_once.specs.Sends.{sends_to}
 use Rattle.headline.proofs.of_packet_world.Answers.{counted_in, nothing_put}
 use Rattle.headline.proofs.of_packet_world.Lists.{same_or_other}
-use Rattle.world_base.specs.declared.node_core.Connection.{Connection}
+use Rattle.world_base.specs.declared.node_connections.connection.Connection.{Connection}
 use Rattle.world_base.specs.node_core.Core.{CoreState, StepOutcome, rules}
 use Rattle.headline.specs.node_moves.Closed.{listed_named}
 use Rattle.headline.specs.node_moves.Ends.{IsEnd, IsGiven, IsOrderly, packet_commands_from, open_named, stream_of}

@@ -18,7 +18,7 @@ use Rattle.agreement.specs.cut_logs.AgreedLists.{IsPrimary}
 use Rattle.agreement.specs.cut_logs.Whole.{whole}
 use Rattle.agreement.proofs.of_cut_logs.Views.{get_whole}
 use Rattle.agreement.specs.Proposals.{commands_of as commands_in}
-use Rattle.world_base.specs.declared.node_core.Connection.{Connection}
+use Rattle.world_base.specs.declared.node_connections.connection.Connection.{Connection}
 use Rattle.world_base.specs.node_core.Core.{CoreState, StepOutcome}
 use Rattle.world_base.specs.node_core.Step.{next_name}
 use Rattle.headline.specs.node_moves.Closed.{listed_named}

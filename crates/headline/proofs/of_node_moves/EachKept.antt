@@ -14,7 +14,7 @@ use Rattle.broker_spec.specs.declared.command.Output.{Output}
 use Rattle.broker_spec.specs.declared.command.Output.TheVariants as outputs
 use Rattle.broker_spec.specs.Connection.{ConnectionName}
 use Rattle.lists.specs.Lists.{Each}
-use Rattle.world_base.specs.declared.node_core.Connection.{Connection}
+use Rattle.world_base.specs.declared.node_connections.connection.Connection.{Connection}
 use Rattle.world_base.specs.node_connections.Connections.{has_failed, is_listed, is_open_named}
 use Rattle.world_base.specs.node_connections.ConnectionChanges.{closed_connection, with_queued}
 use Rattle.world_base.specs.node_core.Core.{CoreState, StepOutcome, rules, serves}

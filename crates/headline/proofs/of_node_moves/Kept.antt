@@ -14,10 +14,10 @@ use Rattle.broker_spec.specs.declared.command.Output.{Output}
 use Rattle.broker_spec.specs.declared.command.Output.TheVariants as outputs
 use Rattle.broker_spec.specs.Connection.{ConnectionName, same_connection}
 use Rattle.lists.specs.Lists.{Each}
-use Rattle.world_base.specs.declared.node_core.Port.{Port}
-use Rattle.world_base.specs.declared.node_core.Connection.{Connection}
-use Rattle.world_base.specs.declared.node_core.ConnectionStage.{ConnectionStage}
-use Rattle.world_base.specs.declared.node_core.ConnectionStage.TheVariants.{Awaits, Proposed, Closed, Failed}
+use Rattle.world_base.specs.declared.node_connections.port.Port.{Port}
+use Rattle.world_base.specs.declared.node_connections.connection.Connection.{Connection}
+use Rattle.world_base.specs.declared.node_connections.connection.ConnectionStage.{ConnectionStage}
+use Rattle.world_base.specs.declared.node_connections.connection.ConnectionStage.TheVariants.{Awaits, Proposed, Closed, Failed}
 use Rattle.world_base.specs.node_connections.Connections.{is_closed, is_proposed, is_failed, has_failed, is_at, is_open_at, is_open_named, is_listed}
 use Rattle.world_base.specs.node_connections.ConnectionChanges.{max_pending, closed_connection, failing, with_queued, putting, nothing_pending, changed_where}
 use Rattle.world_base.specs.node_core.Core.{CoreState, StepOutcome, rules, serves}

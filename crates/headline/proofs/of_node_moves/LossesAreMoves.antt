@@ -5,7 +5,7 @@ use Rattle.ballot_base.specs.Protocol.{Input}
 use Rattle.ballot_base.specs.Protocol.Input.{Receives, Ticks}
 use Rattle.broker_spec.specs.declared.command.Command.{Command}
 use Rattle.broker_spec.specs.Connection.{ConnectionName}
-use Rattle.world_base.specs.declared.node_core.Port.{Port}
+use Rattle.world_base.specs.declared.node_connections.port.Port.{Port}
 use Rattle.world_base.specs.declared.node_core.item.Item.{Item}
 use Rattle.world_base.specs.declared.node_core.item.Item.TheVariants.{Peer, Tick, Opened, Bytes, Ended, Expel, Cut, Crash}
 use Rattle.world_base.specs.node_connections.ConnectionChanges.{closed_connection, with_unread}

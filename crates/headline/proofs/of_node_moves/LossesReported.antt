@@ -4,9 +4,9 @@ use Rattle.std.proofs.Common.{◌≡◌, ◌⊎◌, inl, inr, ◌≤◌, ◌<◌
 use Rattle.std.specs.List.{find}
 use Rattle.broker_spec.specs.declared.command.Command.TheVariants as commands
 use Rattle.lists.specs.Lists.{Each}
-use Rattle.world_base.specs.declared.node_core.Connection.{Connection}
-use Rattle.world_base.specs.declared.node_core.ConnectionStage.{ConnectionStage}
-use Rattle.world_base.specs.declared.node_core.ConnectionStage.TheVariants.{Awaits, Proposed, Closed, Failed}
+use Rattle.world_base.specs.declared.node_connections.connection.Connection.{Connection}
+use Rattle.world_base.specs.declared.node_connections.connection.ConnectionStage.{ConnectionStage}
+use Rattle.world_base.specs.declared.node_connections.connection.ConnectionStage.TheVariants.{Awaits, Proposed, Closed, Failed}
 use Rattle.world_base.specs.node_connections.Connections.{is_proposed, is_failed, has_failed}
 use Rattle.world_base.specs.node_connections.ConnectionChanges.{closed_connection}
 use Rattle.world_base.specs.node_core.Core.{CoreState}

@@ -3,7 +3,7 @@
 use Rattle.std.proofs.Common.{◌≡◌, true, Option, Some, None, refl, sym, ap, ◌∙◌}
 use Rattle.std.proofs.lemmas.Bool.{both_ways}
 use Rattle.broker_spec.specs.Connection.{ConnectionName}
-use Rattle.world_base.specs.declared.node_core.Connection.{Connection}
+use Rattle.world_base.specs.declared.node_connections.connection.Connection.{Connection}
 use Rattle.world_base.specs.node_connections.Connections.{is_closed}
 use Rattle.world_base.specs.node_core.Core.{CoreState, StepOutcome}
 use Rattle.headline.specs.node_moves.Closed.{listed_named}

@@ -13,7 +13,7 @@ use Rattle.broker_spec.specs.Connection.{ConnectionName}
 use Rattle.broker_spec.specs.declared.command.Output.{Output}
 use Rattle.lists.specs.Lists.{In}
 use Rattle.exactly_once.specs.StoryCommands.{is_packet_of}
-use Rattle.world_base.specs.declared.node_core.Connection.{Connection}
+use Rattle.world_base.specs.declared.node_connections.connection.Connection.{Connection}
 use Rattle.world_base.specs.node_connections.Connections.{is_closed}
 use Rattle.world_base.specs.node_connections.ConnectionChanges.{noted_proposed, failing, closed_connection, left_with}
 use Rattle.world_base.specs.node_core.Core.{CoreState, StepOutcome, rules, serves}

@@ -11,7 +11,7 @@ use Rattle.broker_spec.specs.declared.command.Output.{Output}
 use Rattle.broker_spec.specs.declared.command.Output.TheVariants as outputs
 use Rattle.broker_spec.specs.Connection.{ConnectionName, same_connection}
 use Rattle.broker_spec.proofs.ConnectionNames.{same_itself, same_name}
-use Rattle.world_base.specs.declared.node_core.Connection.{Connection}
+use Rattle.world_base.specs.declared.node_connections.connection.Connection.{Connection}
 use Rattle.world_base.specs.node_connections.Connections.{is_open_named}
 use Rattle.world_base.specs.node_connections.ConnectionChanges.{changed_where, closed_connection, failing, with_queued}
 use Rattle.world_base.specs.node_core.Core.{CoreState}

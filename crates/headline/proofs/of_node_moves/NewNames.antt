@@ -4,8 +4,8 @@ use Rattle.std.proofs.Common.{◌≡◌, ◌⊎◌, inl, inr, ℕ, Bool, true, f
 use Rattle.std.specs.List.{find, list_any}
 use Rattle.broker_spec.specs.Connection.{ConnectionName, is_connection_name}
 use Rattle.broker_spec.proofs.ConnectionNames.{same_name}
-use Rattle.world_base.specs.declared.node_core.Port.{Port}
-use Rattle.world_base.specs.declared.node_core.Connection.{Connection}
+use Rattle.world_base.specs.declared.node_connections.port.Port.{Port}
+use Rattle.world_base.specs.declared.node_connections.connection.Connection.{Connection}
 use Rattle.world_base.specs.node_connections.Connections.{fresh, is_at, is_listed}
 use Rattle.world_base.specs.node_connections.ConnectionChanges.{closed_connection, nothing_pending, changed_where}
 use Rattle.world_base.specs.node_core.Core.{CoreState, serves}

@@ -6,12 +6,12 @@ use Rattle.std.proofs.lemmas.List.{append-nil}
 use Rattle.std.proofs.lemmas.Bool.{both_ways}
 use Rattle.broker_spec.specs.Connection.{ConnectionName, is_connection_name}
 use Rattle.exactly_once.specs.Sends.{sends_to}
-use Rattle.world_base.specs.declared.node_core.Port.{Port}
-use Rattle.world_base.specs.declared.node_core.Connection.{Connection}
+use Rattle.world_base.specs.declared.node_connections.port.Port.{Port}
+use Rattle.world_base.specs.declared.node_connections.connection.Connection.{Connection}
 use Rattle.world_base.specs.node_connections.Connections.{fresh, has_failed, is_at, is_failed, is_listed, is_closed}
 use Rattle.world_base.specs.node_connections.ConnectionChanges.{noted_proposed, closed_connection, nothing_pending, with_unread, left_with, changed_where}
-use Rattle.world_base.specs.declared.node_core.ConnectionStage.{ConnectionStage}
-use Rattle.world_base.specs.declared.node_core.ConnectionStage.TheVariants.{Awaits, Proposed, Closed, Failed}
+use Rattle.world_base.specs.declared.node_connections.connection.ConnectionStage.{ConnectionStage}
+use Rattle.world_base.specs.declared.node_connections.connection.ConnectionStage.TheVariants.{Awaits, Proposed, Closed, Failed}
 use Rattle.world_base.specs.node_core.FailedConnections.{closes_failed}
 use Rattle.world_base.specs.node_core.Core.{CoreState, StepOutcome, serves}
 use Rattle.world_base.specs.node_core.PortOutput.{hands_over, left_by}

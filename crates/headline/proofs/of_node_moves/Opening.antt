@@ -8,8 +8,8 @@ use Rattle.broker_spec.proofs.ConnectionNames.{same_name, same_itself}
 use Rattle.lists.specs.Lists.{Each}
 use Rattle.lists.proofs.OfEach.{each_then, each_append}
 use Rattle.headline.specs.node_moves.Pipe.{IsPiped}
-use Rattle.world_base.specs.declared.node_core.Port.{Port}
-use Rattle.world_base.specs.declared.node_core.Connection.{Connection}
+use Rattle.world_base.specs.declared.node_connections.port.Port.{Port}
+use Rattle.world_base.specs.declared.node_connections.connection.Connection.{Connection}
 use Rattle.world_base.specs.node_connections.Connections.{is_at, fresh}
 use Rattle.world_base.specs.node_core.Core.{CoreState, serves}
 use Rattle.world_base.specs.node_core.Step.{with_next_connection, next_name}

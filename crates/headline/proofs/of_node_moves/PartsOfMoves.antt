@@ -5,7 +5,7 @@ use Rattle.ballot_base.specs.Compaction.{can_cut}
 use Rattle.ballot_base.specs.declared.message.Message.{Message}
 use Rattle.ballot_base.specs.Protocol.Input.{Receives}
 use Rattle.broker_spec.specs.declared.command.Command.{Command}
-use Rattle.world_base.specs.declared.node_core.Port.{Port}
+use Rattle.world_base.specs.declared.node_connections.port.Port.{Port}
 use Rattle.world_base.specs.declared.node_core.item.Item.TheVariants.{Peer, Bytes, Cut}
 use Rattle.world_base.specs.node_core.Core.{CoreState, StepOutcome}
 use Rattle.headline.specs.node_moves.Receipts.{HearsAtFirst, IsCalm}

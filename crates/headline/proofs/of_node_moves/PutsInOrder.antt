@@ -16,8 +16,8 @@ use Rattle.broker_spec.specs.declared.command.Output.TheVariants as outputs
 use Rattle.broker_spec.specs.Connection.{ConnectionName, same_connection}
 use Rattle.broker_spec.proofs.ConnectionNames.{same_name, same_itself}
 use Rattle.exactly_once.specs.Sends.{sends_to}
-use Rattle.world_base.specs.declared.node_core.Port.{Port}
-use Rattle.world_base.specs.declared.node_core.Connection.{Connection}
+use Rattle.world_base.specs.declared.node_connections.port.Port.{Port}
+use Rattle.world_base.specs.declared.node_connections.connection.Connection.{Connection}
 use Rattle.ballot_base.specs.Protocol.{Input}
 use Rattle.ballot_base.specs.Replica.{CountedReplica, ReplicaState}
 use Rattle.world_base.specs.node_core.Step.{settled, with_next_connection}

@@ -7,7 +7,7 @@ use Rattle.std.proofs.lemmas.Bool.{both_ways}
 use Rattle.broker_spec.specs.Connection.{ConnectionName}
 use Rattle.lists.specs.Lists.{IsPrefixOf}
 use Rattle.lists.proofs.Prefixes.{prefix_then}
-use Rattle.world_base.specs.declared.node_core.Connection.{Connection}
+use Rattle.world_base.specs.declared.node_connections.connection.Connection.{Connection}
 use Rattle.world_base.specs.node_connections.ConnectionChanges.{closed_connection, changed_where, failing, max_pending, with_queued, putting}
 use Rattle.headline.specs.node_moves.Ends.{AtMostOne}
 use Rattle.headline.proofs.of_node_moves.Views.{view, found_each, found_passes, same_some, some_none, none_changes, view_of_others, view_of_changed}

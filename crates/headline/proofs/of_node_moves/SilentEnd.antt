@@ -5,9 +5,9 @@ use Rattle.std.proofs.lemmas.Bool.{eq-eqb, and_from, not-true}
 use Rattle.ballot_base.specs.Protocol.Input.{Ticks}
 use Rattle.broker_spec.specs.declared.command.Command.TheVariants as commands
 use Rattle.lists.specs.Lists.{Each}
-use Rattle.world_base.specs.declared.node_core.Port.{Port}
+use Rattle.world_base.specs.declared.node_connections.port.Port.{Port}
 use Rattle.world_base.specs.declared.node_core.item.Item.TheVariants.{Tick}
-use Rattle.world_base.specs.declared.node_core.Connection.{Connection}
+use Rattle.world_base.specs.declared.node_connections.connection.Connection.{Connection}
 use Rattle.world_base.specs.node_connections.Connections.{is_closed, is_proposed, is_silent, is_at, is_open_at}
 use Rattle.world_base.specs.node_connections.ConnectionChanges.{closed_connection, failing}
 use Rattle.world_base.specs.node_core.Core.{CoreState, StepOutcome}

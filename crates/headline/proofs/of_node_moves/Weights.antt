@@ -11,7 +11,7 @@ use Rattle.broker_spec.specs.declared.command.Command.{Command}
 use Rattle.broker_spec.specs.declared.command.Output.{Output}
 use Rattle.broker_spec.specs.declared.command.Output.TheVariants as outputs
 use Rattle.broker_spec.specs.Connection.{ConnectionName}
-use Rattle.world_base.specs.declared.node_core.Connection.{Connection}
+use Rattle.world_base.specs.declared.node_connections.connection.Connection.{Connection}
 use Rattle.world_base.specs.node_connections.Connections.{is_open_named}
 use Rattle.world_base.specs.node_connections.ConnectionChanges.{max_pending, closed_connection, failing, putting, with_queued, changed_where}
 use Rattle.world_base.specs.node_core.Core.{CoreState, StepOutcome, rules, serves}

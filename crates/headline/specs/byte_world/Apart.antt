@@ -3,7 +3,7 @@ use Rattle.std.specs.Prelude.{◌≡◌, ℕ, slice_get, Some}
 use Rattle.lists.specs.Lists.{In}
 use Rattle.ballot_base.specs.declared.config.Config.{Config}
 use Rattle.broker_spec.specs.Connection.{ConnectionName}
-use Rattle.world_base.specs.declared.node_core.Connection.{Connection}
+use Rattle.world_base.specs.declared.node_connections.connection.Connection.{Connection}
 use Rattle.world_base.specs.node_core.Core.{CoreState}
 use Rattle.headline.specs.node_moves.Closed.{listed_named}
 use Rattle.headline.specs.node_group.Group.{Group}

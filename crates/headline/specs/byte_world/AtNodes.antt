@@ -5,8 +5,8 @@ use Rattle.ballot_base.specs.declared.config.Config.{Config}
 use Rattle.broker_spec.specs.Place.{Client}
 use Rattle.lists.specs.Lists.{In}
 use Rattle.exactly_once.specs.Sides.{ClientConnection}
-use Rattle.world_base.specs.declared.node_core.Connection.{Connection as NodesEnd}
-use Rattle.world_base.specs.declared.node_core.Port.{Port}
+use Rattle.world_base.specs.declared.node_connections.connection.Connection.{Connection as NodesEnd}
+use Rattle.world_base.specs.declared.node_connections.port.Port.{Port}
 use Rattle.world_base.specs.node_core.Core.{CoreState}
 use Rattle.headline.specs.node_moves.Ends.{IsOrderly}
 use Rattle.headline.specs.byte_world.World.{ClientPipes, HasPipe, Pipe, ByteWorld}

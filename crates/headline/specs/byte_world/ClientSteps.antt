@@ -8,7 +8,7 @@ use Rattle.client_base.specs.Handled.{lost}
 use Rattle.lists.specs.Lists.{Each}
 use Rattle.exactly_once.specs.Sides.{ClientConnection, Side}
 use Rattle.exactly_once.specs.Story.{Story}
-use Rattle.world_base.specs.declared.node_core.Port.{Port}
+use Rattle.world_base.specs.declared.node_connections.port.Port.{Port}
 use Rattle.headline.specs.node_moves.Puts.{spelled}
 use Rattle.headline.specs.byte_world.World.{ClientPipes, Pipe, newly_written, packets_of, sent_up}
 

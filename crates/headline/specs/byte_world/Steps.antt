@@ -12,8 +12,8 @@ use Rattle.client_base.specs.Handled.{packet_handled}
 use Rattle.exactly_once.specs.Sides.{ClientConnection}
 use Rattle.exactly_once.specs.Story.{Story, StoryStep}
 use Rattle.headline.specs.packet_world.Steps.{is_call}
-use Rattle.world_base.specs.declared.node_core.Connection.{Connection as NodesEnd}
-use Rattle.world_base.specs.declared.node_core.Port.{Port}
+use Rattle.world_base.specs.declared.node_connections.connection.Connection.{Connection as NodesEnd}
+use Rattle.world_base.specs.declared.node_connections.port.Port.{Port}
 use Rattle.world_base.specs.declared.node_core.item.Item.TheVariants.{Opened, Bytes}
 use Rattle.world_base.specs.node_core.Core.{CoreState}
 use Rattle.world_base.specs.node_core.PortOutput.{listed_at}

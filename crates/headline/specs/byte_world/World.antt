@@ -7,7 +7,7 @@ use Rattle.ballot_base.specs.declared.config.Config.{Config}
 use Rattle.broker_spec.specs.Place.{Client}
 use Rattle.client_base.specs.Keeper.{Keeper, Written, new_keeper}
 use Rattle.exactly_once.specs.Sides.{ClientConnection}
-use Rattle.world_base.specs.declared.node_core.Port.{Port}
+use Rattle.world_base.specs.declared.node_connections.port.Port.{Port}
 use Rattle.headline.specs.node_moves.Puts.{spelled}
 use Rattle.headline.specs.node_group.Group.{Group, opening_group}
 

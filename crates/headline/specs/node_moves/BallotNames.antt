@@ -6,7 +6,7 @@ use Rattle.broker_spec.specs.declared.command.Command.{Command}
 use Rattle.broker_spec.specs.Connection.{ConnectionName}
 use Rattle.lists.specs.Lists.{In}
 use Rattle.exactly_once.specs.StoryCommands.{is_packet_of}
-use Rattle.world_base.specs.declared.node_core.Connection.{Connection}
+use Rattle.world_base.specs.declared.node_connections.connection.Connection.{Connection}
 use Rattle.world_base.specs.node_connections.Connections.{is_closed}
 use Rattle.world_base.specs.node_core.Core.{CoreState, StepOutcome, opening_core, serves}
 use Rattle.world_base.specs.node_core.Step.{crashed, settled, with_cut}

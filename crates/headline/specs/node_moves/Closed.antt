@@ -7,7 +7,7 @@ use Rattle.packet.specs.declared.connack.Connack.TheVariants as connacks
 use Rattle.broker_spec.specs.Connection.{ConnectionName, same_connection}
 use Rattle.lists.specs.Lists.{IsPrefixOf}
 use Rattle.exactly_once.specs.Sends.{sends_to}
-use Rattle.world_base.specs.declared.node_core.Connection.{Connection}
+use Rattle.world_base.specs.declared.node_connections.connection.Connection.{Connection}
 use Rattle.world_base.specs.node_connections.Connections.{is_closed}
 use Rattle.world_base.specs.node_core.Core.{CoreState, StepOutcome}
 use Rattle.headline.specs.node_moves.Ends.{IsOrderly, open_named}

@@ -9,7 +9,7 @@ use Rattle.lists.specs.Lists.{Each, IsPrefixOf}
 use Rattle.cutter.specs.Stream.{Stream}
 use Rattle.headline.specs.node_moves.Pipe.{IsPiped}
 use Rattle.exactly_once.specs.StoryCommands.{command_of}
-use Rattle.world_base.specs.declared.node_core.Connection.{Connection}
+use Rattle.world_base.specs.declared.node_connections.connection.Connection.{Connection}
 use Rattle.world_base.specs.node_connections.Connections.{awaits_first_packet, is_open_named}
 use Rattle.world_base.specs.node_core.Core.{CoreState, StepOutcome}
 use Rattle.world_base.specs.node_core.PacketInput.{open_at}

@@ -8,7 +8,7 @@ use Rattle.lists.specs.Lists.{IsPrefixOf}
 use Rattle.headline.specs.node_moves.Pipe.{Joins}
 use Rattle.exactly_once.specs.Sends.{sends_to}
 use Rattle.exactly_once.specs.StoryCommands.{is_packet_of}
-use Rattle.world_base.specs.declared.node_core.Connection.{Connection}
+use Rattle.world_base.specs.declared.node_connections.connection.Connection.{Connection}
 use Rattle.world_base.specs.node_connections.Connections.{is_closed}
 use Rattle.world_base.specs.node_core.Core.{CoreState, StepOutcome, opening_core}
 use Rattle.headline.specs.node_moves.Closed.{listed_named}

@@ -1,7 +1,7 @@
 -- Which name a connection gets that a node opens.
 use Rattle.std.specs.Prelude.{◌≡◌, ◌+◌, true, Some, None}
 use Rattle.broker_spec.specs.Connection.{ConnectionName}
-use Rattle.world_base.specs.declared.node_core.Connection.{Connection}
+use Rattle.world_base.specs.declared.node_connections.connection.Connection.{Connection}
 use Rattle.world_base.specs.node_core.Core.{CoreState, StepOutcome, serves}
 use Rattle.world_base.specs.node_core.Step.{accepted}
 use Rattle.headline.specs.node_moves.Closed.{listed_named}

@@ -10,7 +10,7 @@ use Rattle.broker_spec.specs.declared.command.Command.TheVariants as commands
 use Rattle.broker_spec.specs.declared.command.Output.{Output}
 use Rattle.broker_spec.specs.Connection.{ConnectionName}
 use Rattle.exactly_once.specs.Sends.{sends_to}
-use Rattle.world_base.specs.declared.node_core.Connection.{Connection}
+use Rattle.world_base.specs.declared.node_connections.connection.Connection.{Connection}
 use Rattle.world_base.specs.node_core.Core.{CoreState, StepOutcome, rules, serves}
 use Rattle.world_base.specs.node_core.Effects.{outcome_of_input}
 use Rattle.headline.specs.node_moves.Moves.{NodeMove}

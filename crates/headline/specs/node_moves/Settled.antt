@@ -3,7 +3,7 @@ use Rattle.std.specs.Prelude.{◌≡◌, ℕ, false}
 use Rattle.lists.specs.Lists.{Each}
 use Rattle.world_base.specs.declared.node_core.item.Item.{Item}
 use Rattle.world_base.specs.declared.node_core.item.Item.TheVariants.{Tick}
-use Rattle.world_base.specs.declared.node_core.Connection.{Connection}
+use Rattle.world_base.specs.declared.node_connections.connection.Connection.{Connection}
 use Rattle.world_base.specs.node_connections.Connections.{is_silent, has_failed}
 use Rattle.world_base.specs.node_core.Core.{CoreState}
 use Rattle.world_base.specs.node_core.Step.{node_step}

@@ -4,7 +4,7 @@ use Rattle.std.proofs.Common.{sym, ◌∙◌, ap, subst, lit≤, append_assoc}
 use Rattle.std.proofs.lemmas.List.{append-nil, map-append}
 use Rattle.std.proofs.lemmas.List.Concat.{flat_map-append}
 use Rattle.std.specs.Io.KnownBytes.{Consumes, Keeps}
-use Rattle.world_base.specs.declared.node_core.Port.{Port}
+use Rattle.world_base.specs.declared.node_connections.port.Port.{Port}
 use Rattle.world_base.specs.declared.node_core.item.Item.{Item}
 use Rattle.world_base.specs.declared.node_core.item.Item.TheVariants.{Opened, Bytes, Ended}
 use Rattle.node_base.specs.declared.connection.ending.Ending.{Ending}

@@ -1,7 +1,7 @@
 -- What the parts of `report_connection` report.
 use Rattle.std.specs.Prelude.{◌≡◌, ℕ, ◌≤◌, List, [], ◌∷◌, ◌++◌, Option, Result, Ok, Err}
 use Rattle.std.specs.Io.KnownBytes.{Consumes}
-use Rattle.world_base.specs.declared.node_core.Port.{Port}
+use Rattle.world_base.specs.declared.node_connections.port.Port.{Port}
 use Rattle.world_base.specs.declared.node_core.item.Item.{Item}
 use Rattle.node_base.specs.declared.connection.ending.Ending.{Ending}
 use Rattle.node_base.specs.connection.Reports.{Came, EndsSo, Rises, faults_after, all_bytes, pieces_reported}

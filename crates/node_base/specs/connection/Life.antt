@@ -1,7 +1,7 @@
 -- The writing of a connection over its whole life: a chain of calls, each from the state that the
 -- one before left.
 use Rattle.std.specs.Prelude.{ℕ, List, [], ◌++◌, Option}
-use Rattle.world_base.specs.declared.node_core.Handed.{Handed}
+use Rattle.world_base.specs.declared.node_connections.handed.Handed.{Handed}
 use Rattle.node_base.specs.declared.connection.flow.Flow.{Flow}
 use Rattle.node_base.specs.connection.Written.{Flows}
 

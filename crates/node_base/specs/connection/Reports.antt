@@ -5,7 +5,7 @@ use Rattle.std.specs.List.{flat_map}
 use Rattle.std.specs.Io.KnownBytes.{Consumes, IsAtEnd}
 use Rattle.node_base.specs.devices.Counted.{counted_once}
 use Rattle.node_base.specs.declared.devices.counted.TheConstants.{PIECE_BYTES}
-use Rattle.world_base.specs.declared.node_core.Port.{Port}
+use Rattle.world_base.specs.declared.node_connections.port.Port.{Port}
 use Rattle.world_base.specs.declared.node_core.item.Item.{Item}
 use Rattle.world_base.specs.declared.node_core.item.Item.TheVariants.{Opened, Bytes, Ended}
 use Rattle.node_base.specs.declared.connection.ending.Ending.{Ending}

@@ -1,6 +1,6 @@
 -- No byte is left out between a tap and its device.
 use Rattle.std.specs.Prelude.{ℕ, List, Option}
-use Rattle.world_base.specs.declared.node_core.Handed.{Handed}
+use Rattle.world_base.specs.declared.node_connections.handed.Handed.{Handed}
 use Rattle.node_base.specs.connection.Life.{Lives}
 use Rattle.node_base.specs.connection.Written.{Writes}
 

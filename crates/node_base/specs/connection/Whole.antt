@@ -2,7 +2,7 @@
 use Rattle.std.specs.Prelude.{ℕ, List, Option}
 use Rattle.std.specs.Io.KnownBytes.{IsAtEnd}
 use Rattle.node_base.specs.devices.Counted.{CountedView}
-use Rattle.world_base.specs.declared.node_core.Handed.{Handed}
+use Rattle.world_base.specs.declared.node_connections.handed.Handed.{Handed}
 use Rattle.node_base.specs.connection.Life.{Lives}
 
 -- a tap, the bytes that were handed over by it and are not yet written, and the device that is

@@ -2,8 +2,8 @@
 use Rattle.std.specs.Prelude.{◌≡◌, ℕ, ◌<◌, ◌⊎◌, List, [], ◌++◌, length, Option}
 use Rattle.std.specs.Io.KnownBytes.{Appends}
 use Rattle.node_base.specs.devices.Counted.{counted_once}
-use Rattle.world_base.specs.declared.node_core.Handed.{Handed}
-use Rattle.world_base.specs.declared.node_core.Handed.TheVariants as answers
+use Rattle.world_base.specs.declared.node_connections.handed.Handed.{Handed}
+use Rattle.world_base.specs.declared.node_connections.handed.Handed.TheVariants as answers
 use Rattle.node_base.specs.declared.connection.left_write.LeftWrite.{LeftWrite}
 use Rattle.node_base.specs.declared.connection.left_write.LeftWrite.TheVariants as left_writes
 use Rattle.node_base.specs.declared.connection.flow.Flow.{Flow}

@@ -4,7 +4,7 @@
 /// from the next. No clause says that its holder is the only one who takes these bytes.
 pub trait Tap: Drop {
     ghost use Rattle.std.specs.Prelude.{List, ℕ};
-    ghost use Rattle.world_base.specs.declared.node_core.Handed.{Handed};
+    ghost use Rattle.world_base.specs.declared.node_connections.handed.Handed.{Handed};
 
     // Nothing was handed over by it yet.
     ghost opens: { Self → Type 0 };

@@ -11,9 +11,9 @@ use Rattle.master.specs.Inside.{activation_answer}
 use Rattle.master.proofs.Groups.{answer_is}
 use Rattle.broker_spec.specs.declared.command.Command.{Command}
 use Rattle.ballot_base.specs.declared.message.Message.{Message}
-use Rattle.node.specs.declared.Body.{Body}
-use Rattle.node.specs.declared.Body.TheVariants.{Activate, NewBallot}
-use Rattle.node.specs.declared.Config.{Config}
+use Rattle.ballot_base.specs.declared.message.Body.{Body}
+use Rattle.ballot_base.specs.declared.message.Body.TheVariants.{Activate, NewBallot}
+use Rattle.ballot_base.specs.declared.config.Config.{Config}
 use Rattle.post.specs.outbox.Given.{WasGivenToMaster}
 use Rattle.post.specs.outbox.MasterAnswers.{IsReachable, WasAnswered}
 use Rattle.post.specs.outbox.MasterAnswers.Answers.{to_node, to_order}

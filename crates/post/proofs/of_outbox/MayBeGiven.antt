@@ -6,7 +6,7 @@ use Rattle.agreement.specs.MasterState.AssignRefusal.{bad_members, ballots_spent
 use Rattle.ballot_base.specs.LawfulConfig.{is_lawful}
 use Rattle.agreement.specs.cut_logs.Masters.{MasterOutcome}
 use Rattle.broker_spec.specs.declared.command.Command.{Command}
-use Rattle.node.specs.declared.Config.{Config}
+use Rattle.ballot_base.specs.declared.config.Config.{Config}
 use Rattle.post.specs.outbox.MasterAnswers.{Answers, IsReachable, MayGet}
 use Rattle.post.specs.outbox.MasterAnswers.Answers.{to_node, to_order}
 use Rattle.post.specs.outbox.MasterAnswers.IsReachable.{answers, opens}

@@ -4,8 +4,8 @@ use Rattle.std.proofs.Common.{◌≡◌, ℕ, ◌+◌, ◌≤◌, zero, suc, Boo
 use Rattle.std.proofs.Common.{◌∙◌}
 use Rattle.broker_spec.specs.declared.command.Command.{Command}
 use Rattle.ballot_base.specs.declared.message.Message.{Message}
-use Rattle.node.specs.declared.Item.{Item}
-use Rattle.node.specs.declared.Item.TheVariants.{Peer}
+use Rattle.world_base.specs.declared.node_core.item.Item.{Item}
+use Rattle.world_base.specs.declared.node_core.item.Item.TheVariants.{Peer}
 use Rattle.lists.specs.Lists.{Each}
 use Rattle.lists.proofs.OfEach.{each_append}
 use Rattle.post.specs.outbox.Given.{Addressed}

@@ -6,8 +6,8 @@ use Rattle.broker_spec.specs.declared.command.Output.{Output}
 use Rattle.ballot_base.specs.declared.message.Effect.{Effect}
 use Rattle.ballot_base.specs.declared.message.Effect.TheVariants.{To}
 use Rattle.ballot_base.specs.declared.message.Message.{Message}
-use Rattle.node.specs.declared.Config.{Config}
-use Rattle.node.specs.declared.Item.{Item}
+use Rattle.ballot_base.specs.declared.config.Config.{Config}
+use Rattle.world_base.specs.declared.node_core.item.Item.{Item}
 use Rattle.world_base.specs.node_core.Core.{CountedCore, opening_core}
 use Rattle.world_base.specs.node_core.Losses.{ItemStepOrLost}
 use Rattle.lists.specs.Lists.{In}

@@ -7,9 +7,9 @@ use Rattle.ballot_base.specs.StepOutcome.{master}
 use Rattle.agreement.specs.cut_logs.Masters.{MasterOutcome, activated, assigned}
 use Rattle.broker_spec.specs.declared.command.Command.{Command}
 use Rattle.ballot_base.specs.declared.message.Message.{Message}
-use Rattle.node.specs.declared.Body.{Body}
-use Rattle.node.specs.declared.Body.TheVariants.{Activate}
-use Rattle.node.specs.declared.Config.{Config}
+use Rattle.ballot_base.specs.declared.message.Body.{Body}
+use Rattle.ballot_base.specs.declared.message.Body.TheVariants.{Activate}
+use Rattle.ballot_base.specs.declared.config.Config.{Config}
 use Rattle.post.specs.outbox.Given.{Addressed, WasGivenToMaster}
 
 -- the master's answer to a message of a node: only an Activate gets one

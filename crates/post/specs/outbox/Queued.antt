@@ -4,8 +4,8 @@ use Rattle.std.specs.Prelude.{ℕ, List}
 use Rattle.broker_spec.specs.declared.command.Command.{Command}
 use Rattle.ballot_base.specs.declared.message.Effect.TheVariants.{To}
 use Rattle.ballot_base.specs.declared.message.Message.{Message}
-use Rattle.node.specs.declared.Item.{Item}
-use Rattle.node.specs.declared.Item.TheVariants.{Peer, Expel, Crash}
+use Rattle.world_base.specs.declared.node_core.item.Item.{Item}
+use Rattle.world_base.specs.declared.node_core.item.Item.TheVariants.{Peer, Expel, Crash}
 pub use Rattle.post.specs.outbox.Given.{EachOpens, IsNewNode, WasGiven, WasGivenToMaster}
 pub use Rattle.post.specs.outbox.MasterAnswers.{WasAnswered}
 

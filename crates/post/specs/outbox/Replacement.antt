@@ -1,10 +1,10 @@
 -- Which waiting message is replaced by a newer one.
 use Rattle.std.specs.Prelude.{ℕ, Bool, false, ◌==◌, ◌&&◌, ◌-◌, nat_le, if◌then◌else◌, List, length, Option, Some, None, take, slice_get}
 use Rattle.broker_spec.specs.declared.command.Command.{Command}
-use Rattle.node.specs.declared.Body.{Body}
-use Rattle.node.specs.declared.Body.TheVariants.{Held, Commit}
-use Rattle.node.specs.declared.Item.{Item}
-use Rattle.node.specs.declared.Item.TheVariants.{Peer}
+use Rattle.ballot_base.specs.declared.message.Body.{Body}
+use Rattle.ballot_base.specs.declared.message.Body.TheVariants.{Held, Commit}
+use Rattle.world_base.specs.declared.node_core.item.Item.{Item}
+use Rattle.world_base.specs.declared.node_core.item.Item.TheVariants.{Peer}
 
 -- a Held of this ballot for at most this many places
 abbrev pub is_held_within : ℕ → ℕ → Body Command → Bool

@@ -2,7 +2,7 @@
 use Rattle.std.specs.Prelude.{◌≡◌, ℕ, true, List, max}
 use Rattle.ballot_base.specs.declared.status.Progress.{Progress}
 use Rattle.ballot_base.specs.Service.{raised}
-use Rattle.node.specs.declared.Body.TheVariants.{Held, Commit}
+use Rattle.ballot_base.specs.declared.message.Body.TheVariants.{Held, Commit}
 use Rattle.post.specs.outbox.Replacement.{covers}
 
 -- A Held that replaces an earlier one is of the same ballot, and a primary learns from it alone as

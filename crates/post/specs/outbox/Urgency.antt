@@ -1,10 +1,10 @@
 -- Which items wake the node for which they are queued.
 use Rattle.std.specs.Prelude.{ℕ, Bool, true, false, not, nat_lt, List, length}
 use Rattle.broker_spec.specs.declared.command.Command.{Command}
-use Rattle.node.specs.declared.Body.{Body}
-use Rattle.node.specs.declared.Body.TheVariants.{Commit}
-use Rattle.node.specs.declared.Item.{Item}
-use Rattle.node.specs.declared.Item.TheVariants.{Peer}
+use Rattle.ballot_base.specs.declared.message.Body.{Body}
+use Rattle.ballot_base.specs.declared.message.Body.TheVariants.{Commit}
+use Rattle.world_base.specs.declared.node_core.item.Item.{Item}
+use Rattle.world_base.specs.declared.node_core.item.Item.TheVariants.{Peer}
 use Rattle.post.specs.declared.outbox.outbox.TheConstants.{MAX_HELPED}
 
 -- true for a Commit

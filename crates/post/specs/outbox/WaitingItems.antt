@@ -2,8 +2,8 @@
 use Rattle.std.specs.Prelude.{◌≡◌, ℕ, ◌+◌, ◌≤◌, Bool, false, ◌||◌, not, nat_lt, if◌then◌else◌, List, [], ◌∷◌, length}
 use Rattle.agreement.specs.MasterState.{MasterState}
 use Rattle.lists.specs.Lists.{Each}
-use Rattle.node.specs.declared.Item.{Item}
-use Rattle.node.specs.declared.Item.TheVariants.{Peer}
+use Rattle.world_base.specs.declared.node_core.item.Item.{Item}
+use Rattle.world_base.specs.declared.node_core.item.Item.TheVariants.{Peer}
 use Rattle.post.specs.outbox.Queued.{IsQueued}
 use Rattle.post.specs.declared.outbox.outbox.TheConstants.{MAX_WAITING}
 

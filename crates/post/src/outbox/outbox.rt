@@ -16,7 +16,7 @@ ghost use Rattle.agreement.specs.MasterState.{refusal};
 ghost use Rattle.agreement.specs.MasterState.AssignRefusal.{bad_members, ballots_spent};
 ghost use Rattle.broker_spec.specs.declared.command.Command.{Command};
 ghost use Rattle.lists.specs.Lists.{Each};
-ghost use Rattle.node.specs.declared.Item.TheVariants.{Peer};
+ghost use Rattle.world_base.specs.declared.node_core.item.Item.TheVariants.{Peer};
 ghost use Rattle.agreement.specs.cut_logs.Masters.{assigned};
 ghost use Rattle.post.specs.outbox.Queued.{IsPosted, IsQueued};
 ghost use Rattle.post.specs.outbox.MasterAnswers.{MayGet, message_of};

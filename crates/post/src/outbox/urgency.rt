@@ -2,7 +2,7 @@
 
 ghost use Rattle.std.specs.Prelude.{◌≡◌};
 ghost use Rattle.std.specs.List.{list_any};
-ghost use Rattle.node.specs.declared.Item.TheVariants.{Peer};
+ghost use Rattle.world_base.specs.declared.node_core.item.Item.TheVariants.{Peer};
 ghost use Rattle.post.specs.outbox.Urgency.{wakes};
 
 use ballot_base::{Body, Message};

@@ -5,9 +5,9 @@ use Rattle.std.specs.List.{find, list_any}
 use Rattle.std.proofs.lemmas.Bool.{and_parts, and_right, eq-eqb, or_parts}
 use Rattle.ballot_base.specs.Replica.{is_active}
 use Rattle.broker_spec.specs.Connection.{ConnectionName, same_connection}
-use Rattle.world_base.specs.declared.node_core.Connection.{Connection}
+use Rattle.world_base.specs.declared.node_connections.connection.Connection.{Connection}
 use Rattle.world_base.specs.declared.node_core.item.Item.TheVariants.{Peer}
-use Rattle.world_base.specs.declared.node_core.Port.{Port}
+use Rattle.world_base.specs.declared.node_connections.port.Port.{Port}
 use Rattle.world_base.specs.node_connections.Connections.{fresh, is_at, is_listed, is_open_at, is_open_named, is_closed}
 use Rattle.world_base.specs.node_connections.ConnectionChanges.{changed_where, closed_connection, nothing_pending}
 use Rattle.world_base.specs.node_core.Core.{CoreState, StepOutcome, serves}

@@ -16,9 +16,9 @@ use Rattle.broker_spec.specs.declared.command.Command.TheVariants as commands
 use Rattle.broker_spec.specs.Connection.{ConnectionName}
 use Rattle.broker_spec.specs.declared.command.Output.{Output}
 use Rattle.broker_spec.specs.declared.command.Output.TheVariants as outputs
-use Rattle.world_base.specs.declared.node_core.Connection.{Connection}
+use Rattle.world_base.specs.declared.node_connections.connection.Connection.{Connection}
 use Rattle.world_base.specs.declared.node_core.item.Item.TheVariants.{Peer}
-use Rattle.world_base.specs.declared.node_core.Port.{Port}
+use Rattle.world_base.specs.declared.node_connections.port.Port.{Port}
 use Rattle.world_base.specs.node_connections.Connections.{has_failed, is_at, is_listed, is_open_named, is_closed}
 use Rattle.world_base.specs.node_connections.ConnectionChanges.{changed_where, closed_connection, failing, max_pending, with_queued, putting}
 use Rattle.world_base.specs.node_core.Core.{CoreState, StepOutcome, rules, serves}

@@ -21,9 +21,9 @@ use Rattle.broker_spec.specs.declared.command.Command.{Command}
 use Rattle.broker_spec.specs.declared.command.Command.TheVariants as commands
 use Rattle.broker_spec.specs.declared.command.Output.{Output}
 use Rattle.broker_base.specs.State.{State}
-use Rattle.world_base.specs.declared.node_core.Connection.{Connection}
+use Rattle.world_base.specs.declared.node_connections.connection.Connection.{Connection}
 use Rattle.world_base.specs.declared.node_core.item.Item.TheVariants.{Bytes}
-use Rattle.world_base.specs.declared.node_core.Port.{Port}
+use Rattle.world_base.specs.declared.node_connections.port.Port.{Port}
 use Rattle.world_base.specs.node_connections.Connections.{has_failed, is_at, awaits_first_packet, is_listed, is_open_at, is_closed}
 use Rattle.world_base.specs.node_connections.ConnectionChanges.{noted_proposed, changed_where, closed_connection, with_unread, left_with}
 use Rattle.world_base.specs.node_core.Core.{CoreState, StepOutcome, rules, serves}

@@ -6,8 +6,8 @@ use Rattle.std.proofs.lemmas.Bool.{le-leb, lt-ltb, ne_eqb}
 use Rattle.std.proofs.lemmas.List.Elements.{filter-append}
 use Rattle.lists.proofs.OfEach.{each_append}
 use Rattle.broker_spec.specs.Connection.{ConnectionName, is_connection_name}
-use Rattle.world_base.specs.declared.node_core.Connection.{Connection}
-use Rattle.world_base.specs.declared.node_core.Port.{Port}
+use Rattle.world_base.specs.declared.node_connections.connection.Connection.{Connection}
+use Rattle.world_base.specs.declared.node_connections.port.Port.{Port}
 use Rattle.world_base.specs.node_connections.Connections.{fresh, has_failed, is_at, is_listed}
 use Rattle.world_base.specs.node_connections.ConnectionChanges.{closed_connection}
 use Rattle.world_base.specs.node_core.Core.{CoreState, StepOutcome, serves}

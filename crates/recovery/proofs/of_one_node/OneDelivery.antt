@@ -14,7 +14,7 @@ use Rattle.agreement.specs.cut_logs.World.{outputs}
 use Rattle.broker_spec.specs.declared.command.Command.{Command}
 use Rattle.broker_spec.specs.declared.command.Output.{Output}
 use Rattle.broker_base.specs.State.{State}
-use Rattle.world_base.specs.declared.node_core.Connection.{Connection}
+use Rattle.world_base.specs.declared.node_connections.connection.Connection.{Connection}
 use Rattle.world_base.specs.declared.node_core.item.Item.TheVariants.{Peer}
 use Rattle.world_base.specs.node_connections.Connections.{has_failed}
 use Rattle.world_base.specs.node_core.Core.{CoreState, StepOutcome, serves}

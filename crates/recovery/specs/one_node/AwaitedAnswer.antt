@@ -8,9 +8,9 @@ use Rattle.ballot_base.specs.Replica.{is_active}
 use Rattle.broker_spec.specs.declared.command.Command.{Command}
 use Rattle.broker_spec.specs.Connection.{ConnectionName}
 use Rattle.agreement.specs.cut_logs.World.{outputs}
-use Rattle.world_base.specs.declared.node_core.Connection.{Connection}
+use Rattle.world_base.specs.declared.node_connections.connection.Connection.{Connection}
 use Rattle.world_base.specs.declared.node_core.item.Item.TheVariants.{Peer}
-use Rattle.world_base.specs.declared.node_core.Port.{Port}
+use Rattle.world_base.specs.declared.node_connections.port.Port.{Port}
 use Rattle.world_base.specs.node_connections.Connections.{is_at, awaits_first_packet, is_open_named}
 use Rattle.world_base.specs.node_core.Core.{CoreState}
 use Rattle.world_base.specs.node_core.PortOutput.{hands_over, listed_at}

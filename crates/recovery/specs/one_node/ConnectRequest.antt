@@ -10,10 +10,10 @@ use Rattle.broker_spec.specs.declared.command.Command.{Command}
 use Rattle.broker_spec.specs.declared.command.Command.TheVariants as commands
 use Rattle.broker_spec.specs.declared.command.Output.{Output}
 use Rattle.broker_base.specs.State.{State}
-use Rattle.world_base.specs.declared.node_core.Connection.{Connection}
-use Rattle.world_base.specs.declared.node_core.ConnectionStage.TheVariants.{Proposed}
+use Rattle.world_base.specs.declared.node_connections.connection.Connection.{Connection}
+use Rattle.world_base.specs.declared.node_connections.connection.ConnectionStage.TheVariants.{Proposed}
 use Rattle.world_base.specs.declared.node_core.item.Item.TheVariants.{Bytes}
-use Rattle.world_base.specs.declared.node_core.Port.{Port}
+use Rattle.world_base.specs.declared.node_connections.port.Port.{Port}
 use Rattle.world_base.specs.node_connections.Connections.{awaits_first_packet, is_listed, is_open_at}
 use Rattle.world_base.specs.node_connections.ConnectionChanges.{changed_where}
 use Rattle.world_base.specs.node_core.Core.{CoreState, rules}

@@ -16,9 +16,9 @@ use Rattle.broker_spec.specs.declared.command.Command.TheVariants as commands
 use Rattle.broker_spec.specs.Connection.{ConnectionName}
 use Rattle.broker_spec.specs.declared.command.Output.{Output}
 use Rattle.broker_spec.specs.declared.command.Output.TheVariants.{Send}
-use Rattle.world_base.specs.declared.node_core.Connection.{Connection}
+use Rattle.world_base.specs.declared.node_connections.connection.Connection.{Connection}
 use Rattle.world_base.specs.declared.node_core.item.Item.TheVariants.{Bytes, Peer}
-use Rattle.world_base.specs.declared.node_core.Port.{Port}
+use Rattle.world_base.specs.declared.node_connections.port.Port.{Port}
 use Rattle.world_base.specs.node_connections.Connections.{awaits_first_packet, is_open_named}
 use Rattle.world_base.specs.node_connections.ConnectionChanges.{max_pending}
 use Rattle.world_base.specs.node_core.Core.{CoreState}

@@ -4,7 +4,7 @@ use Rattle.std.specs.List.{list_any}
 use Rattle.broker_spec.specs.Connection.{ConnectionName}
 use Rattle.machine.specs.Ballots.{max_ballot}
 use Rattle.world_base.specs.declared.node_core.item.Item.TheVariants.{Opened}
-use Rattle.world_base.specs.declared.node_core.Port.{Port}
+use Rattle.world_base.specs.declared.node_connections.port.Port.{Port}
 use Rattle.world_base.specs.node_connections.Connections.{fresh, is_at, is_listed}
 use Rattle.world_base.specs.node_core.Core.{CoreState, serves}
 use Rattle.world_base.specs.node_core.Step.{node_step}

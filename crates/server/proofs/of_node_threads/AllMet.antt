@@ -3,7 +3,7 @@ use Rattle.std.proofs.Common.{◌≡◌, ℕ, ◌≤◌, List, [], ◌∷◌, �
 use Rattle.std.proofs.lemmas.List.{take_all}
 use Rattle.mailbox.specs.Delivery.{items_of_lane}
 use Rattle.mailbox.specs.Ends.{LaneView, all_met, unmet}
-use Rattle.node.specs.declared.Item.{Item}
+use Rattle.world_base.specs.declared.node_core.item.Item.{Item}
 
 -- a lane of which no less was taken than it sent
 pub met_all : (taken : List (ℕ × Item)) (old lane new : LaneView Item) (count : ℕ)

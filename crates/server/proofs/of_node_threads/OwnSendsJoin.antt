@@ -1,8 +1,8 @@
 -- OwnSendsJoin.antt: what a node's own thread sends at first and then is what it sends.
 use Rattle.std.proofs.Common.{◌≡◌, ℕ, List, [], ◌∷◌, ◌++◌, ◌∙◌, ap, sym, subst}
 use Rattle.mailbox.specs.Ends.{LaneView}
-use Rattle.node.specs.declared.Item.{Item}
-use Rattle.node.specs.declared.Item.TheVariants.{Tick, Cut}
+use Rattle.world_base.specs.declared.node_core.item.Item.{Item}
+use Rattle.world_base.specs.declared.node_core.item.Item.TheVariants.{Tick, Cut}
 use Rattle.post.specs.outbox.Queued.{IsQueued}
 use Rattle.server.specs.node_threads.LaneReports.{OwnLaneView, SendsOwn}
 use Rattle.server.specs.node_threads.LaneReports.SendsOwn.{starts, ticks, cuts, hands}

@@ -1,6 +1,6 @@
 -- PortsApart.antt: no two connections of a node have one port.
 use Rattle.std.proofs.Common.{◌≡◌, ◌+◌, ◌*◌, ap, arith}
-use Rattle.node.specs.declared.Port.{Port}
+use Rattle.world_base.specs.declared.node_connections.port.Port.{Port}
 use Rattle.server.specs.node_threads.Theorems.{PortsDiffer}
 
 pub ports_apart : PortsDiffer

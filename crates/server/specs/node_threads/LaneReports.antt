@@ -1,8 +1,8 @@
 -- What a lane reports of its connections, and what a node's own lane sends.
 use Rattle.std.specs.Prelude.{◌≡◌, ℕ, ◌+◌, List, [], ◌∷◌, ◌++◌, length, Option, None, Some}
-use Rattle.node.specs.declared.Item.{Item}
-use Rattle.node.specs.declared.Item.TheVariants.{Bytes, Tick, Cut}
-use Rattle.node.specs.declared.Port.{Port}
+use Rattle.world_base.specs.declared.node_core.item.Item.{Item}
+use Rattle.world_base.specs.declared.node_core.item.Item.TheVariants.{Bytes, Tick, Cut}
+use Rattle.world_base.specs.declared.node_connections.port.Port.{Port}
 use Rattle.mailbox.specs.Ends.{LaneView}
 use Rattle.node_base.specs.declared.connection.ending.Ending.{Ending}
 use Rattle.node_base.specs.connection.Reports.{Hears}

@@ -1,6 +1,6 @@
 -- What the threads of a node do in their whole lives, each with its slot.
 use Rattle.std.specs.Prelude.{◌≡◌, ℕ, Option, Some, None}
-use Rattle.node.specs.declared.Item.{Item}
+use Rattle.world_base.specs.declared.node_core.item.Item.{Item}
 use Rattle.mailbox.specs.Ends.{LaneView}
 use Rattle.server.specs.node_threads.LaneReports.{EndsBy, SendsRow}
 

@@ -22,9 +22,9 @@ use Rattle.agreement.specs.MasterState.{MasterState}
 use Rattle.agreement.specs.cut_logs.Masters.{activated}
 use Rattle.agreement.specs.cut_logs.Moments.{Moment}
 use Rattle.agreement.specs.cut_logs.World.{messages, outputs}
-use Rattle.world_base.specs.declared.node_core.Connection.{Connection}
+use Rattle.world_base.specs.declared.node_connections.connection.Connection.{Connection}
 use Rattle.world_base.specs.declared.node_core.item.Item.TheVariants.{Peer}
-use Rattle.world_base.specs.declared.node_core.Port.{Port}
+use Rattle.world_base.specs.declared.node_connections.port.Port.{Port}
 use Rattle.world_base.specs.node_connections.Connections.{has_failed, is_at, is_listed}
 use Rattle.world_base.specs.node_connections.ConnectionChanges.{changed_where, nothing_pending}
 use Rattle.world_base.specs.node_core.Core.{CoreState, CountedCore, rules}

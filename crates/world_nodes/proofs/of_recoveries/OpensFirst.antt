@@ -19,7 +19,7 @@ use Rattle.agreement.specs.cut_logs.Moments.{Moment}
 use Rattle.agreement.specs.cut_logs.Whole.{whole}
 use Rattle.agreement.specs.cut_logs.World.{messages}
 use Rattle.world_base.specs.declared.node_core.item.Item.TheVariants.{Opened}
-use Rattle.world_base.specs.declared.node_core.Port.{Port}
+use Rattle.world_base.specs.declared.node_connections.port.Port.{Port}
 use Rattle.world_base.specs.node_connections.Connections.{is_open_named}
 use Rattle.world_base.specs.node_core.Core.{CoreState, CountedCore, StepOutcome, serves}
 use Rattle.world_base.specs.node_core.PortOutput.{hands_over}

@@ -25,7 +25,7 @@ use Rattle.headline.specs.node_moves.Moves.NodeCall.{takes}
 use Rattle.agreement.specs.cut_logs.Moments.{Moment, Moments, whole_moment}
 use Rattle.agreement.specs.cut_logs.Whole.{whole}
 use Rattle.world_base.specs.declared.node_core.item.Item.TheVariants.{Bytes, Peer}
-use Rattle.world_base.specs.declared.node_core.Port.{Port}
+use Rattle.world_base.specs.declared.node_connections.port.Port.{Port}
 use Rattle.world_base.specs.node_core.Core.{CountedCore, rules}
 use Rattle.world_base.specs.node_core.Step.{node_step}
 use Rattle.world_nodes.specs.ExactSteps.{after_node_call}

@@ -10,7 +10,7 @@ use Rattle.headline.specs.node_group.Group.{replica_of}
 use Rattle.headline.specs.node_moves.Moves.NodeCall.{takes, hands_out}
 use Rattle.agreement.specs.cut_logs.Moments.{Moment}
 use Rattle.world_base.specs.declared.node_core.item.Item.TheVariants.{Peer}
-use Rattle.world_base.specs.declared.node_core.Port.{Port}
+use Rattle.world_base.specs.declared.node_connections.port.Port.{Port}
 use Rattle.world_base.specs.node_core.Core.{CountedCore, rules}
 use Rattle.world_nodes.specs.ExactSteps.{after_answer, after_node_call}
 use Rattle.world_nodes.specs.Nodes.{NodesState, cores_of}

@@ -15,7 +15,7 @@ use Rattle.headline.specs.node_moves.Moves.NodeCall.{takes}
 use Rattle.agreement.specs.cut_logs.Moments.{Moment}
 use Rattle.agreement.specs.cut_logs.Whole.{whole}
 use Rattle.world_base.specs.declared.node_core.item.Item.TheVariants.{Opened}
-use Rattle.world_base.specs.declared.node_core.Port.{Port}
+use Rattle.world_base.specs.declared.node_connections.port.Port.{Port}
 use Rattle.world_base.specs.node_connections.Connections.{is_at, is_open_named}
 use Rattle.world_base.specs.node_core.Core.{CountedCore}
 use Rattle.world_nodes.specs.RecoveryChecks.{welcomes_back}

@@ -5,8 +5,8 @@ use Rattle.master.specs.declared.event.Idle.{Idle}
 use Rattle.world_base.specs.node_core.Core.{CountedCore}
 use Rattle.world_base.specs.node_core.PortOutput.{hands_over}
 use Rattle.world_base.specs.node_core.Losses.{WaitsNothing}
-use Rattle.world_base.specs.declared.node_core.Handed.{Handed}
-use Rattle.world_base.specs.declared.node_core.Port.{Port}
+use Rattle.world_base.specs.declared.node_connections.handed.Handed.{Handed}
+use Rattle.world_base.specs.declared.node_connections.port.Port.{Port}
 use Rattle.world_base.proofs.of_node_core.Calmly.{hands_over_waits, nothing_handed}
 use Rattle.world_nodes.specs.ExactSteps.{HandsOutExactly}
 use Rattle.world_nodes.specs.RunningNodes.{numbered_node}

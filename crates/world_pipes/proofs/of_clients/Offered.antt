@@ -9,7 +9,7 @@ use Rattle.std.proofs.lemmas.Option.{none-some}
 use Rattle.master.specs.declared.event.Idle.{Idle}
 use Rattle.world_base.specs.declared.node_core.item.Item.{Item}
 use Rattle.world_base.specs.declared.node_core.item.Item.TheVariants.{Opened}
-use Rattle.world_base.specs.declared.node_core.Port.{Port}
+use Rattle.world_base.specs.declared.node_connections.port.Port.{Port}
 use Rattle.world_base.specs.node_core.Core.{CountedCore}
 use Rattle.world_base.specs.node_core.PortOutput.{listed_at}
 use Rattle.headline.specs.node_moves.Moves.NodeCall.{takes}

@@ -4,8 +4,8 @@ use Rattle.std.specs.Prelude.{IfSome, IfOk, IsErr}
 use Rattle.std.proofs.lemmas.List.{append-nil, set-set}
 use Rattle.lists.proofs.Places.{get_set}
 use Rattle.master.specs.declared.event.Idle.{Idle}
-use Rattle.world_base.specs.declared.node_core.Handed.{Handed}
-use Rattle.world_base.specs.declared.node_core.Port.{Port}
+use Rattle.world_base.specs.declared.node_connections.handed.Handed.{Handed}
+use Rattle.world_base.specs.declared.node_connections.port.Port.{Port}
 use Rattle.world_base.specs.node_core.Core.{CountedCore}
 use Rattle.headline.specs.node_moves.Moves.NodeCall.{hands_out}
 use Rattle.world_nodes.specs.RunningNodes.{numbered_node}

@@ -4,9 +4,9 @@ use Rattle.headline.specs.node_moves.Moves.NodeCall.{hands_out}
 use Rattle.world_base.specs.node_core.Core.{CountedCore}
 use Rattle.world_base.specs.node_connections.PendingOutput.{handed_after, pending_bytes}
 use Rattle.world_base.specs.node_core.PortOutput.{listed_at}
-use Rattle.world_base.specs.declared.node_core.Handed.{Handed}
-use Rattle.world_base.specs.declared.node_core.Handed.TheVariants as answers
-use Rattle.world_base.specs.declared.node_core.Port.{Port}
+use Rattle.world_base.specs.declared.node_connections.handed.Handed.{Handed}
+use Rattle.world_base.specs.declared.node_connections.handed.Handed.TheVariants as answers
+use Rattle.world_base.specs.declared.node_connections.port.Port.{Port}
 use Rattle.world_nodes.specs.ExactSteps.{after_node_call, NodeDoesCall, HandsOver}
 use Rattle.world_nodes.specs.RunningNodes.{numbered_node}
 use Rattle.world_nodes.specs.Nodes.{NodesState}

@@ -4,7 +4,7 @@ use Rattle.client_base.specs.Steps.{Call, keeper_step}
 use Rattle.client_base.specs.declared.error.ClientError.{ClientError}
 use Rattle.world_base.specs.node_core.Core.{CountedCore}
 use Rattle.world_base.specs.declared.node_core.item.Item.TheVariants as items
-use Rattle.world_base.specs.declared.node_core.Port.{Port}
+use Rattle.world_base.specs.declared.node_connections.port.Port.{Port}
 use Rattle.world_nodes.specs.RunningNodes.{numbered_node}
 use Rattle.world_nodes.specs.Nodes.{NodesState}
 use Rattle.world_nodes.specs.Steps.{NodeItemOrLost}

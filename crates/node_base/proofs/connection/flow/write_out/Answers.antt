@@ -1,5 +1,5 @@
 use Rattle.std.proofs.Common.{[], refl, subst, inl, inr}
-use Rattle.world_base.specs.declared.node_core.Handed.{Handed}
+use Rattle.world_base.specs.declared.node_connections.handed.Handed.{Handed}
 use Rattle.node_base.proofs.of_connection.WritesJoin.{writes_alone, writes_behind}
 use Rattle.node_base.proofs.connection.flow.write_out.Goals as goal
 

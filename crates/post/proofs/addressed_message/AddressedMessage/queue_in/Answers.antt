@@ -1,5 +1,5 @@
 use Rattle.std.proofs.Common.{ℕ, ◌∙◌, ap, subst}
-use Rattle.node.specs.declared.Item.TheVariants.{Peer}
+use Rattle.world_base.specs.declared.node_core.item.Item.TheVariants.{Peer}
 use Rattle.post.specs.outbox.Given.{Addressed}
 use Rattle.post.specs.outbox.Queued.{IsPosted}
 use Rattle.post.specs.outbox.Queued.IsPosted.{of_node}

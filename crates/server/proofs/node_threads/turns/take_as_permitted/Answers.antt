@@ -1,6 +1,6 @@
 use Rattle.std.proofs.Common.{refl, ◌∙◌, ap, sym}
 use Rattle.mailbox.specs.Ends.{LaneView, ReceiverView}
-use Rattle.node.specs.declared.Item.{Item}
+use Rattle.world_base.specs.declared.node_core.item.Item.{Item}
 use Rattle.server.specs.node_threads.Turns.Turns.{takes}
 use Rattle.server.proofs.of_node_threads.GivenBySteps.{given_more}
 use Rattle.server.proofs.of_node_threads.TurnsEnd.{found_none, given_none}

@@ -1,6 +1,6 @@
 use Rattle.std.proofs.Common.{◌≡◌, take}
 use Rattle.std.specs.List.{list_any}
-use Rattle.node.specs.declared.Port.{Port}
+use Rattle.world_base.specs.declared.node_connections.port.Port.{Port}
 use Rattle.streams.specs.ListedConnections.{is_lane_idle}
 use Rattle.streams.specs.Ports.{is_of_lane}
 use Rattle.streams.proofs.idle_lanes.IdleLanes.of.Given as goal

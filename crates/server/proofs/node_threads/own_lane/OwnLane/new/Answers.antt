@@ -1,5 +1,5 @@
 use Rattle.std.proofs.Common.{List, [], sym, subst}
-use Rattle.node.specs.declared.Item.{Item}
+use Rattle.world_base.specs.declared.node_core.item.Item.{Item}
 use Rattle.server.specs.node_threads.LaneReports.{SendsOwn}
 use Rattle.server.specs.node_threads.LaneReports.SendsOwn.{starts}
 use Rattle.server.proofs.node_threads.own_lane.OwnLane.new.Goals as goal

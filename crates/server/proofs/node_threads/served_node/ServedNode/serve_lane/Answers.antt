@@ -1,5 +1,5 @@
 use Rattle.std.proofs.Common.{ℕ, ◌∙◌, ap, subst}
-use Rattle.node.specs.declared.Port.{Port}
+use Rattle.world_base.specs.declared.node_connections.port.Port.{Port}
 use Rattle.streams.specs.Ports.{port_of}
 use Rattle.server.specs.node_threads.LaneReports.{ReportsOne}
 use Rattle.server.specs.node_threads.LaneReports.ReportsEach.{begins, goes_on}

@@ -1,7 +1,7 @@
 use Rattle.std.proofs.Common.{sym, subst}
 use Rattle.mailbox.specs.Ends.{LaneView}
-use Rattle.node.specs.declared.Item.{Item}
-use Rattle.node.specs.declared.Port.{Port}
+use Rattle.world_base.specs.declared.node_core.item.Item.{Item}
+use Rattle.world_base.specs.declared.node_connections.port.Port.{Port}
 use Rattle.server.specs.node_threads.LaneReports.{ReportsOne, SendsWhole}
 use Rattle.server.specs.node_threads.LaneReports.ReportsOne.{closed_at_once, served}
 use Rattle.server.proofs.node_threads.served_node.ServedNode.serve_stream.Goals as goal

@@ -1,6 +1,6 @@
 use Rattle.std.proofs.Common.{ap}
 use Rattle.mailbox.specs.Ends.{LaneView}
-use Rattle.node.specs.declared.Item.{Item}
+use Rattle.world_base.specs.declared.node_core.item.Item.{Item}
 use Rattle.server.proofs.of_node_threads.OwnSendsJoin.{own_queued}
 use Rattle.server.proofs.node_threads.shared.Shared.send_queued.Goals as goal
 
