@@ -44,14 +44,14 @@ pub forgets_rises : (old new : NodesState) → new ≡ nodes_with_loss old → R
 forgets_rises old new is = let more = ap (λ (n : NodesState). n.losses) is in omega (arith, more)
 
 pub takes_rises : (node : ℕ) (item : Item) (old new : NodesState) → NodeItemOrLost node item old new → Rises old new
-takes_rises node item old new t = by t.pair
+takes_rises node item old new t = by t.way
   where
     by : (new ≡ after_node_call (node - 1) t.core (takes item) old) ⊎ ActsWithLosses (node - 1) item t.core old new → Rises old new
     by (inl is) = let same = ap (λ (n : NodesState). n.losses) is in omega (arith, same)
     by (inr loses) = let more = ap (λ (n : NodesState). n.losses) loses.is in omega (arith, more)
 
 pub cuts_rises : (node : ℕ) (old new : NodesState) → NodeCutOrLost node old new → Rises old new
-cuts_rises node old new t = by t.pair
+cuts_rises node old new t = by t.way
   where
     by : (new ≡ record (after_node_call (node - 1) t.core (takes Cut) old) { archive = recorded old.archive t.core.core.replica.state })
         ⊎ CutsWithLosses (node - 1) t.core old new

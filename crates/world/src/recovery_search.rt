@@ -166,12 +166,12 @@ impl World {
         let others = config.members.as_slice().len() as u64 - 1;
         let primary = config.primary;
         let number = (self.connections.len() as u64).saturating_add(1);
-        let mut pair = Vec::new(self.alloc);
-        push_group(self.alloc, &mut pair, config, sent, members, index as u64)?;
-        push_client(&mut pair, &self.clients[at].piped, client, primary, number)?;
+        let mut out = Vec::new(self.alloc);
+        push_group(self.alloc, &mut out, config, sent, members, index as u64)?;
+        push_client(&mut out, &self.clients[at].piped, client, primary, number)?;
         let then = sent + members + 5 * others + 4;
-        push_answers(self.alloc, &mut pair, then, others, number)?;
-        Ok(pair)
+        push_answers(self.alloc, &mut out, then, others, number)?;
+        Ok(out)
     }
 }
 

@@ -42,7 +42,7 @@ set_there nodes (suc n) core later e =
     (get_of_set nodes n core later (unstopped (slice_get nodes n) core e))
 
 pub still_there : (node : ℕ) (item : Item) (old new : NodesState) → NodeItemOrLost node item old new → numbered_node new.nodes node ≡ None → ⊥
-still_there node item old new t none = by t.pair
+still_there node item old new t none = by t.way
   where
     at_once : (later : CountedCore) → new.nodes ≡ slice_set old.nodes (node - 1) later → ⊥
     at_once later is = none-some later (sym none ∙ ap (λ (l : List CountedCore). numbered_node l node) is ∙ set_there old.nodes node t.core later t.runs)

@@ -24,7 +24,7 @@ const CONNACK_BYTES: u64 = 4;
 /// sent before; the member at `index` of this many `members` is asked for its log.
 pub fn push_group(
     alloc: Global,
-    pair: &mut Vec<Event>,
+    out: &mut Vec<Event>,
     config: Config,
     sent: u64,
     members: u64,
@@ -33,43 +33,43 @@ pub fn push_group(
     requires some { 1 ≤ length config.members }
     requires placed { index < members }
     requires bound { sent + members + 4 * (length config.members - 1) + 4 < 2 ^ 64 }
-    ensures { OnOk result (pair.new.items ≡ pair.old.items ++ events.Assign config
+    ensures { OnOk result (out.new.items ≡ out.old.items ++ events.Assign config
         ∷ map events.Deliver (recovery_messages sent members index (length config.members - 1))) }
 {
     let others = config.members.as_slice().len() as u64 - 1;
     let numbers = recovery_messages(alloc, sent, members, index, others)?;
-    pair.push(Event::Assign(config))?;
-    push_messages(pair, numbers.as_slice())
+    out.push(Event::Assign(config))?;
+    push_messages(out, numbers.as_slice())
 }
 
 /// Appends the events by which a client loses the connection that it holds, opens one to the new
 /// primary, number `number`, and its CONNECT arrives. Fails only if memory runs out.
 pub fn push_client(
-    pair: &mut Vec<Event>,
+    out: &mut Vec<Event>,
     piped: &PipedClient,
     client: &ClientId,
     primary: u8,
     number: u64,
 ) -> Result<(), Memory>
-    ensures { OnOk result (pair.new.items ≡ pair.old.items ++ client_events (is_holding piped.now)
+    ensures { OnOk result (out.new.items ≡ out.old.items ++ client_events (is_holding piped.now)
         client.now primary number (connect_bytes + length piped.now.core.state.client)) }
 {
-    push_leaving(pair, piped, client)?;
-    pair.push(Event::Open(client.clone()?, primary))?;
+    push_leaving(out, piped, client)?;
+    out.push(Event::Open(client.clone()?, primary))?;
     let bytes = CONNECT_BYTES + piped.core().client().as_str().len() as u64;
-    pair.push(Event::CarryUp(number, bytes))?;
+    out.push(Event::CarryUp(number, bytes))?;
     Ok(())
 }
 
 // Appends the loss of the connection that the client holds, if it holds one.
-fn push_leaving(pair: &mut Vec<Event>, piped: &PipedClient, client: &ClientId) -> Result<(), Memory>
+fn push_leaving(out: &mut Vec<Event>, piped: &PipedClient, client: &ClientId) -> Result<(), Memory>
     ensures { OnOk result
-        (pair.new.items ≡ pair.old.items ++ leaving (is_holding piped.now) client.now) }
+        (out.new.items ≡ out.old.items ++ leaving (is_holding piped.now) client.now) }
 {
     if !piped.is_open() {
         return Ok(());
     }
-    pair.push(Event::Abandon(client.clone()?))?;
+    out.push(Event::Abandon(client.clone()?))?;
     Ok(())
 }
 
@@ -77,25 +77,25 @@ fn push_leaving(pair: &mut Vec<Event>, piped: &PipedClient, client: &ClientId) -
 /// messages, and the arrival of the CONNACK on connection `number`. Fails only if memory runs out.
 pub fn push_answers(
     alloc: Global,
-    pair: &mut Vec<Event>,
+    out: &mut Vec<Event>,
     sent: u64,
     others: u64,
     number: u64,
 ) -> Result<(), Memory>
     requires { sent + 2 * others < 2 ^ 64 }
-    ensures { OnOk result (pair.new.items ≡ pair.old.items ++ answer_events sent others number) }
+    ensures { OnOk result (out.new.items ≡ out.old.items ++ answer_events sent others number) }
 {
     let numbers = answers(alloc, sent, others)?;
-    push_messages(pair, numbers.as_slice())?;
-    pair.push(Event::CarryDown(number, CONNACK_BYTES))?;
+    push_messages(out, numbers.as_slice())?;
+    out.push(Event::CarryDown(number, CONNACK_BYTES))?;
     Ok(())
 }
 
-fn push_messages(pair: &mut Vec<Event>, numbers: &[u64]) -> Result<(), Memory>
-    ensures { OnOk result (pair.new.items ≡ pair.old.items ++ map events.Deliver numbers.now) }
+fn push_messages(out: &mut Vec<Event>, numbers: &[u64]) -> Result<(), Memory>
+    ensures { OnOk result (out.new.items ≡ out.old.items ++ map events.Deliver numbers.now) }
 {
     for number in numbers {
-        pair.push(Event::Deliver(*number))?;
+        out.push(Event::Deliver(*number))?;
     }
     Ok(())
 }

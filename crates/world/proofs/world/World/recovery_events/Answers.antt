@@ -13,7 +13,7 @@ returns c = λ found stands.
     let few : c.args.at < length c.self.inside.clients.items = rw (← c.self.view_is) at c.requires.there in
     let here = get_there c.self.inside.clients.items c.args.at c.index.result.now few c.index.ensures in
     let same : found ≡ c.index.result.now = same_Some found c.index.result.now (sym (rw (← c.self.view_is) at stands) ∙ here) in
-    let client = subst (λ (k : WorldClient). c.push_client.new.pair.items ≡ c.push_group.new.pair.items
+    let client = subst (λ (k : WorldClient). c.push_client.new.out.items ≡ c.push_group.new.out.items
     ++ client_events (is_holding k.piped) c.args.client.now c.args.config.primary c.saturating_add-number.result (14 + length k.piped.core.state.client))
     (sym same) c.in_ok-push_client.ensures in
     let sent : c.messages-sent.result ≡ length c.args.self.now.nodes.sent = rw (← c.self.view_is) c.messages-sent.ensures in
@@ -26,5 +26,5 @@ returns c = λ found stands.
     omega (arith, sent, members, others) in
     whole_pair c.args.self.now c.args.config (is_holding found.piped) c.args.client.now c.messages-sent.result (length c.active.result.1.now) c.args.index
     (length c.as_slice.result.now - 1) (14 + length found.piped.core.state.client) c.saturating_add-number.result (c.messages-sent.result + length c.active.result.1.now + 5 * (length c.as_slice.result.now - 1) + 4)
-    c.new-pair.result.items c.push_group.new.pair.items c.push_client.new.pair.items c.push_answers.new.pair.items (search rules) c.in_ok-push_group.ensures client c.in_ok-push_answers.ensures
+    c.new-out.result.items c.push_group.new.out.items c.push_client.new.out.items c.push_answers.new.out.items (search rules) c.in_ok-push_group.ensures client c.in_ok-push_answers.ensures
     c.requires.first sent members others number later
