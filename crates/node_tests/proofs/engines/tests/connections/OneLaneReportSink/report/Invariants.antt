@@ -1,5 +1,5 @@
 use Rattle.std.proofs.Common.{◌≡◌}
-use Rattle.node_tests.proofs.engines.tests.connections.OneLaneSink.report.Given as goal
+use Rattle.node_tests.proofs.engines.tests.connections.OneLaneReportSink.report.Given as goal
 
 abbrev pub invariant-loop : goal.invariant-loop
 invariant-loop g l = record {
