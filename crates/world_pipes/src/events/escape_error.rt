@@ -32,7 +32,7 @@ impl EscapeError {
 impl fmt::Display for EscapeError {
     fn fmt<W: fmt::Write>(&self, f: &mut fmt::Formatter<W>) -> fmt::Result {
         let text = match self {
-            EscapeError::Idle => "no pair out",
+            EscapeError::Idle => "no way out",
             EscapeError::Memory => "out of memory",
         };
         write!(f, "{text}")
