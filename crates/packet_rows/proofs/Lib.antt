@@ -1,0 +1,4 @@
+pub mod TopicAnswers
+pub mod PacketAnswers
+pub mod StreamAnswers
+pub mod KindAnswers

@@ -1,0 +1,5 @@
+pub mod Appended
+pub mod Compared
+pub mod ManyLines
+pub mod NumberRead
+pub mod RowByRow

@@ -1,0 +1,20 @@
+//! Rows of tests in text files: reads them, plays them, and says where one differs.
+#![tactic(auto)]
+
+mod error;
+mod field;
+mod fields;
+mod files;
+mod hexadecimal;
+mod line;
+mod line_reader;
+mod playing;
+mod reader;
+
+pub use error::{RowsFault, StepFault};
+pub use field::Field;
+pub use fields::Fields;
+pub use files::{Player, play_file};
+pub use line::{Line, split_row};
+pub use playing::{Cut, Outcome, Tested, are_equal, play_steps};
+pub use reader::read;
