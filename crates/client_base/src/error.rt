@@ -3,6 +3,7 @@
 ghost use Rattle.std.specs.Prelude.{◌≡◌};
 ghost use Rattle.client_base.specs.Refusals.{client_number};
 
+use machine::{MEMORY_NUMBER, MEMORY_TEXT};
 use std::alloc::{AllocError, AllocFailed};
 use std::error::Error;
 use std::fmt;
@@ -40,7 +41,7 @@ impl ClientError {
             ClientError::SessionLost => 23,
             ClientError::Protocol => 11,
             ClientError::Malformed(kind) => kind.number(),
-            ClientError::Memory => 12,
+            ClientError::Memory => MEMORY_NUMBER,
         }
     }
 }
@@ -54,7 +55,7 @@ impl fmt::Display for ClientError {
             ClientError::SessionLost => write!(f, "session lost"),
             ClientError::Protocol => write!(f, "packet out of its place"),
             ClientError::Malformed(kind) => write!(f, "malformed packet: {kind}"),
-            ClientError::Memory => write!(f, "out of memory"),
+            ClientError::Memory => write!(f, "{MEMORY_TEXT}"),
         }
     }
 }

@@ -4,6 +4,7 @@ ghost use Rattle.std.specs.Prelude.{◌≡◌};
 ghost use Rattle.command_line.specs.Refusals.{table_number};
 
 use clap::Error;
+use machine::{MEMORY_NUMBER, MEMORY_TEXT};
 use std::alloc::{AllocError, AllocFailed};
 use std::{error, fmt};
 
@@ -35,7 +36,7 @@ impl TableFault {
     {
         match self {
             TableFault::Shape => 10,
-            TableFault::Memory => 12,
+            TableFault::Memory => MEMORY_NUMBER,
         }
     }
 }
@@ -44,7 +45,7 @@ impl fmt::Display for TableFault {
     fn fmt<W: fmt::Write>(&self, f: &mut fmt::Formatter<W>) -> fmt::Result {
         let text = match self {
             TableFault::Shape => "table of nodes",
-            TableFault::Memory => "out of memory",
+            TableFault::Memory => MEMORY_TEXT,
         };
         write!(f, "{text}")
     }

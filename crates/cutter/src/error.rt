@@ -3,6 +3,7 @@
 ghost use Rattle.std.specs.Prelude.{◌≡◌};
 ghost use Rattle.cutter.specs.Refusals.{cut_number};
 
+use machine::{MEMORY_NUMBER, MEMORY_TEXT};
 use packet::DecodeFault;
 use std::alloc::AllocError;
 use std::error::Error;
@@ -27,7 +28,7 @@ impl CutError {
     {
         match self {
             CutError::Decode(fault) => fault.number(),
-            CutError::Memory => Some(12),
+            CutError::Memory => Some(MEMORY_NUMBER),
             CutError::Failed => Some(13),
         }
     }
@@ -37,7 +38,7 @@ impl fmt::Display for CutError {
     fn fmt<W: fmt::Write>(&self, f: &mut fmt::Formatter<W>) -> fmt::Result {
         match self {
             CutError::Decode(fault) => write!(f, "{fault}"),
-            CutError::Memory => write!(f, "out of memory"),
+            CutError::Memory => write!(f, "{MEMORY_TEXT}"),
             CutError::Failed => write!(f, "the stream has failed before"),
         }
     }

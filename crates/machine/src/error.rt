@@ -7,6 +7,12 @@ use std::alloc::{AllocError, AllocFailed};
 use std::error::Error;
 use std::fmt;
 
+/// The number of each refusal for want of memory, in every program and document of this broker.
+pub const MEMORY_NUMBER: u8 = 12;
+
+/// The text of each refusal for want of memory.
+pub const MEMORY_TEXT: &str = "out of memory";
+
 /// Memory ran out. Nothing was changed.
 #[derive(Clone, Copy, Debug, PartialEq, Eq)]
 pub struct Memory;
@@ -16,13 +22,13 @@ impl Memory {
     pub fn number(self) -> u8
         ensures { result ≡ 12 }
     {
-        12
+        MEMORY_NUMBER
     }
 }
 
 impl fmt::Display for Memory {
     fn fmt<W: fmt::Write>(&self, f: &mut fmt::Formatter<W>) -> fmt::Result {
-        write!(f, "out of memory")
+        write!(f, "{MEMORY_TEXT}")
     }
 }
 
@@ -57,7 +63,7 @@ impl Halted {
 
 impl fmt::Display for Halted {
     fn fmt<W: fmt::Write>(&self, f: &mut fmt::Formatter<W>) -> fmt::Result {
-        write!(f, "halted: out of memory")
+        write!(f, "halted: {MEMORY_TEXT}")
     }
 }
 
@@ -97,7 +103,7 @@ impl ThawFault {
     {
         match self {
             ThawFault::Shape => 10,
-            ThawFault::Memory => 12,
+            ThawFault::Memory => MEMORY_NUMBER,
         }
     }
 }
@@ -106,7 +112,7 @@ impl fmt::Display for ThawFault {
     fn fmt<W: fmt::Write>(&self, f: &mut fmt::Formatter<W>) -> fmt::Result {
         let text = match self {
             ThawFault::Shape => "shape of the frozen machine",
-            ThawFault::Memory => "out of memory",
+            ThawFault::Memory => MEMORY_TEXT,
         };
         write!(f, "{text}")
     }

@@ -8,6 +8,6 @@ mod machine;
 mod tally;
 
 pub use ballots::MAX_BALLOT;
-pub use error::{Halted, Memory, ThawFault};
+pub use error::{Halted, MEMORY_NUMBER, MEMORY_TEXT, Memory, ThawFault};
 pub use machine::Machine;
 pub use tally::{Tally, TallyCommand};

@@ -3,6 +3,7 @@
 ghost use Rattle.std.specs.Prelude.{◌≡◌};
 ghost use Rattle.packet.specs.Refusals.{decode_number, encode_number};
 
+use machine::{MEMORY_NUMBER, MEMORY_TEXT};
 use packet_base::RefusalCode;
 use std::alloc::AllocError;
 use std::error::Error;
@@ -57,7 +58,7 @@ impl EncodeFault {
     {
         match self {
             EncodeFault::TooLarge => 4,
-            EncodeFault::Memory => 12,
+            EncodeFault::Memory => MEMORY_NUMBER,
         }
     }
 }
@@ -66,7 +67,7 @@ impl fmt::Display for EncodeFault {
     fn fmt<W: fmt::Write>(&self, f: &mut fmt::Formatter<W>) -> fmt::Result {
         match self {
             EncodeFault::TooLarge => write!(f, "packet too large"),
-            EncodeFault::Memory => write!(f, "out of memory"),
+            EncodeFault::Memory => write!(f, "{MEMORY_TEXT}"),
         }
     }
 }

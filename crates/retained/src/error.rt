@@ -3,6 +3,7 @@
 ghost use Rattle.std.specs.Prelude.{◌≡◌};
 ghost use Rattle.retained.specs.Refusals.{retained_error_number};
 
+use machine::{MEMORY_NUMBER, MEMORY_TEXT};
 use std::alloc::{AllocError, AllocFailed};
 use std::error::Error;
 use std::fmt;
@@ -23,7 +24,7 @@ impl RetainedError {
     {
         match self {
             RetainedError::RetainedFull => 16,
-            RetainedError::Memory => 12,
+            RetainedError::Memory => MEMORY_NUMBER,
         }
     }
 }
@@ -32,7 +33,7 @@ impl fmt::Display for RetainedError {
     fn fmt<W: fmt::Write>(&self, f: &mut fmt::Formatter<W>) -> fmt::Result {
         let text = match self {
             RetainedError::RetainedFull => "too many retained topics",
-            RetainedError::Memory => "out of memory",
+            RetainedError::Memory => MEMORY_TEXT,
         };
         write!(f, "{text}")
     }

@@ -1,5 +1,6 @@
 // Why a text is no script.
 
+use machine::MEMORY_TEXT;
 use std::alloc::{AllocError, AllocFailed};
 use std::error::Error;
 use std::fmt;
@@ -18,7 +19,7 @@ impl fmt::Display for ScriptFault {
     fn fmt<W: fmt::Write>(&self, f: &mut fmt::Formatter<W>) -> fmt::Result {
         match self {
             ScriptFault::Line(number) => write!(f, "script line {number}"),
-            ScriptFault::Memory => write!(f, "out of memory"),
+            ScriptFault::Memory => write!(f, "{MEMORY_TEXT}"),
         }
     }
 }

@@ -3,7 +3,7 @@
 ghost use Rattle.std.specs.Prelude.{◌≡◌};
 ghost use Rattle.session.specs.Refusals.{enqueue_error_number};
 
-use machine::Memory;
+use machine::{MEMORY_NUMBER, MEMORY_TEXT, Memory};
 use std::alloc::{AllocError, AllocFailed};
 use std::error::Error;
 use std::fmt;
@@ -24,7 +24,7 @@ impl EnqueueError {
     {
         match self {
             EnqueueError::QueueFull => 15,
-            EnqueueError::Memory => 12,
+            EnqueueError::Memory => MEMORY_NUMBER,
         }
     }
 }
@@ -33,7 +33,7 @@ impl fmt::Display for EnqueueError {
     fn fmt<W: fmt::Write>(&self, f: &mut fmt::Formatter<W>) -> fmt::Result {
         let text = match self {
             EnqueueError::QueueFull => "the session's queue is full",
-            EnqueueError::Memory => "out of memory",
+            EnqueueError::Memory => MEMORY_TEXT,
         };
         write!(f, "{text}")
     }

@@ -3,6 +3,7 @@
 ghost use Rattle.std.specs.Prelude.{◌≡◌};
 ghost use Rattle.topics.specs.Refusals.{malformed_number};
 
+use machine::{MEMORY_NUMBER, MEMORY_TEXT};
 use std::alloc::{AllocError, AllocFailed};
 use std::error::Error;
 use std::fmt;
@@ -57,7 +58,7 @@ impl MalformedKind {
             MalformedKind::Filter => 9,
             MalformedKind::Shape => 10,
             MalformedKind::Protocol => 11,
-            MalformedKind::Memory => 12,
+            MalformedKind::Memory => MEMORY_NUMBER,
             MalformedKind::TooDeep => 14,
         }
     }
@@ -77,7 +78,7 @@ impl fmt::Display for MalformedKind {
             MalformedKind::Filter => "topic filter",
             MalformedKind::Shape => "shape of the packet",
             MalformedKind::Protocol => "protocol",
-            MalformedKind::Memory => "out of memory",
+            MalformedKind::Memory => MEMORY_TEXT,
             MalformedKind::TooDeep => "too many levels",
         };
         write!(f, "{text}")

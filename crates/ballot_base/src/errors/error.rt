@@ -3,7 +3,7 @@
 ghost use Rattle.std.specs.Prelude.{◌≡◌};
 ghost use Rattle.ballot_base.specs.errors.Refusals.{opening_number, propose_number};
 
-use machine::Memory;
+use machine::{MEMORY_NUMBER, MEMORY_TEXT, Memory};
 use std::alloc::{AllocError, AllocFailed};
 use std::error::Error;
 use std::fmt;
@@ -25,7 +25,7 @@ impl OpeningError {
     {
         match self {
             OpeningError::BadMembers => 20,
-            OpeningError::Memory => 12,
+            OpeningError::Memory => MEMORY_NUMBER,
         }
     }
 }
@@ -34,7 +34,7 @@ impl fmt::Display for OpeningError {
     fn fmt<W: fmt::Write>(&self, f: &mut fmt::Formatter<W>) -> fmt::Result {
         let text = match self {
             OpeningError::BadMembers => "members or primary of the ballot",
-            OpeningError::Memory => "out of memory",
+            OpeningError::Memory => MEMORY_TEXT,
         };
         write!(f, "{text}")
     }
@@ -93,7 +93,7 @@ impl ProposeError {
         match self {
             ProposeError::NotActive => 18,
             ProposeError::LogFull => 19,
-            ProposeError::Memory => 12,
+            ProposeError::Memory => MEMORY_NUMBER,
             ProposeError::Halted => 17,
         }
     }
@@ -104,7 +104,7 @@ impl fmt::Display for ProposeError {
         let text = match self {
             ProposeError::NotActive => "no active primary",
             ProposeError::LogFull => "the log is full",
-            ProposeError::Memory => "out of memory",
+            ProposeError::Memory => MEMORY_TEXT,
             ProposeError::Halted => "the replica stopped",
         };
         write!(f, "{text}")

@@ -3,7 +3,7 @@
 ghost use Rattle.std.specs.Prelude.{◌≡◌};
 ghost use Rattle.world_pipes.specs.events.Refusals.{escape_number};
 
-use machine::Memory;
+use machine::{MEMORY_NUMBER, MEMORY_TEXT, Memory};
 use std::alloc::{AllocError, AllocFailed};
 use std::error::Error;
 use std::fmt;
@@ -24,7 +24,7 @@ impl EscapeError {
     {
         match self {
             EscapeError::Idle => 24,
-            EscapeError::Memory => 12,
+            EscapeError::Memory => MEMORY_NUMBER,
         }
     }
 }
@@ -33,7 +33,7 @@ impl fmt::Display for EscapeError {
     fn fmt<W: fmt::Write>(&self, f: &mut fmt::Formatter<W>) -> fmt::Result {
         let text = match self {
             EscapeError::Idle => "no way out",
-            EscapeError::Memory => "out of memory",
+            EscapeError::Memory => MEMORY_TEXT,
         };
         write!(f, "{text}")
     }
