@@ -1,0 +1,18 @@
+-- The keys of a connection, which follow from one key that all nodes have and from the hellos with
+-- which the two ends began.
+use Rattle.std.specs.Prelude.{ℕ, List, [], ◌∷◌, ◌++◌}
+use Rattle.seal.specs.declared.keys.Purpose.{Purpose}
+use Rattle.seal.specs.declared.keys.Purpose.TheVariants.{ProvesDialler, ProvesListener, SealsDialler, SealsListener}
+use Rattle.seal.specs.Hmac.{hmac}
+
+-- the byte of each purpose
+abbrev pub purpose_byte : Purpose → ℕ
+purpose_byte ProvesDialler = 0
+purpose_byte ProvesListener = 1
+purpose_byte SealsDialler = 2
+purpose_byte SealsListener = 3
+
+-- the 32 bytes for a purpose: those of the end that dialled come first under the key
+abbrev pub derived : List ℕ → Purpose → List ℕ → List ℕ → List ℕ
+derived key purpose dialler listener =
+    hmac key ((purpose_byte purpose ∷ []) ++ dialler ++ listener)

@@ -1,0 +1,162 @@
+// Sealing frames, and opening them.
+
+ghost use Rattle.std.specs.Prelude.{◌≡◌, ◌≢◌, ◌⊎◌, ◌<◌, ◌↔◌, true, false, take, IfSome, IfNone, IsOk, IsErrOf, OnErr, OnOk};
+ghost use Rattle.seal.specs.Frames.{frame_tag, moved_on, spent};
+
+use crate::keyed_hash::hmac;
+use std::error::Error;
+use std::fmt;
+use std::marker::Model;
+
+/// Bytes of a tag.
+pub const TAG_BYTES: usize = 16;
+
+/// The tag of a frame.
+pub type Tag = [u8; TAG_BYTES];
+
+/// Seals the frames of one direction of a connection.
+#[derive(Drop)]
+pub struct Sealer {
+    key: [u8; 32],
+    next: u64,
+}
+
+impl Model for Sealer {
+    ghost use Rattle.seal.specs.Frames.{Place};
+
+    ghost Value = { Place };
+
+    ghost view = { λ sealer. record { key = sealer.key; next = sealer.next } };
+}
+
+impl Sealer {
+    /// Begins a direction: its first frame has number 0.
+    pub fn new(key: [u8; 32]) -> Sealer
+        ensures { result ≡ record { key = key; next = 0 } }
+    {
+        Sealer { key, next: 0 }
+    }
+
+    /// Returns the tag of the next frame; `None` once 2^64 - 1 frames were sealed.
+    pub fn seal(&mut self, frame: &[u8]) -> Option<Tag>
+        ensures tag { IfSome result (λ tag.
+            tag ≡ frame_tag self.old.key self.old.next frame.now) }
+        ensures next { IfSome result (λ tag. self.new ≡ moved_on self.old) }
+        ensures none { IfNone result ((self.old.next ≡ spent) × (self.new ≡ self.old)) }
+    {
+        if self.next == u64::MAX {
+            return None;
+        }
+        let tag = tag_of(&self.key, self.next, frame);
+        self.next += 1;
+        Some(tag)
+    }
+}
+
+/// Why a frame was not accepted.
+#[derive(Clone, Copy, Debug, PartialEq, Eq)]
+pub enum SealFault {
+    /// It does not bear its tag: it was altered, left out, repeated or moved, or is of another
+    /// connection or key. Nothing is accepted from now on.
+    Tag,
+    /// An earlier frame was refused, or 2^64 - 1 were accepted.
+    Failed,
+}
+
+impl fmt::Display for SealFault {
+    fn fmt<W: fmt::Write>(&self, f: &mut fmt::Formatter<W>) -> fmt::Result {
+        let text = match self {
+            SealFault::Tag => "a frame does not bear its tag",
+            SealFault::Failed => "the connection has failed before",
+        };
+        write!(f, "{text}")
+    }
+}
+
+impl Error for SealFault {}
+
+/// Accepts the frames of one direction of a connection, each only with the tag of its place.
+#[derive(Drop)]
+pub struct Opener {
+    key: [u8; 32],
+    next: u64,
+    failed: bool,
+}
+
+impl Model for Opener {
+    ghost use Rattle.seal.specs.Frames.{Opening};
+
+    ghost Value = { Opening };
+
+    ghost view = { λ opener. record {
+      place = record { key = opener.key; next = opener.next };
+      failed = opener.failed;
+    } };
+}
+
+impl Opener {
+    /// Begins a direction: its first frame has number 0.
+    pub fn new(key: [u8; 32]) -> Opener
+        ensures { result ≡ record { place = record { key = key; next = 0 }; failed = false } }
+    {
+        Opener {
+            key,
+            next: 0,
+            failed: false,
+        }
+    }
+
+    /// Accepts the next frame if it bears its tag. After one that does not, nothing is accepted.
+    pub fn accept(&mut self, frame: &[u8], tag: &Tag) -> Result<(), SealFault>
+        ensures ok { IsOk result ↔ ((self.old.failed ≡ false) × (self.old.place.next < spent)
+            × (tag.now ≡ frame_tag self.old.place.key self.old.place.next frame.now)) }
+        ensures next { OnOk result
+            (self.new ≡ record self.old { place = moved_on self.old.place }) }
+        ensures tag { IsErrOf result SealFault.Tag →
+            (tag.now ≢ frame_tag self.old.place.key self.old.place.next frame.now)
+            × (self.new ≡ record self.old { failed = true }) }
+        ensures failed { IsErrOf result SealFault.Failed ↔
+            ((self.old.failed ≡ true) ⊎ (self.old.place.next ≡ spent)) }
+        ensures same { IsErrOf result SealFault.Failed → self.new ≡ self.old }
+    {
+        if self.failed || self.next == u64::MAX {
+            return Err(SealFault::Failed);
+        }
+        if !are_equal(tag, &tag_of(&self.key, self.next, frame)) {
+            self.failed = true;
+            return Err(SealFault::Tag);
+        }
+        self.next += 1;
+        Ok(())
+    }
+}
+
+// Returns the tag of a frame.
+fn tag_of(key: &[u8; 32], number: u64, frame: &[u8]) -> Tag
+    ensures { result ≡ frame_tag key.now number frame.now }
+{
+    let length = frame.len() as u64;
+    let whole = hmac(key, &number.to_be_bytes(), &length.to_be_bytes(), frame);
+    first_bytes(&whole)
+}
+
+// Returns the first bytes of a hash.
+fn first_bytes(whole: &[u8; 32]) -> Tag
+    ensures { result ≡ take 16 whole.now }
+{
+    let mut tag = [0; TAG_BYTES];
+    tag.copy_from_slice(&whole[..TAG_BYTES]);
+    tag
+}
+
+// Returns true if two tags are equal. Each byte is looked at, so that the time says nothing of where
+// they differ.
+fn are_equal(first: &Tag, second: &Tag) -> bool
+    ensures { (result ≡ true) ↔ (first.now ≡ second.now) }
+{
+    let mut is_equal = true;
+    'bytes: for index in 0..TAG_BYTES {
+        is_equal &= first[index] == second[index];
+    }
+    is_equal
+}
