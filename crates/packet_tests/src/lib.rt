@@ -1,5 +1,5 @@
-//! Tests of topics, packets and streams of packets: byte strings of the standard in both
-//! directions, what each fault is, and what memory that is refused does.
+//! Tests of topics, packets and streams of packets that are no rows of text: printed texts, copies
+//! and orders, and what memory that is refused does.
 #![tactic(auto)]
 
 pub mod names;

@@ -1,5 +1,5 @@
-//! Tests of crate `topics` through its public calls: what is a Topic Name, what is a Topic Filter,
-//! and which of them match (MQTT 3.1.1, section 4.7).
+//! Tests of crate `topics` through its public calls: how texts are printed and ordered, and what
+//! memory that is refused does.
 
 mod rows;
 #[cfg(test)]

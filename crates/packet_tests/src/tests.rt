@@ -1,11 +1,7 @@
-//! Byte strings written by hand from the standard, what each fault is, and what happens out of
-//! memory.
+//! What no row of text has: printed texts, copies and orders, bytes that are there before, and
+//! refused memory.
 
-mod answers;
-mod connecting;
-mod faults;
-mod fields;
-mod listing;
 mod memory;
-mod publishing;
-mod spelling;
+mod refusals;
+mod values;
+mod writing;

@@ -1,8 +1,4 @@
-// Texts that are Topic Names and Filters, and texts that are not; which topics a filter matches.
+// Texts of each kind: how they are printed, copied and ordered, and refused memory.
 
-mod asking;
 mod calls;
-mod faults;
-mod limits;
-mod matching;
 mod memory;

@@ -1,5 +1,5 @@
-//! A stream that is split into its packets, and what happens out of memory.
+//! What a user is told of a stream that fails, and what happens out of memory.
 
-mod cutting;
+mod faults;
 mod memory;
 mod spelling;

@@ -2,7 +2,7 @@
 // the gate none fails. A call answers `Memory`, or the answer that it gives with memory, and
 // nothing else.
 
-use super::spelling::write;
+use super::writing::write;
 use packet::*;
 use std::alloc::Global;
 use std::test::*;

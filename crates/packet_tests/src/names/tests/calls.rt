@@ -160,55 +160,6 @@ fn filters_are_ordered_by_bytes(rt: HostRuntime) {
     assert_eq!(rt; first_fault_of_filters(rt.alloc(), ("#", "+")), None);
 }
 
-fn has_text(topic: &TopicName, wanted: Option<&str>) -> bool {
-    Some(topic.as_str()) == wanted
-}
-
-// Returns the check that fails for a filter that has to be the topic of this text, or none.
-fn first_fault_of_topic(filter: &Filter, wanted: Option<&str>) -> Option<&'static str> {
-    match filter.as_topic() {
-        Ok(Some(topic)) => {
-            if has_text(&topic, wanted) {
-                None
-            } else {
-                Some("it is no topic but that of the row")
-            }
-        }
-        Ok(None) => {
-            if wanted.is_none() {
-                None
-            } else {
-                Some("it is a topic")
-            }
-        }
-        Err(_) => Some("there is memory for the topic"),
-    }
-}
-
-// Returns the check that fails for a text, which has to be a filter.
-fn first_fault_of_topic_text(
-    alloc: Global,
-    text: &str,
-    wanted: Option<&str>,
-) -> Option<&'static str> {
-    match Filter::new(alloc, text) {
-        Ok(filter) => first_fault_of_topic(&filter, wanted),
-        Err(_) => Some("it is a filter"),
-    }
-}
-
-// A filter without wildcards is a Topic Name.
-#[test]
-fn bare_filters_are_topics(rt: HostRuntime) {
-    for (text, topic) in [("sport/tennis", Some("sport/tennis")), ("sport/#", None)] {
-        assert_eq!(rt;
-            first_fault_of_topic_text(rt.alloc(), text, topic),
-            None,
-            "{text}"
-        );
-    }
-}
-
 // Each kind with the number that docs/MANUAL.md gives it, and what a user is told.
 const KINDS: &[(MalformedKind, u8, &str)] = &[
     (MalformedKind::PacketType, 1, "reserved packet type"),

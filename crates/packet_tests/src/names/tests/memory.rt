@@ -2,7 +2,6 @@
 // the gate none fails. A text is made, or `Memory` is answered and it is made at the second try; a
 // text that is refused for a fault is refused for it as usual; and a match takes no memory.
 
-use super::asking::{filter_fault, topic_fault};
 use std::alloc::Global;
 use std::test::*;
 use topics::{Filter, MalformedKind, TopicName, matches};
@@ -47,6 +46,16 @@ fn a_text_is_made_or_memory_is_answered(rt: HostRuntime) {
     for (filter, topic) in [("t/#", "t/1/2/3"), ("+/+/é", "/a/é")] {
         assert_eq!(rt; matched(rt.alloc(), filter, topic), Ok(true), "{filter}");
     }
+}
+
+// Returns the kind with which a text is refused as a Topic Filter.
+fn filter_fault(alloc: Global, text: &str) -> Option<MalformedKind> {
+    Filter::new(alloc, text).err()
+}
+
+// Returns the kind with which a text is refused as a Topic Name.
+fn topic_fault(alloc: Global, text: &str) -> Option<MalformedKind> {
+    TopicName::new(alloc, text).err()
 }
 
 // Texts that are no filter and no topic, each with its fault.

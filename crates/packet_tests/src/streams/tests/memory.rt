@@ -2,11 +2,16 @@
 // turn; in the gate none fails. A call answers `Memory` and leaves the cutter as it was, or gives
 // the answer that it gives with memory.
 
-use super::cutting::STREAM;
 use super::spelling::write;
 use cutter::{CutError, Cutter};
 use packet::Packet;
 use std::alloc::Global;
+
+/// CONNECT of client `a`, PUBLISH of `x` at QoS 2 on `t/1`, PINGREQ (MQTT 3.1, 3.3, 3.12).
+const STREAM: [u8; 27] = [
+    0x10, 0x0D, 0x00, 0x04, 0x4D, 0x51, 0x54, 0x54, 0x04, 0x00, 0x00, 0x3C, 0x00, 0x01, 0x61, 0x34,
+    0x08, 0x00, 0x03, 0x74, 0x2F, 0x31, 0x00, 0x01, 0x78, 0xC0, 0x00,
+];
 
 // Feeds a piece, again if it ran out of memory, which leaves the cutter as it was.
 fn feed(cutter: &mut Cutter, piece: &[u8]) -> bool {
