@@ -1,7 +1,7 @@
-// What both indexes do, tested by callers that know only the trait's contract.
+// What both indexes do that no row of text has, tested by callers that know only the trait's
+// contract.
 
-mod calls;
+mod grants;
 pub(crate) mod memory;
 mod putting;
 mod random;
-mod rows;

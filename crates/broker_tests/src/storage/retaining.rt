@@ -1,73 +1,82 @@
-// What a store of retained publications keeps, worked by hand (MQTT 3.3.1.3).
+// A store of retained publications at its limit, and what a user is told (MQTT 3.3.1.3).
 
 mod memory;
-mod row;
 
-use crate::storage::retaining::row::Row::{Finds, Has, IsFull, Put};
-use crate::storage::retaining::row::{Came, Row, came_instead, first_fault};
-use packet_base::QoS;
+use packet_base::{Payload, QoS};
 use retained::{RetainedError, RetainedStore};
 use std::alloc::Global;
-use std::test::Fail;
+use std::test::*;
+use topics::TopicName;
 
-const ROWS: &[Row<'static>] = &[
-    Has(0),
-    Put("t/2", QoS::AtLeastOnce, "yy"),
-    Put("t/1", QoS::ExactlyOnce, "x"),
-    Finds(
-        "t/#",
-        &[("t/1", QoS::ExactlyOnce, 1), ("t/2", QoS::AtLeastOnce, 2)],
-    ),
-    Put("t/1", QoS::AtMostOnce, ""),
-    Finds("t/#", &[("t/2", QoS::AtLeastOnce, 2)]),
-    Put("t/2", QoS::AtMostOnce, "z"),
-    Finds("+/2", &[("t/2", QoS::AtMostOnce, 1)]),
-    Finds("t/2", &[("t/2", QoS::AtMostOnce, 1)]),
-    Finds("u", &[]),
-    Has(1),
-];
+/// Returns what a store answers to a publication; none if there was no memory for it.
+pub(crate) fn put(
+    alloc: Global,
+    store: &mut RetainedStore,
+    topic: &str,
+    qos: QoS,
+    payload: &str,
+) -> Option<Result<(), RetainedError>> {
+    let topic = TopicName::new(alloc, topic).ok()?;
+    let payload = Payload::new(alloc, payload.as_bytes()).ok()?;
+    Some(store.put(topic, qos, payload))
+}
 
-const AT_THE_LIMIT: &[Row<'static>] = &[
-    Has(16_384),
-    IsFull("new", QoS::AtMostOnce, "x"),
-    Put("new", QoS::AtMostOnce, ""),
-    Put("t/7", QoS::AtMostOnce, "y"),
-    Has(16_384),
-    Put("t/7", QoS::AtMostOnce, ""),
-    Put("new", QoS::AtMostOnce, "x"),
-    Has(16_384),
-];
+// What a store answers to a publication, and how many topics are kept then.
+type Came = (Option<Result<(), RetainedError>>, usize);
 
-// Keeps a publication of the topic of a number. Returns what came, if it is not kept.
-fn came_of_topic(alloc: Global, store: &mut RetainedStore, number: u32) -> Option<Came> {
-    match format!(in alloc; "t/{number}") {
-        Ok(text) => came_instead(alloc, store, Put(text.as_str(), QoS::AtMostOnce, "x")),
-        Err(_) => Some(Came::Nothing),
-    }
+// Keeps a publication of the topic of a number.
+fn put_numbered(
+    alloc: Global,
+    store: &mut RetainedStore,
+    number: u32,
+) -> Option<Result<(), RetainedError>> {
+    let text = format!(in alloc; "t/{number}").ok()?;
+    put(alloc, store, text.as_str(), QoS::AtMostOnce, "x")
 }
 
 // Keeps a publication of each of as many topics as a store may have. Returns the number of the
 // first topic that is not kept, and what came.
 fn first_fault_of_filling(alloc: Global, store: &mut RetainedStore) -> Option<(u32, Came)> {
     for number in 0..16_384u32 {
-        if let Some(came) = came_of_topic(alloc, store, number) {
-            return Some((number, came));
+        let answer = put_numbered(alloc, store, number);
+        if answer != Some(Ok(())) {
+            return Some((number, (answer, store.len())));
+        }
+    }
+    None
+}
+
+// What is put into a full store: the topic, the payload, the answer, and how many topics are kept
+// then. Another topic is refused until one is removed.
+const AT_THE_LIMIT: &[(&str, &str, Result<(), RetainedError>, usize)] = &[
+    ("new", "x", Err(RetainedError::RetainedFull), 16_384),
+    ("new", "", Ok(()), 16_384),
+    ("t/7", "y", Ok(()), 16_384),
+    ("t/7", "", Ok(()), 16_383),
+    ("new", "x", Ok(()), 16_384),
+];
+
+// Returns the first of these that is answered otherwise, and what came.
+fn first_fault_at_the_limit(
+    alloc: Global,
+    store: &mut RetainedStore,
+) -> Option<(&'static str, Came)> {
+    for (topic, payload, wanted, kept) in AT_THE_LIMIT {
+        let answer = put(alloc, store, topic, QoS::AtMostOnce, payload);
+        if answer != Some(*wanted) || store.len() != *kept {
+            return Some((*topic, (answer, store.len())));
         }
     }
     None
 }
 
 #[test]
-fn the_last_publication_of_a_topic_is_found(rt: HostRuntime) {
-    let mut store = RetainedStore::new(rt.alloc());
-    assert_eq!(rt; first_fault(rt.alloc(), &mut store, ROWS), None);
-}
-
-#[test]
 fn a_store_keeps_16384_topics(rt: HostRuntime) {
     let mut store = RetainedStore::new(rt.alloc());
+    assert!(rt; store.is_empty());
     assert_eq!(rt; first_fault_of_filling(rt.alloc(), &mut store), None);
-    assert_eq!(rt; first_fault(rt.alloc(), &mut store, AT_THE_LIMIT), None);
+    assert_eq!(rt; (store.len(), store.is_empty()), (16_384, false));
+    assert_eq!(rt; first_fault_at_the_limit(rt.alloc(), &mut store), None);
 }
 
 // Why nothing is kept, with the numbers of docs/MANUAL.md.

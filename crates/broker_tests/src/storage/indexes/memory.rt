@@ -2,7 +2,7 @@
 // the gate none fails. A call that runs out of memory leaves the index, and the rows, as they were,
 // and does its work when it is made again.
 
-use crate::storage::indexes::calls::{Grant, are_wanted};
+use crate::storage::indexes::grants::{Grant, are_wanted};
 use packet_base::QoS::{AtLeastOnce, AtMostOnce, ExactlyOnce};
 use packet_base::{ClientId, QoS};
 use std::alloc::Global;

@@ -1,6 +1,6 @@
 // A long list of calls by a fixed rule, of both indexes.
 
-use crate::storage::indexes::calls::{Shown, shown};
+use crate::storage::indexes::grants::{Shown, shown};
 use packet_base::{ClientId, QoS};
 use random_numbers::Numbers;
 use std::alloc::Global;

@@ -3,7 +3,7 @@
 // were, and does its work when it is made again.
 
 use crate::storage::indexes::memory::filter_of;
-use crate::storage::retaining::row::put;
+use crate::storage::retaining::put;
 use packet_base::QoS;
 use retained::{RetainedError, RetainedStore};
 use std::alloc::Global;

@@ -1,0 +1,4 @@
+pub mod Words
+pub mod IndexAnswers
+pub mod StoreAnswers
+pub mod KindAnswers

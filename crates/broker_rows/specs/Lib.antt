@@ -1,0 +1,5 @@
+pub mod AnswerFields
+pub mod Values
+pub mod IndexSteps
+pub mod StoreSteps
+pub mod Kinds

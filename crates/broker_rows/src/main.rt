@@ -1,0 +1,32 @@
+//! Plays rows of a broker and of what it stores: files of data/, which another broker could be
+//! played with too.
+#![tactic(auto)]
+
+mod answers;
+mod index_steps;
+mod kinds;
+mod store_steps;
+mod values;
+
+use crate::kinds::Kinds;
+use anyhow::{Context, Result, bail};
+use rows::play_file;
+
+// The files whose rows have to agree.
+const FILES: &[&str] = &["index.rows", "store.rows"];
+
+// The file whose rows have to differ.
+const TURNED: &str = "must_differ.rows";
+
+// Plays all files, and fails if a row of one is wrong.
+fn main(rt: HostRuntime) -> Result<()> {
+    let mut are_right = true;
+    for file in FILES {
+        are_right &= play_file(&rt, &Kinds, file, false).context(format_args!("reading {file}"))?;
+    }
+    are_right &= play_file(&rt, &Kinds, TURNED, true).context(format_args!("reading {TURNED}"))?;
+    if !are_right {
+        bail!("a row is wrong");
+    }
+    Ok(())
+}
