@@ -149,8 +149,8 @@ fn first_bytes(whole: &[u8; 32]) -> Tag
     tag
 }
 
-// Returns true if two tags are equal. Each byte is looked at, so that the time says nothing of where
-// they differ.
+// Returns true if two tags are equal. Each byte is looked at, so that the time says nothing of
+// where they differ.
 fn are_equal(first: &Tag, second: &Tag) -> bool
     ensures { (result ≡ true) ↔ (first.now ≡ second.now) }
 {
