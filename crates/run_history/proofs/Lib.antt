@@ -1,0 +1,9 @@
+pub mod Prefixes
+pub mod Openings
+pub mod LongerLogs
+pub mod StepsOfEvents
+pub mod MayLater
+pub mod Adding
+pub mod Knowing
+pub mod Sent
+pub mod Settling

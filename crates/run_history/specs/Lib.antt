@@ -1,0 +1,6 @@
+pub mod Log
+pub mod Sending
+pub mod History
+pub mod Rules
+pub mod Parties
+pub mod Ends

@@ -1,0 +1,143 @@
+-- The rule of the log, and what may be added to it.
+use Rattle.std.specs.Prelude.{◌≡◌, ℕ, ◌==◌, ◌+◌, ◌<◌, ◌≤◌, true, List, [], ◌∷◌, ◌++◌, length, drop, MatchBool, None}
+use mathlib.Core.List.{IsPrefix}
+use Rattle.logbook.specs.Pages.{Cell, cell, Step, View, Book, Named}
+use Rattle.lists.specs.Lists.{In}
+use Rattle.ballot_base.specs.StepOutcome.{master}
+use Rattle.ballot_base.specs.declared.config.Config.{Config}
+use Rattle.ballot_base.specs.declared.message.Body.TheVariants.{Activate}
+use Rattle.ballot_base.specs.declared.message.Effect.{Effect}
+use Rattle.ballot_base.specs.declared.message.Message.{Message}
+use Rattle.broker_spec.specs.declared.command.Command.{Command}
+use Rattle.broker_spec.specs.declared.command.Output.{Output}
+use Rattle.agreement.specs.MasterState.{MasterState, refusal}
+use Rattle.agreement.specs.cut_logs.Masters.{MasterOutcome, activated, assigned}
+use Rattle.world_base.specs.node_core.Core.{CoreState}
+use Rattle.world_base.specs.node_core.LossyStep.{RunsOn}
+use Rattle.world_base.specs.node_core.PortOutput.{hands_over}
+use Rattle.run_history.specs.declared.event.MasterAct.{MasterAct}
+use Rattle.run_history.specs.declared.event.MasterAct.TheVariants.{Assigns, Answers}
+use Rattle.run_history.specs.declared.event.MasterEvent.{MasterEvent}
+use Rattle.run_history.specs.declared.event.NodeAct.{NodeAct}
+use Rattle.run_history.specs.declared.event.NodeAct.TheVariants.{Takes, HandsOver}
+use Rattle.run_history.specs.declared.event.NodeEvent.{NodeEvent}
+use Rattle.run_history.specs.declared.event.RunEvent.{RunEvent}
+use Rattle.run_history.specs.declared.event.RunEvent.TheVariants.{ByNode, ByMaster}
+use Rattle.run_history.specs.declared.told.Told.{Told}
+use Rattle.run_history.specs.declared.told.Told.TheVariants as told
+use Rattle.run_history.specs.History.{IsHistory, IsMasterOf, IsNodeOf}
+use Rattle.run_history.specs.Log.{events_by, opening_event, party_of, sent_in}
+use Rattle.run_history.specs.Sending.{ItemWasSent}
+
+-- ---- the rule
+
+-- the master and each node has a word, which counts its events, and the log is that of a run
+pub record IsKept (cells : List Cell) (log : List RunEvent) : Type 0 where
+  pub nodes : ℕ
+  pub config : Config
+  pub words : length cells ≡ nodes + 1
+  pub counts : (party : ℕ) → party < length cells → cell cells party ≡ (events_by party log, true)
+  pub history : IsHistory nodes config log
+
+-- the word of a party
+abbrev pub word_of : Book → ℕ → Named
+word_of book party = record { tracked = true; key = party; book = book }
+
+-- ---- what may be added
+
+-- a node may do this act, be so after it, and give this: it steps on an item, perhaps with losses,
+-- which was sent to it; or it hands over the output of a port
+abbrev pub NodeMayDo : List (ℕ × Message Command) → ℕ → CoreState → CoreState →
+    List (Effect Command Output) → NodeAct → Type 0
+NodeMayDo sent node core after given (Takes item) =
+    ItemWasSent sent node item × RunsOn item core after given
+NodeMayDo sent node core after given (HandsOver port) =
+    (after ≡ hands_over port core) × (given ≡ [])
+
+-- the event has this outcome of the master's step
+pub record IsOutcome (event : MasterEvent) (outcome : MasterOutcome Command) : Type 0 where
+  pub after : event.after ≡ outcome.state
+  pub receiver : event.receiver ≡ outcome.receiver
+  pub message : event.message ≡ record { from = master; body = outcome.body }
+
+-- the master may do this act: it assigns a ballot to a configuration that it does not refuse; or
+-- it answers an Activate that was sent to it
+abbrev pub MasterMayDo : List (ℕ × Message Command) → MasterState → MasterEvent → MasterAct → Type 0
+MasterMayDo sent state event (Assigns config) =
+    (refusal state config ≡ None) × IsOutcome event (assigned Command state config)
+MasterMayDo sent state event (Answers from ballot) =
+    In (master, record { from = from; body = Activate ballot }) sent
+    × IsOutcome event (activated Command state ballot from state.waiting)
+
+-- A party may add this event. By a prefix of what was seen it has a state from which the event
+-- goes, after this many events of its own; what the event takes was sent by what was seen.
+pub data MayAdd (nodes : ℕ) (config : Config) (seen : List RunEvent) (count : ℕ) :
+    RunEvent → Type 0 where
+  -- a node adds it
+  node_may : (event : NodeEvent) (own : List RunEvent) (core : CoreState) → IsPrefix own seen →
+      IsNodeOf nodes config own event.node core count → event.node < nodes →
+      NodeMayDo (sent_in seen) event.node core event.after.core event.given event.act →
+      MayAdd nodes config seen count (ByNode event)
+  -- the master adds it
+  master_may : (event : MasterEvent) (own : List RunEvent) (state : MasterState) →
+      IsPrefix own seen → IsMasterOf config own state count →
+      MasterMayDo (sent_in seen) state event event.act →
+      MayAdd nodes config seen count (ByMaster event)
+
+-- ---- what steps of words tell
+
+-- the whole log was seen, in which the word's party has this many events
+abbrev pub Looks : Step RunEvent → View RunEvent ℕ → ℕ → View RunEvent ℕ → Type 0
+Looks step before found after =
+    ((cells : List Cell) × IsKept cells after.0) × (events_by step.key after.0 ≡ found)
+
+-- the event was added at the end of the whole log, which had this many events of its party
+pub record Added (seen : List RunEvent) (count : ℕ) (event : RunEvent)
+    (log : List RunEvent) : Type 0 where
+  pub before : List RunEvent
+  pub begins : IsPrefix seen before
+  pub counted : events_by (party_of event) before ≡ count
+  pub now : log ≡ before ++ event ∷ []
+
+-- the event was added if the number found is the one that was thought
+abbrev pub Adds : Step RunEvent → View RunEvent ℕ → ℕ → View RunEvent ℕ → Type 0
+Adds step before found after =
+    ((cells : List Cell) × IsKept cells after.0)
+    × MatchBool (found == step.old) (Added before.0 step.old step.ask after.0) (Unit {0})
+
+-- ---- what is told
+
+-- an event that is never added
+abbrev pub no_event : RunEvent
+no_event = opening_event 0 (record { members = []; primary = 0 })
+
+-- the event that was told
+abbrev pub event_of : Told → RunEvent
+event_of (told.Taken taken) =
+    ByNode (record {
+      node = taken.node;
+      act = Takes taken.item.value;
+      after = taken.after.value;
+      given = drop taken.before taken.effects.value.items;
+    })
+event_of (told.HandedOver handed) =
+    ByNode (record {
+      node = handed.node;
+      act = HandsOver handed.port;
+      after = handed.after.value;
+      given = [];
+    })
+event_of (told.Assigned assigned) =
+    ByMaster (record {
+      act = Assigns assigned.config.value;
+      after = assigned.after.value;
+      receiver = assigned.receiver;
+      message = assigned.message.value;
+    })
+event_of (told.Answered answered) =
+    ByMaster (record {
+      act = Answers answered.from answered.ballot;
+      after = answered.after.value;
+      receiver = answered.from;
+      message = answered.message.value;
+    })

@@ -1,0 +1,60 @@
+// How a run ends.
+//
+// All that the parties know is learned into one mark, and then each party looks at its word once.
+// By the mark a party has at least the events that it counted; by the word, which is read later,
+// it has no more. So the mark is one log by which every party is as it is.
+
+ghost use Rattle.std.specs.Prelude.{◌≡◌, length};
+ghost use mathlib.Core.List.{IsPrefix};
+ghost use Rattle.run_history.specs.Ends.{AllEnded, AllKnown, IsEnd, IsEnded};
+
+use crate::naming::RunNaming;
+use crate::node_on_record::NodeOnRecord;
+use crate::seen_run::SeenRun;
+use crate::waiting::wait_unless_equal;
+use std::sync::Wait;
+
+/// Returns a log by which all nodes have the states that they have, when no call of theirs runs
+/// any more; `seen` is any prefix of it. The nodes are all those of the run, in order. Waits for
+/// ever if a node has further events, or is not at its index.
+pub fn settle_all<H: RunNaming, R: Wait>(
+    rt: &R,
+    seen: &SeenRun<H>,
+    nodes: &[NodeOnRecord<H>],
+) -> SeenRun<H>
+    requires { length nodes.now ≡ H.nodes }
+    ensures seen { IsPrefix seen.now result }
+    ensures end { IsEnd H.nodes H.config result nodes.now }
+{
+    let mut mark = seen.again();
+    learn_all(&mut mark, nodes);
+    settle_each(rt, &mark, nodes);
+    mark.is_history();
+    mark
+}
+
+fn learn_all<H: RunNaming>(mark: &mut SeenRun<H>, nodes: &[NodeOnRecord<H>])
+    ensures begins { IsPrefix mark.old mark.new }
+    ensures known { AllKnown mark.new nodes.now (length nodes.now) }
+{
+    for node in nodes {
+        mark.learn(&node.seen());
+    }
+}
+
+fn settle_each<H: RunNaming, R: Wait>(rt: &R, mark: &SeenRun<H>, nodes: &[NodeOnRecord<H>])
+    requires { AllKnown mark.now nodes.now (length nodes.now) }
+    ensures { AllEnded H.nodes H.config mark.now nodes.now (length nodes.now) }
+{
+    for index in 0..nodes.len() {
+        settle_at(rt, mark, &nodes[index], index as u64);
+    }
+}
+
+fn settle_at<H: RunNaming, R: Wait>(rt: &R, mark: &SeenRun<H>, node: &NodeOnRecord<H>, index: u64)
+    requires { IsPrefix node.now.log mark.now }
+    ensures { IsEnded H.nodes H.config mark.now index node.now }
+{
+    wait_unless_equal(rt, u64::from(node.index()), index);
+    node.settle(rt, mark);
+}

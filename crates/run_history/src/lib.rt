@@ -1,0 +1,28 @@
+//! One history for all nodes of a program and their master: a log of events, kept in proofs alone,
+//! which is a run of the model of groups. Nodes are steps ahead of one another in threads; each
+//! adds its events to the log by one exchange on a word of its own.
+#![tactic(auto)]
+
+mod ending;
+mod event;
+mod naming;
+mod node_on_record;
+mod opened_run;
+mod rule;
+mod seen_run;
+mod sent_effects;
+mod sent_item;
+mod sent_message;
+mod told;
+mod waiting;
+
+pub use ending::settle_all;
+pub use event::{MasterAct, MasterEvent, NodeAct, NodeEvent, OpenedGroup, RunEvent};
+pub use naming::RunNaming;
+pub use node_on_record::{NodeOnRecord, take_sent};
+pub use opened_run::{NodeMaker, OpenedRun};
+pub use rule::RunRule;
+pub use seen_run::SeenRun;
+pub use sent_effects::SentEffects;
+pub use sent_item::SentItem;
+pub use sent_message::SentMessage;
