@@ -1,25 +1,20 @@
 -- The exchange that adds an event keeps the rule.
-use Rattle.std.proofs.Common.{◌≡◌, ℕ, zero, suc, ◌+◌, ◌<◌, ◌≤◌, ◌==◌, Bool, true, false, if◌then◌else◌, List, [], ◌∷◌, ◌++◌, length, set, get_or, replicate, Some, None, refl, ap, sym, ◌∙◌, subst, arith, inl}
+use Rattle.std.proofs.Common.{◌≡◌, ℕ, ◌+◌, ◌<◌, ◌≤◌, ◌==◌, Bool, true, false, List, [], ◌∷◌, ◌++◌, length, set, replicate, None, refl, ap, sym, ◌∙◌, subst, arith, inl}
 use Rattle.std.specs.Prelude.{MatchBool}
 use Rattle.std.proofs.lemmas.List.{append-nil, length-set, get_or-set_same, get_or-set_other, get_or-replicate, length-replicate}
 use Rattle.std.proofs.lemmas.Bool.Decides.{nat_tests}
 use mathlib.Core.List.{IsPrefix}
 use prog.Atomic.{either}
-use Rattle.logbook.specs.Pages.{Cell, Nib, cell, keeps, no_nib, step, Moves, Goes}
-use Rattle.ballot_base.specs.StepOutcome.{master}
+use Rattle.logbook.specs.Pages.{Cell, Nib, cell, keeps, no_nib, step, Moves}
 use Rattle.ballot_base.specs.declared.config.Config.{Config}
 use Rattle.agreement.specs.World.{can_open}
-use Rattle.agreement.specs.MasterState.{MasterState}
-use Rattle.world_base.specs.node_core.Core.{CoreState}
-use Rattle.run_history.specs.declared.event.MasterEvent.{MasterEvent}
-use Rattle.run_history.specs.declared.event.NodeEvent.{NodeEvent}
 use Rattle.run_history.specs.declared.event.RunEvent.{RunEvent}
-use Rattle.run_history.specs.declared.event.RunEvent.TheVariants.{Opens, ByNode, ByMaster}
-use Rattle.run_history.specs.History.{IsHistory, IsMasterOf, IsNodeOf}
-use Rattle.run_history.specs.Log.{events_by, is_by, opening_log, party_of, sent_in}
-use Rattle.run_history.specs.Rules.{Added, Adds, IsKept, Looks, MayAdd, no_event}
+use Rattle.run_history.specs.History.{IsHistory}
+use Rattle.run_history.specs.Log.{events_by, is_by, opening_log, party_of}
+use Rattle.run_history.specs.Rules.{Added, Adds, IsKept, Looks, MayAdd}
 use Rattle.run_history.specs.Rules.MayAdd.{node_may, master_may}
-use Rattle.run_history.proofs.LongerLogs.{events_append, in_later, item_sent_later, master_stays, stays}
+use Rattle.run_history.specs.ToldEvents.{no_event}
+use Rattle.run_history.proofs.LongerLogs.{events_append, master_stays, stays}
 use Rattle.run_history.proofs.Openings.{begins, opening_history, same_config, same_nodes}
 use Rattle.run_history.proofs.Prefixes.{prefix_trans}
 use Rattle.run_history.proofs.StepsOfEvents.{node_goes_on, master_goes_on}

@@ -1,5 +1,5 @@
 -- What further events change of what a log says.
-use Rattle.std.proofs.Common.{◌≡◌, ℕ, zero, suc, ◌+◌, ◌<◌, ◌≤◌, ◌==◌, Bool, true, false, if◌then◌else◌, List, [], ◌∷◌, ◌++◌, length, set, Some, refl, ap, sym, ◌∙◌, subst, arith, append_assoc, length-append}
+use Rattle.std.proofs.Common.{◌≡◌, ℕ, ◌+◌, ◌≤◌, ◌==◌, Bool, true, false, if◌then◌else◌, List, [], ◌∷◌, ◌++◌, refl, ap, sym, ◌∙◌, subst, arith, append_assoc}
 use Rattle.std.specs.Prelude.{slice_get, slice_set}
 use Rattle.std.proofs.lemmas.List.{append-nil}
 use Rattle.std.proofs.lemmas.Bool.Decides.{nat_tests}
@@ -21,7 +21,7 @@ use Rattle.run_history.specs.declared.event.NodeEvent.{NodeEvent}
 use Rattle.run_history.specs.declared.event.RunEvent.{RunEvent}
 use Rattle.run_history.specs.declared.event.RunEvent.TheVariants.{Opens, ByNode, ByMaster}
 use Rattle.run_history.specs.History.{IsMasterOf, IsNodeOf}
-use Rattle.run_history.specs.Log.{events_by, is_by, master_in, nodes_after, nodes_in, sent_by, sent_in, state_after}
+use Rattle.run_history.specs.Log.{events_by, master_in, nodes_after, nodes_in, sent_by, sent_in, state_after}
 use Rattle.run_history.specs.Sending.{ItemWasSent}
 
 -- ---- a log with more at its end

@@ -1,5 +1,5 @@
 -- What a party may do by what was seen, it may do by each longer log.
-use Rattle.std.proofs.Common.{◌≡◌, ℕ, List}
+use Rattle.std.proofs.Common.{ℕ, List}
 use mathlib.Core.List.{IsPrefix}
 use Rattle.ballot_base.specs.StepOutcome.{master}
 use Rattle.ballot_base.specs.declared.message.Body.TheVariants.{Activate}

@@ -1,5 +1,5 @@
 -- Prefixes of lists, as the toolchain's logs have them.
-use Rattle.std.proofs.Common.{◌≡◌, List, ◌++◌, [], refl, ap, sym, ◌∙◌, append_assoc}
+use Rattle.std.proofs.Common.{List, ◌++◌, [], refl, ap, sym, ◌∙◌, append_assoc}
 use Rattle.std.proofs.lemmas.List.{append-nil}
 use mathlib.Core.List.{IsPrefix}
 

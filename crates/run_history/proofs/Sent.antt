@@ -1,6 +1,6 @@
 -- The effects of an event were sent.
-use Rattle.std.proofs.Common.{◌≡◌, ℕ, ◌+◌, List, [], ◌∷◌, ◌++◌, refl, ap, sym, ◌∙◌, subst}
-use Rattle.lists.specs.Lists.{Each, In}
+use Rattle.std.proofs.Common.{ℕ, List, [], ◌∷◌, sym, subst}
+use Rattle.lists.specs.Lists.{In}
 use Rattle.lists.specs.Lists.In.{here, there}
 use Rattle.lists.proofs.Members.{in_right}
 use Rattle.ballot_base.specs.declared.message.Effect.{Effect}
@@ -16,7 +16,7 @@ use Rattle.run_history.specs.declared.event.RunEvent.{RunEvent}
 use Rattle.run_history.specs.declared.event.RunEvent.TheVariants.{ByNode}
 use Rattle.run_history.specs.Log.{sent_in}
 use Rattle.run_history.specs.Parties.{DidAct, NodeView, TookItem}
-use Rattle.run_history.specs.Sending.{AllSent, EffectWasSent}
+use Rattle.run_history.specs.Sending.{AllSent}
 use Rattle.run_history.proofs.LongerLogs.{sent_more}
 
 -- messages of some effects are among more messages

@@ -1,5 +1,5 @@
 -- One log by which every party is as it is.
-use Rattle.std.proofs.Common.{◌≡◌, ℕ, zero, suc, ◌+◌, ◌<◌, ◌≤◌, ◌==◌, Bool, true, false, List, [], ◌∷◌, ◌++◌, length, map, set, get_or, Some, None, refl, ap, sym, ◌∙◌, subst, arith}
+use Rattle.std.proofs.Common.{◌≡◌, ℕ, zero, suc, ◌+◌, ◌<◌, ◌==◌, Bool, true, false, List, [], ◌∷◌, length, map, get_or, Some, refl, sym, ◌∙◌, subst, arith}
 use Rattle.std.specs.Prelude.{slice_get, slice_set}
 use Rattle.std.proofs.lemmas.List.{length-set}
 use Rattle.std.proofs.lemmas.Option.{slice_get_read, slice_get_within}
@@ -10,7 +10,7 @@ use Rattle.headline.specs.node_group.Group.{opening_cores}
 use Rattle.world_base.specs.node_core.Core.{CoreState, CountedCore}
 use Rattle.run_history.specs.declared.event.RunEvent.{RunEvent}
 use Rattle.run_history.specs.declared.event.RunEvent.TheVariants.{Opens, ByNode, ByMaster}
-use Rattle.run_history.specs.Ends.{AllEnded, IsEnd, IsSettled, cores_of}
+use Rattle.run_history.specs.Ends.{AllEnded, IsEnd, IsSettled}
 use Rattle.run_history.specs.History.{IsHistory, IsNodeOf}
 use Rattle.run_history.specs.Log.{events_by, nodes_after, nodes_in}
 use Rattle.run_history.specs.Parties.{NodeView}

@@ -1,23 +1,19 @@
 -- An event that may be added is a step of the model, so the log with it is that of a run.
-use Rattle.std.proofs.Common.{◌≡◌, ℕ, ◌+◌, true, List, [], ◌∷◌, ◌++◌, Some, None, refl, ap, sym, ◌∙◌, subst}
+use Rattle.std.proofs.Common.{◌≡◌, ℕ, List, [], ◌∷◌, ◌++◌, Some, refl, ap, sym, ◌∙◌, subst}
 use Rattle.std.specs.Prelude.{Option, slice_get, slice_set}
-use mathlib.Core.List.{IsPrefix}
-use Rattle.lists.specs.Lists.{In}
 use Rattle.ballot_base.proofs.ThinnedEffects.{Thinned-same}
 use Rattle.ballot_base.specs.StepOutcome.{master}
 use Rattle.ballot_base.specs.declared.config.Config.{Config}
-use Rattle.ballot_base.specs.declared.message.Body.TheVariants.{Activate}
 use Rattle.ballot_base.specs.declared.message.Effect.{Effect}
 use Rattle.ballot_base.specs.declared.message.Message.{Message}
 use Rattle.broker_spec.specs.declared.command.Command.{Command}
 use Rattle.broker_spec.specs.declared.command.Output.{Output}
-use Rattle.agreement.specs.MasterState.{AssignRefusal, MasterState, master_after, opening_master, refusal}
+use Rattle.agreement.specs.MasterState.{AssignRefusal, MasterState, master_after, opening_master}
 use Rattle.agreement.specs.cut_logs.Masters.{MasterOutcome, activated, assigned}
 use Rattle.agreement.specs.cut_logs.World.{messages}
 use Rattle.world_base.specs.declared.node_core.item.Item.{Item}
 use Rattle.world_base.specs.declared.node_core.item.Item.TheVariants.{Peer, Tick, Opened, Bytes, Ended, Expel, Cut, Crash}
 use Rattle.world_base.specs.node_core.Core.{CoreState, StepOutcome}
-use Rattle.world_base.specs.node_core.LossyStep.{RunsOn}
 use Rattle.headline.proofs.of_node_moves.LossesAreMoves.{losses_are_moves}
 use Rattle.headline.specs.node_moves.ItemRuns.{IsRunOn, heard_with}
 use Rattle.headline.specs.node_moves.Moves.{MoveTrace, done}
@@ -28,7 +24,7 @@ use Rattle.headline.specs.node_group.Group.{Group, opening_cores}
 use Rattle.headline.specs.node_group.Losses.{WereSent}
 use Rattle.headline.specs.node_group.Steps.{GroupStep, GroupTrace, after_assign}
 use Rattle.headline.specs.node_group.Steps.GroupStep.{node_acts, node_loses, master_assigns, master_hears}
-use Rattle.headline.specs.node_group.Steps.GroupTrace.{opened, then_went}
+use Rattle.headline.specs.node_group.Steps.GroupTrace.{then_went}
 use Rattle.run_history.specs.declared.event.MasterAct.{MasterAct}
 use Rattle.run_history.specs.declared.event.MasterAct.TheVariants.{Assigns, Answers}
 use Rattle.run_history.specs.declared.event.MasterEvent.{MasterEvent}
@@ -37,9 +33,9 @@ use Rattle.run_history.specs.declared.event.NodeAct.TheVariants.{Takes, HandsOve
 use Rattle.run_history.specs.declared.event.NodeEvent.{NodeEvent}
 use Rattle.run_history.specs.declared.event.RunEvent.{RunEvent}
 use Rattle.run_history.specs.declared.event.RunEvent.TheVariants.{ByNode, ByMaster}
-use Rattle.run_history.specs.History.{IsHistory, IsLogOf, IsMasterStep, IsNodeStep, IsReached, IsStep}
+use Rattle.run_history.specs.History.{IsHistory, IsLogOf, IsMasterStep, IsNodeStep, IsReached}
 use Rattle.run_history.specs.History.IsLogOf.{opens, goes_on}
-use Rattle.run_history.specs.Log.{master_in, nodes_in, opening_log, sent_by, sent_in}
+use Rattle.run_history.specs.Log.{master_in, nodes_in, sent_in}
 use Rattle.run_history.specs.Rules.{IsOutcome, MasterMayDo, NodeMayDo}
 use Rattle.run_history.specs.Sending.{ItemWasSent}
 use Rattle.run_history.proofs.LongerLogs.{nodes_append, sent_more, state_append}

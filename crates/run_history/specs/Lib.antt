@@ -2,5 +2,6 @@ pub mod Log
 pub mod Sending
 pub mod History
 pub mod Rules
+pub mod ToldEvents
 pub mod Parties
 pub mod Ends

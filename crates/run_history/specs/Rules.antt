@@ -1,5 +1,5 @@
 -- The rule of the log, and what may be added to it.
-use Rattle.std.specs.Prelude.{◌≡◌, ℕ, ◌==◌, ◌+◌, ◌<◌, ◌≤◌, true, List, [], ◌∷◌, ◌++◌, length, drop, MatchBool, None}
+use Rattle.std.specs.Prelude.{◌≡◌, ℕ, ◌==◌, ◌+◌, ◌<◌, true, List, [], ◌∷◌, ◌++◌, length, MatchBool, None}
 use mathlib.Core.List.{IsPrefix}
 use Rattle.logbook.specs.Pages.{Cell, cell, Step, View, Book, Named}
 use Rattle.lists.specs.Lists.{In}
@@ -23,10 +23,8 @@ use Rattle.run_history.specs.declared.event.NodeAct.TheVariants.{Takes, HandsOve
 use Rattle.run_history.specs.declared.event.NodeEvent.{NodeEvent}
 use Rattle.run_history.specs.declared.event.RunEvent.{RunEvent}
 use Rattle.run_history.specs.declared.event.RunEvent.TheVariants.{ByNode, ByMaster}
-use Rattle.run_history.specs.declared.told.Told.{Told}
-use Rattle.run_history.specs.declared.told.Told.TheVariants as told
 use Rattle.run_history.specs.History.{IsHistory, IsMasterOf, IsNodeOf}
-use Rattle.run_history.specs.Log.{events_by, opening_event, party_of, sent_in}
+use Rattle.run_history.specs.Log.{events_by, party_of, sent_in}
 use Rattle.run_history.specs.Sending.{ItemWasSent}
 
 -- ---- the rule
@@ -104,40 +102,3 @@ abbrev pub Adds : Step RunEvent → View RunEvent ℕ → ℕ → View RunEvent 
 Adds step before found after =
     ((cells : List Cell) × IsKept cells after.0)
     × MatchBool (found == step.old) (Added before.0 step.old step.ask after.0) (Unit {0})
-
--- ---- what is told
-
--- an event that is never added
-abbrev pub no_event : RunEvent
-no_event = opening_event 0 (record { members = []; primary = 0 })
-
--- the event that was told
-abbrev pub event_of : Told → RunEvent
-event_of (told.Taken taken) =
-    ByNode (record {
-      node = taken.node;
-      act = Takes taken.item.value;
-      after = taken.after.value;
-      given = drop taken.before taken.effects.value.items;
-    })
-event_of (told.HandedOver handed) =
-    ByNode (record {
-      node = handed.node;
-      act = HandsOver handed.port;
-      after = handed.after.value;
-      given = [];
-    })
-event_of (told.Assigned assigned) =
-    ByMaster (record {
-      act = Assigns assigned.config.value;
-      after = assigned.after.value;
-      receiver = assigned.receiver;
-      message = assigned.message.value;
-    })
-event_of (told.Answered answered) =
-    ByMaster (record {
-      act = Answers answered.from answered.ballot;
-      after = answered.after.value;
-      receiver = answered.from;
-      message = answered.message.value;
-    })

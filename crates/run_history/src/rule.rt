@@ -55,7 +55,7 @@ impl Play<RunEvent, u64> for Look {
 /// A look asks nothing.
 impl Plain<(), RunEvent, u64> for Look {
     ghost use Rattle.std.specs.Prelude.{None};
-    ghost use Rattle.run_history.specs.Rules.{no_event};
+    ghost use Rattle.run_history.specs.ToldEvents.{no_event};
 
     ghost ask = { λ nothing. no_event };
 
@@ -73,7 +73,7 @@ impl Play<RunEvent, u64> for Add {
 
 impl Plain<Told, RunEvent, u64> for Add {
     ghost use Rattle.std.specs.Prelude.{None};
-    ghost use Rattle.run_history.specs.Rules.{event_of};
+    ghost use Rattle.run_history.specs.ToldEvents.{event_of};
 
     ghost ask = { λ told. event_of told };
 

@@ -7,7 +7,8 @@ ghost use Rattle.std.specs.Prelude.{◌≡◌, ◌+◌, ◌^◌, ◌<◌, ◌≤
 ghost use mathlib.Core.List.{IsPrefix};
 ghost use Rattle.run_history.specs.History.{IsHistory};
 ghost use Rattle.run_history.specs.Log.{events_by, party_of};
-ghost use Rattle.run_history.specs.Rules.{Added, MayAdd, event_of, word_of};
+ghost use Rattle.run_history.specs.Rules.{Added, MayAdd, word_of};
+ghost use Rattle.run_history.specs.ToldEvents.{event_of};
 
 use crate::event::RunEvent;
 use crate::naming::RunNaming;

@@ -1,4 +1,3 @@
-use Rattle.std.specs.Prelude.{◌≡◌, ℕ, ◌<◌, Some, slice_get}
 use mathlib.Core.List.{IsPrefix}
 use Rattle.run_history.specs.Ends.{AllKnown}
 use Rattle.run_history.proofs.ending.learn_all.Given as goal

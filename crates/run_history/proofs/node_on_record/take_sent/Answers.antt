@@ -3,11 +3,9 @@ use Rattle.ballot_base.specs.declared.message.Effect.{Effect}
 use Rattle.broker_spec.specs.declared.command.Command.{Command}
 use Rattle.broker_spec.specs.declared.command.Output.{Output}
 use Rattle.world_base.specs.declared.node_core.item.Item.{Item}
-use Rattle.run_history.specs.declared.event.RunEvent.{RunEvent}
-use Rattle.run_history.specs.declared.event.NodeAct.TheVariants.{Takes}
 use Rattle.run_history.specs.Log.{sent_in}
 use Rattle.run_history.specs.Parties.{TookItem}
-use Rattle.run_history.specs.Sending.{AllSent, ItemWasSent}
+use Rattle.run_history.specs.Sending.{ItemWasSent}
 use Rattle.run_history.proofs.Sent.{took_sent}
 use Rattle.run_history.proofs.node_on_record.take_sent.Goals as goal
 

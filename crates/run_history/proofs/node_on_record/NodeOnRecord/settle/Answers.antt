@@ -2,7 +2,6 @@ use Rattle.std.proofs.Common.{◌≡◌, ◌+◌, List, ap, sym, ◌∙◌, subs
 use mathlib.Core.List.{IsPrefix}
 use Rattle.logbook.specs.Pages.{Named}
 use Rattle.run_history.specs.declared.event.RunEvent.{RunEvent}
-use Rattle.run_history.specs.Ends.{IsSettled}
 use Rattle.run_history.specs.Log.{events_by}
 use Rattle.run_history.specs.Parties.{NodeView}
 use Rattle.run_history.proofs.Settling.{settled}

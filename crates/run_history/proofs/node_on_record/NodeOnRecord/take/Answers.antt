@@ -1,12 +1,10 @@
-use Rattle.std.proofs.Common.{◌≡◌, ◌+◌, List, length, ◌++◌, drop, refl, ap, sym, ◌∙◌, subst}
+use Rattle.std.proofs.Common.{◌≡◌, ◌+◌, length, ◌++◌, drop, refl, ap, sym, ◌∙◌, subst}
 use mathlib.Core.List.{IsPrefix}
 use Rattle.world_base.specs.declared.node_core.item.Item.{Item}
 use Rattle.world_base.specs.node_core.Core.{CountedCore}
 use Rattle.world_base.specs.node_core.LossyStep.{RunsOn}
 use Rattle.run_history.specs.declared.event.NodeAct.TheVariants.{Takes}
 use Rattle.run_history.specs.declared.event.NodeEvent.{NodeEvent}
-use Rattle.run_history.specs.declared.event.RunEvent.{RunEvent}
-use Rattle.run_history.specs.declared.event.RunEvent.TheVariants.{ByNode}
 use Rattle.run_history.specs.History.{IsNodeOf}
 use Rattle.run_history.specs.Log.{sent_in}
 use Rattle.run_history.specs.Parties.{NodeView}

@@ -1,4 +1,4 @@
-use Rattle.std.proofs.Common.{◌≡◌, ◌+◌, ap, ◌∙◌}
+use Rattle.std.proofs.Common.{◌+◌, ap}
 use Rattle.run_history.proofs.Adding.{opens}
 use Rattle.run_history.proofs.opened_run.OpenedRun.new.Goals as goal
 

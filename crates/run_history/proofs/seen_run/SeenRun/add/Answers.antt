@@ -1,5 +1,6 @@
-use Rattle.std.proofs.Common.{◌≡◌, ap, sym, ◌∙◌}
-use Rattle.run_history.specs.Rules.{MayAdd, event_of}
+use Rattle.std.proofs.Common.{ap, sym, ◌∙◌}
+use Rattle.run_history.specs.Rules.{MayAdd}
+use Rattle.run_history.specs.ToldEvents.{event_of}
 use Rattle.run_history.proofs.Adding.{add_moves, after_seven, first_kept, history_of}
 use Rattle.run_history.proofs.seen_run.SeenRun.add.Goals as goal
 

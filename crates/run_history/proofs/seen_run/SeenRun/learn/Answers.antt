@@ -1,4 +1,4 @@
-use Rattle.std.proofs.Common.{◌≡◌, ◌∙◌}
+use Rattle.std.proofs.Common.{◌∙◌}
 use Rattle.run_history.proofs.Adding.{history_of}
 use Rattle.run_history.proofs.seen_run.SeenRun.learn.Goals as goal
 

@@ -1,4 +1,4 @@
-use Rattle.std.proofs.Common.{◌≡◌, ap, sym, ◌∙◌}
+use Rattle.std.proofs.Common.{ap, sym, ◌∙◌}
 use Rattle.run_history.proofs.Adding.{after_nib, after_six, first_kept, history_of, look_moves}
 use Rattle.run_history.proofs.seen_run.SeenRun.look.Goals as goal
 
