@@ -7,3 +7,4 @@ pub mod Adding
 pub mod Knowing
 pub mod Sent
 pub mod Settling
+pub mod MasterEvents

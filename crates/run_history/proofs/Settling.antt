@@ -5,16 +5,18 @@ use Rattle.std.proofs.lemmas.List.{length-set}
 use Rattle.std.proofs.lemmas.Option.{slice_get_read, slice_get_within}
 use Rattle.std.proofs.lemmas.Bool.Decides.{nat_tests}
 use mathlib.Core.List.{IsPrefix}
+use Rattle.ballot_base.specs.StepOutcome.{master}
 use Rattle.ballot_base.specs.declared.config.Config.{Config}
+use Rattle.agreement.specs.MasterState.{MasterState}
 use Rattle.headline.specs.node_group.Group.{opening_cores}
 use Rattle.world_base.specs.node_core.Core.{CoreState, CountedCore}
 use Rattle.run_history.specs.declared.event.RunEvent.{RunEvent}
 use Rattle.run_history.specs.declared.event.RunEvent.TheVariants.{Opens, ByNode, ByMaster}
-use Rattle.run_history.specs.Ends.{AllEnded, IsEnd, IsSettled}
-use Rattle.run_history.specs.History.{IsHistory, IsNodeOf}
+use Rattle.run_history.specs.Ends.{AllEnded, IsEnd, IsMasterSettled, IsSettled}
+use Rattle.run_history.specs.History.{IsHistory, IsMasterOf, IsNodeOf}
 use Rattle.run_history.specs.Log.{events_by, nodes_after, nodes_in}
 use Rattle.run_history.specs.Parties.{NodeView}
-use Rattle.run_history.proofs.LongerLogs.{events_grow, stays}
+use Rattle.run_history.proofs.LongerLogs.{events_grow, master_stays, stays}
 use Rattle.run_history.proofs.Openings.{opening_length}
 
 -- a node by a mark that has all that it knows, if it has no more events later
@@ -25,6 +27,18 @@ settled nodes config own mark later index node count is p q same =
     let high = events_grow (index + 1) mark later q in
     let here : events_by (index + 1) mark ≡ count = omega (arith, low, high, same, is.counted) in
     let at = stays nodes config own mark index node.core count p is here in record {
+      state = at.has;
+      no_more = here ∙ sym is.counted;
+    }
+
+-- the master by a mark that has all that it knows, if it has no more events later
+pub master_settled : (config : Config) (own mark later : List RunEvent) (state : MasterState) (count : ℕ) → IsMasterOf config own state count → IsPrefix own mark → IsPrefix mark later
+    → events_by master later ≡ count → IsMasterSettled config mark (record { state = state; log = own })
+master_settled config own mark later state count is p q same =
+    let low = events_grow master own mark p in
+    let high = events_grow master mark later q in
+    let here : events_by master mark ≡ count = omega (arith, low, high, same, is.counted) in
+    let at = master_stays config own mark state count p is here in record {
       state = at.has;
       no_more = here ∙ sym is.counted;
     }

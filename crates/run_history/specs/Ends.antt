@@ -1,11 +1,13 @@
 -- How a run ends: one log by which every node has the state that it has.
 use Rattle.std.specs.Prelude.{◌≡◌, ℕ, ◌<◌, ◌+◌, List, map, slice_get, Some}
 use mathlib.Core.List.{IsPrefix}
+use Rattle.ballot_base.specs.StepOutcome.{master}
 use Rattle.ballot_base.specs.declared.config.Config.{Config}
 use Rattle.world_base.specs.node_core.Core.{CoreState}
 use Rattle.run_history.specs.declared.event.RunEvent.{RunEvent}
 use Rattle.run_history.specs.History.{IsHistory}
-use Rattle.run_history.specs.Log.{events_by, nodes_in}
+use Rattle.run_history.specs.Log.{events_by, master_in, nodes_in}
+use Rattle.run_history.specs.Masters.{MasterView}
 use Rattle.run_history.specs.Parties.{NodeView}
 
 -- by the log the node has the state that it has, and has no more events than it knows
@@ -13,6 +15,12 @@ pub record IsSettled (nodes : ℕ) (config : Config) (log : List RunEvent)
     (node : NodeView) : Type 0 where
   pub state : slice_get (nodes_in nodes config log) node.index ≡ Some node.node.core
   pub no_more : events_by (node.index + 1) log ≡ events_by (node.index + 1) node.log
+
+-- by the log the master has the state that it has, and has no more events than it knows
+pub record IsMasterSettled (config : Config) (log : List RunEvent)
+    (party : MasterView) : Type 0 where
+  pub state : master_in config log ≡ party.state
+  pub no_more : events_by master log ≡ events_by master party.log
 
 -- the node is at this index, and settled by the log
 pub record IsEnded (nodes : ℕ) (config : Config) (log : List RunEvent)

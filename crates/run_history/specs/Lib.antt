@@ -4,4 +4,5 @@ pub mod History
 pub mod Rules
 pub mod ToldEvents
 pub mod Parties
+pub mod Masters
 pub mod Ends

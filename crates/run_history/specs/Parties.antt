@@ -1,6 +1,7 @@
--- A node on record, and what its calls do.
+-- A run that has opened; a node on record, and what its calls do.
 use Rattle.std.specs.Prelude.{◌≡◌, ℕ, ◌+◌, List, [], ◌∷◌, ◌++◌}
 use mathlib.Core.List.{IsPrefix}
+use Rattle.logbook.specs.Pages.{Book}
 use Rattle.ballot_base.specs.declared.message.Effect.{Effect}
 use Rattle.broker_spec.specs.declared.command.Command.{Command}
 use Rattle.broker_spec.specs.declared.command.Output.{Output}
@@ -9,12 +10,18 @@ use Rattle.world_base.specs.declared.node_core.item.Item.{Item}
 use Rattle.world_base.specs.node_core.Core.{CountedCore}
 use Rattle.world_base.specs.node_core.Losses.{ItemStepOrLost}
 use Rattle.world_base.specs.node_core.PortOutput.{hands_over}
+use Rattle.run_history.specs.declared.event.OpenedGroup.{OpenedGroup}
 use Rattle.run_history.specs.declared.event.NodeAct.{NodeAct}
 use Rattle.run_history.specs.declared.event.NodeAct.TheVariants.{Takes, HandsOver}
 use Rattle.run_history.specs.declared.event.RunEvent.{RunEvent}
 use Rattle.run_history.specs.declared.event.RunEvent.TheVariants.{ByNode}
 use Rattle.run_history.specs.Log.{events_by, sent_in}
 use Rattle.run_history.specs.Sending.{ItemWasSent}
+
+-- a run that has opened and has no name yet: the book that its log is in, and its group
+pub record OpenedView : Type 0 where
+  pub book : Book
+  pub group : OpenedGroup
 
 -- The node at an index, and a prefix of the log: by that, and by each longer one with no more
 -- events of the node, this is its state.

@@ -5,6 +5,7 @@
 
 mod ending;
 mod event;
+mod master_on_record;
 mod naming;
 mod node_on_record;
 mod opened_run;
@@ -18,6 +19,7 @@ mod waiting;
 
 pub use ending::settle_all;
 pub use event::{MasterAct, MasterEvent, NodeAct, NodeEvent, OpenedGroup, RunEvent};
+pub use master_on_record::MasterOnRecord;
 pub use naming::RunNaming;
 pub use node_on_record::{NodeOnRecord, take_sent};
 pub use opened_run::{NodeMaker, OpenedRun};

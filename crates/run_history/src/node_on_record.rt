@@ -171,10 +171,11 @@ impl<H: RunNaming> NodeOnRecord<H> {
     {
         wait_unless_below(rt, self.count, EVENT_LIMIT);
         let handed = self.core.outgoing(port, out)?;
+        let after = Snapshot::of(&self.core);
         let told = Told::HandedOver(told::HandedOver {
             node: self.index,
             port,
-            after: Snapshot::of(&self.core),
+            after,
         });
         let mut seen = self.seen.again();
         seen.add_or_wait(rt, &self.word, self.count, &told);

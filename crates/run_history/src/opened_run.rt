@@ -3,27 +3,44 @@
 // The words are made before the run has a name, so that a program can pick the name by them.
 
 ghost use Rattle.std.specs.Prelude.{◌≡◌, ◌+◌, ◌<◌, true};
+ghost use Rattle.agreement.specs.MasterState.{opening_master};
 ghost use Rattle.agreement.specs.World.{can_open};
 ghost use Rattle.world_base.specs.node_core.Core.{opening_core};
 ghost use Rattle.run_history.specs.Log.{opening_log};
 
 use crate::event::{OpenedGroup, RunEvent};
+use crate::master_on_record::MasterOnRecord;
 use crate::naming::RunNaming;
 use crate::node_on_record::NodeOnRecord;
 use crate::rule::{Begin, RunRule};
 use crate::seen_run::SeenRun;
 use logbook::{Pens, Seen, Start, Word};
+use master::Master;
 use std::marker::{Model, PhantomData};
 use world_base::NodeCore;
 
-/// A run of a group that has just opened, without a name.
+/// A run of a group that has just opened, without a name. Contracts see its book and its group.
 #[derive(Drop)]
 pub struct OpenedRun {
     seen: Seen<RunEvent, u64, RunRule>,
     pens: Pens,
     group: OpenedGroup,
-    pub ghost log: { seen.log ≡ opening_log group.nodes group.config },
-    pub ghost words: { (pens.book ≡ seen.book) × (pens.next ≡ 0) × (pens.left ≡ group.nodes + 1) },
+}
+
+impl Model for OpenedRun {
+    ghost use Rattle.std.specs.Prelude.{◌≡◌, ◌+◌, true};
+    ghost use Rattle.agreement.specs.World.{can_open};
+    ghost use Rattle.run_history.specs.Log.{opening_log};
+    ghost use Rattle.run_history.specs.Parties.{OpenedView};
+
+    ghost Value = { OpenedView };
+
+    ghost view = { λ opened. record { book = opened.seen.book; group = opened.group } };
+
+    ghost invariant = { λ opened. (can_open opened.group.nodes opened.group.config ≡ true)
+        × (opened.seen.log ≡ opening_log opened.group.nodes opened.group.config)
+        × (opened.pens.book ≡ opened.seen.book) × (opened.pens.next ≡ 0)
+        × (opened.pens.left ≡ opened.group.nodes + 1) };
 }
 
 impl OpenedRun {
@@ -37,27 +54,38 @@ impl OpenedRun {
         OpenedRun { seen, pens, group }
     }
 
-    /// Gives the run its name. Returns what puts the nodes on record, and the log as it opens.
-    pub fn named<H: RunNaming>(self) -> (NodeMaker<H>, SeenRun<H>)
-        requires book { self.seen.book ≡ H.book }
+    /// Gives the run its name. Returns its one master on record, what puts the nodes on record, and
+    /// the log as it opens.
+    pub fn named<H: RunNaming>(
+        self,
+        master: Master,
+    ) -> (MasterOnRecord<H>, NodeMaker<H>, SeenRun<H>)
+        requires book { self.book ≡ H.book }
         requires nodes { self.group.nodes ≡ H.nodes }
         requires config { self.group.config ≡ H.config }
-        requires can { can_open H.nodes H.config ≡ true }
-        ensures maker { result.0 ≡ 0 }
-        ensures log { result.1 ≡ opening_log H.nodes H.config }
+        requires master { master ≡ opening_master H.config }
+        ensures master { result.0 ≡ record {
+          state = opening_master H.config;
+          log = opening_log H.nodes H.config;
+        } }
+        ensures maker { result.1 ≡ 0 }
+        ensures log { result.2 ≡ opening_log H.nodes H.config }
     {
         let OpenedRun {
             seen,
             mut pens,
             group: _group,
         } = self;
-        let _of_master = pens.take();
+        let mut pen = pens.take();
+        let word = Word::tracked(0, &mut pen);
+        let seen = SeenRun::new(seen);
         (
+            MasterOnRecord::new(master, word, seen.again()),
             NodeMaker {
                 pens,
                 of: PhantomData,
             },
-            SeenRun::new(seen),
+            seen,
         )
     }
 }
