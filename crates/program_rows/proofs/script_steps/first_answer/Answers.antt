@@ -1,0 +1,13 @@
+use Rattle.std.proofs.Common.{◌∷◌, []}
+use Rattle.program_rows.specs.ScriptSteps.{bad_line, tick_line}
+use Rattle.program_rows.proofs.ScriptFaults.{four_faults}
+use Rattle.program_rows.proofs.script_steps.first_answer.Goals as goal
+
+pub returns : goal.returns
+returns c =
+    four_faults (c.args.line.now ∷ []) (c.args.line.now ∷ [] ∷ []) (c.args.line.now ∷ tick_line ∷ [] ∷ [])
+    (c.args.line.now ∷ bad_line ∷ [] ∷ []) c.in_ok-put_fault.field-0 c.in_ok-put_fault-2.field-0
+    c.in_ok-put_fault-3.field-0 c.in_ok-put_fault-4.field-0 c.new-out.result c.put_fault.new.out c.put_fault-2.new.out
+    c.put_fault-3.new.out c.put_fault-4.new.out c.new-out.ensures c.in_ok-put_fault.ensures.0 c.in_ok-put_fault.ensures.1
+    c.in_ok-put_fault-2.ensures.0 c.in_ok-put_fault-2.ensures.1 c.in_ok-put_fault-3.ensures.0
+    c.in_ok-put_fault-3.ensures.1 c.in_ok-put_fault-4.ensures.0 c.in_ok-put_fault-4.ensures.1

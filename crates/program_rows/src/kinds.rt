@@ -1,0 +1,51 @@
+// The kinds of rows.
+
+ghost use Rattle.std.specs.Prelude.{◌≡◌};
+ghost use Rattle.program_rows.specs.Kinds.{KindAgrees, NamedAgrees};
+
+use crate::command_steps::Commands;
+use crate::text_steps::play_text;
+use rows::{Field, Line, Outcome, Player, play_steps};
+use std::alloc::Global;
+
+/// The kinds `command`, `table` and `script`.
+pub(crate) struct Kinds;
+
+impl Player for Kinds {
+    ghost use Rattle.program_rows.specs.Kinds.{RowAgrees};
+
+    ghost RowAgrees = { RowAgrees };
+
+    fn play(&self, alloc: Global, row: &[Line]) -> Outcome {
+        match row {
+            [] => Outcome::Malformed(0),
+            [first, steps @ ..] => play_named(alloc, first.number, first.fields.as_slice(), steps),
+        }
+    }
+}
+
+// Plays the steps of a row whose first line has this number and these fields.
+fn play_named(alloc: Global, number: u64, fields: &[Field], steps: &[Line]) -> Outcome
+    ensures { result ≡ Outcome.Agrees → NamedAgrees fields.now steps.now }
+{
+    match fields {
+        [kind, _] => play_kind(alloc, number, kind, steps),
+        _ => Outcome::Malformed(number),
+    }
+}
+
+// Plays the steps of a row of this kind.
+#[tactic(auto, using(crate::proofs::KindAnswers::command_kind, crate::proofs::KindAnswers::table_kind, crate::proofs::KindAnswers::script_kind))]
+fn play_kind(alloc: Global, number: u64, kind: &Field, steps: &[Line]) -> Outcome
+    ensures { result ≡ Outcome.Agrees → KindAgrees kind.now steps.now }
+{
+    if kind.is(b"command") {
+        play_steps(alloc, &mut Commands, steps)
+    } else if kind.is(b"table") {
+        play_text(alloc, steps)
+    } else if kind.is(b"script") {
+        play_text(alloc, steps)
+    } else {
+        Outcome::Malformed(number)
+    }
+}
