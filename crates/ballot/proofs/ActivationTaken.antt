@@ -1,7 +1,6 @@
 -- ActivationTaken.antt: what a replica does when its ballot is active is the row of the protocol.
-use Rattle.std.proofs.Common.{◌≡◌, ℕ, ◌+◌, ◌-◌, ◌<◌, ◌≤◌, Bool, true, false, ◌&&◌, List, [], ◌∷◌, ◌++◌, length, get_or, Result, Ok, Err, OnOk, OnErr, refl, ap, sym, ◌∙◌, subst, arith}
+use Rattle.std.proofs.Common.{◌≡◌, ℕ, ◌+◌, ◌-◌, ◌<◌, ◌≤◌, Bool, true, false, ◌&&◌, List, [], ◌∷◌, ◌++◌, ◌⊎◌, inl, inr, length, get_or, refl, ap, sym, ◌∙◌, subst, arith}
 use Rattle.std.specs.Prelude.{nat_lt, nat_le, ◌==◌}
-use Rattle.std.specs.Result.{MatchResult}
 use Rattle.std.proofs.lemmas.Bool.{and_parts}
 use Rattle.std.proofs.lemmas.List.{length-append}
 use Rattle.machine.specs.Machine.{Rules, replay_from}
@@ -41,27 +40,27 @@ activated_loud rules r b quiet =
 
 -- the start found no memory
 pub activated_lost : {S C O : Type 0} (rules : Rules S C O) (old new : CountedReplica S C) (b : ℕ) (before : List (Effect C O)) →
-    may_begin old.state b ≡ true → new.state ≡ old.state → new.losses ≡ one_more old.losses →
-    PlainStepOrLost rules old (on_activated rules old.state b) new before before
-activated_lost {S = S} {C = C} {O = O} rules old new b before may state losses =
-    subst (λ (o : Outcome S C O). PlainStepOrLost rules old o new before before) (sym (on_activated-adds rules old.state b may))
-    (went_ignored old _ new before before state losses refl (activated_loud rules old.state b))
+    may_begin old.state b ≡ true → new ≡ old →
+    PlainStepOrLost rules old (on_activated rules old.state b) false new before before
+activated_lost {S = S} {C = C} {O = O} rules old new b before may same =
+    subst (λ (o : Outcome S C O). PlainStepOrLost rules old o false new before before) (sym (on_activated-adds rules old.state b may))
+    (went_ignored old _ new before before (ap (λ (z : CountedReplica S C). z.state) same) (ap (λ (z : CountedReplica S C). z.losses) same) refl (activated_loud rules old.state b))
 
 -- a place could not be applied
 pub activated_halted : {S C O : Type 0} (rules : Rules S C O) (old grown stopped new : CountedReplica S C) (b : ℕ) (before : List (Effect C O)) →
     may_begin old.state b ≡ true →
     grown ≡ record old { state = record old.state { log = pushed old.state.log (rules.start_of b) } } →
     stopped ≡ record grown { state = halted rules grown.state } →
-    new ≡ record { state = record stopped.state { log = popped stopped.state.log }; losses = one_more stopped.losses } →
-    PlainStepOrLost rules old (on_activated rules old.state b) new before before
+    new ≡ record stopped { state = record stopped.state { log = popped stopped.state.log } } →
+    PlainStepOrLost rules old (on_activated rules old.state b) false new before before
 activated_halted {S = S} {C = C} {O = O} rules old grown stopped new b before may p h n =
     let z : CountedReplica S C = record old { state = halted rules (record old.state { log = pushed old.state.log (rules.start_of b) }) } in
     let same : stopped ≡ z = h ∙ ap (λ (y : CountedReplica S C). let x : CountedReplica S C = record y { state = halted rules y.state } in x) p in
-    let is : new ≡ record { state = halted rules old.state; losses = one_more old.losses } =
-    n ∙ ap (λ (y : CountedReplica S C). let x : CountedReplica S C = record { state = record y.state { log = popped y.state.log }; losses = one_more y.losses } in x) same
-    ∙ ap (λ us. let x : CountedReplica S C = record { state = halted rules (record old.state { log = us }); losses = one_more old.losses } in x)
+    let is : new ≡ record { state = halted rules old.state; losses = old.losses } =
+    n ∙ ap (λ (y : CountedReplica S C). let x : CountedReplica S C = record y { state = record y.state { log = popped y.state.log } } in x) same
+    ∙ ap (λ us. let x : CountedReplica S C = record { state = halted rules (record old.state { log = us }); losses = old.losses } in x)
     (popped_pushed old.state.log (rules.start_of b)) in
-    subst (λ (o : Outcome S C O). PlainStepOrLost rules old o new before before) (sym (on_activated-adds rules old.state b may))
+    subst (λ (o : Outcome S C O). PlainStepOrLost rules old o false new before before) (sym (on_activated-adds rules old.state b may))
     (went_halted old _ new before before (ap (λ (y : CountedReplica S C). y.state) is) (ap (λ (y : CountedReplica S C). y.losses) is) refl
     (activated_loud rules old.state b))
 
@@ -92,36 +91,38 @@ become_active_is {S = S} {C = C} {O = O} rules old grown active b progress p m a
     } in x) (part_pushed old.state.log start old.state.committed (places old.state.log) (omega arith))
 
 -- the ballot has begun, or a place could not be applied after its start
-abbrev pub Begun : {S C O : Type 0} → Rules S C O → CountedReplica S C → CountedReplica S C → ℕ → List Progress → List (Effect C O) →
-    List (Effect C O) → CountedReplica S C → Type 0
-Begun rules active new committed waiting before after old = (after ≡ before) × (new ≡ record {
-  state = record active.state {
-    log = popped active.state.log;
-    committed = committed;
-    role = Installing;
-    progress = waiting;
-    stopped = true;
-    machine = rules.opening;
-  };
-  losses = one_more active.losses;
-})
+abbrev pub Begun : {S C O : Type 0} → Rules S C O → CountedReplica S C → Bool → CountedReplica S C → ℕ → List Progress → List (Effect C O) →
+    List (Effect C O) → Type 0
+Begun rules active whole new committed waiting before after =
+    ActivationOrLost rules active whole new before after
+    ⊎ ((whole ≡ false) × (after ≡ before) × (new ≡ record active {
+      state = record active.state {
+        log = popped active.state.log;
+        committed = committed;
+        role = Installing;
+        progress = waiting;
+        stopped = true;
+        machine = rules.opening;
+      };
+    }))
 
-pub activated_begun : {S C O T E : Type 0} (rules : Rules S C O) (result : Result T E) (old active new : CountedReplica S C) (b committed : ℕ)
+pub activated_begun : {S C O : Type 0} (rules : Rules S C O) (whole : Bool) (old active new : CountedReplica S C) (b committed : ℕ)
     (waiting : List Progress) (before after : List (Effect C O)) →
     may_begin old.state b ≡ true → active ≡ begun_of rules old b → committed ≡ old.state.committed → waiting ≡ old.state.progress →
-    MatchResult result (λ _. ActivationOrLost rules active new before after) (λ _. Begun rules active new committed waiting before after old) →
-    PlainStepOrLost rules old (on_activated rules old.state b) new before after
-activated_begun {S = S} {C = C} {O = O} rules (Ok x) old active new b committed waiting before after may a m w begins =
-    let y : ActivationOrLost rules (begun_of rules old b) new before after = subst (λ (z : CountedReplica S C). ActivationOrLost rules z new before after) a begins in
-    subst (λ (o : Outcome S C O). PlainStepOrLost rules old o new before after) (sym (on_activated-adds rules old.state b may
+    Begun rules active whole new committed waiting before after →
+    PlainStepOrLost rules old (on_activated rules old.state b) whole new before after
+activated_begun {S = S} {C = C} {O = O} rules whole old active new b committed waiting before after may a m w (inl begins) =
+    let y : ActivationOrLost rules (begun_of rules old b) whole new before after =
+    subst (λ (z : CountedReplica S C). ActivationOrLost rules z whole new before after) a begins in
+    subst (λ (o : Outcome S C O). PlainStepOrLost rules old o whole new before after) (sym (on_activated-adds rules old.state b may
     ∙ added-commits rules (active_of rules old.state) (rules.start_of b)))
-    (went_sent old _ new before after y.whole (y.sends old.state.log (rules.start_of b) refl) y.state y.counted)
-activated_begun {S = S} {C = C} {O = O} rules (Err x) old active new b committed waiting before after may a m w (same, n) =
+    (went_sent old _ new before after whole (y.sends old.state.log (rules.start_of b) refl) y.state y.uncounted)
+activated_begun {S = S} {C = C} {O = O} rules whole old active new b committed waiting before after may a m w (inr (lost, same, n)) =
     let role : old.state.role ≡ Installing =
     installing_is old.state.role (and_parts (old.state.joined == b) (is_installing old.state.role)
     (and_parts (old.state.joined == b && is_installing old.state.role) (nat_le (length old.state.lacking) 0 && nat_lt (places old.state.log) max_places) may).0).1 in
-    let is : new ≡ record { state = halted rules old.state; losses = one_more old.losses } =
-    n ∙ ap (λ (y : CountedReplica S C). let x : CountedReplica S C = record {
+    let is : new ≡ record { state = halted rules old.state; losses = old.losses } =
+    n ∙ ap (λ (y : CountedReplica S C). let x : CountedReplica S C = record y {
       state = record y.state {
         log = popped y.state.log;
         committed = committed;
@@ -130,38 +131,38 @@ activated_begun {S = S} {C = C} {O = O} rules (Err x) old active new b committed
         stopped = true;
         machine = rules.opening;
       };
-      losses = one_more y.losses;
     } in x) a
     ∙ ap (λ us. let x : CountedReplica S C = record {
       state = record old.state { log = us; committed = committed; role = Installing; progress = waiting; stopped = true; machine = rules.opening };
-      losses = one_more old.losses;
+      losses = old.losses;
     } in x) (popped_pushed old.state.log (rules.start_of b))
     ∙ ap (λ k. let x : CountedReplica S C = record {
       state = record old.state { committed = k; role = Installing; progress = waiting; stopped = true; machine = rules.opening };
-      losses = one_more old.losses;
+      losses = old.losses;
     } in x) m
     ∙ ap (λ ps. let x : CountedReplica S C = record {
       state = record old.state { role = Installing; progress = ps; stopped = true; machine = rules.opening };
-      losses = one_more old.losses;
+      losses = old.losses;
     } in x) w
     ∙ ap (λ q. let x : CountedReplica S C = record {
       state = record old.state { role = q; stopped = true; machine = rules.opening };
-      losses = one_more old.losses;
+      losses = old.losses;
     } in x) (sym role) in
-    subst (λ (o : Outcome S C O). PlainStepOrLost rules old o new before after) (sym (on_activated-adds rules old.state b may))
+    subst (λ t. PlainStepOrLost rules old (on_activated rules old.state b) t new before after) (sym lost)
+    (subst (λ (o : Outcome S C O). PlainStepOrLost rules old o false new before after) (sym (on_activated-adds rules old.state b may))
     (went_halted old _ new before after (ap (λ (y : CountedReplica S C). y.state) is) (ap (λ (y : CountedReplica S C). y.losses) is) same
-    (activated_loud rules old.state b))
+    (activated_loud rules old.state b)))
 
--- and such a replica runs
-pub begun_runs : {S C O T E : Type 0} (rules : Rules S C O) (result : Result T E) (old active new : CountedReplica S C) (b committed : ℕ)
+-- and such a replica runs, or has taken back its effects
+pub begun_stops : {S C O : Type 0} (rules : Rules S C O) (whole : Bool) (old active new : CountedReplica S C) (b committed : ℕ)
     (waiting : List Progress) (before after : List (Effect C O)) →
     active ≡ begun_of rules old b → old.state.stopped ≡ false →
-    MatchResult result (λ _. ActivationOrLost rules active new before after) (λ _. Begun rules active new committed waiting before after old) →
-    OnOk result (new.state.stopped ≡ false) × OnErr result ((new.state.stopped ≡ true) × (after ≡ before))
-begun_runs {S = S} {C = C} {O = O} rules (Ok x) old active new b committed waiting before after a running begins =
-    (ap (λ (r : ReplicaState S C). r.stopped) begins.state ∙ commit-stopped rules active.state ∙ ap (λ (z : CountedReplica S C). z.state.stopped) a ∙ running, tt)
-begun_runs {S = S} {C = C} {O = O} rules (Err x) old active new b committed waiting before after a running (same, n) =
-    (tt, (ap (λ (z : CountedReplica S C). z.state.stopped) n, same))
+    Begun rules active whole new committed waiting before after → new.state.stopped ≡ true → after ≡ before
+begun_stops {S = S} {C = C} {O = O} rules whole old active new b committed waiting before after a running (inl begins) stopped =
+    let e : new.state.stopped ≡ false =
+    ap (λ (r : ReplicaState S C). r.stopped) begins.state ∙ commit-stopped rules active.state ∙ ap (λ (z : CountedReplica S C). z.state.stopped) a ∙ running in
+    let f = sym stopped ∙ e in cc
+begun_stops rules whole old active new b committed waiting before after a running (inr (lost, same, n)) stopped = same
 
 -- the places that are applied stay below the start
 pub start_after : {S C : Type 0} (old grown : CountedReplica S C) (start : C) →

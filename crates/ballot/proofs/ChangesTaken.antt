@@ -20,18 +20,15 @@ use Rattle.ballot_base.specs.Transfer.{waits_for, lacks, on_new_ballot, on_join,
 use Rattle.ballot_base.specs.Activation.{activates, on_installed, on_superseded}
 use Rattle.ballot_base.proofs.ChangeRows.{on_new_ballot-joins, on_join-answers, on_state-takes, on_install-takes, on_install-answers, on_installed-counts, on_superseded-leaves}
 use Rattle.ballot_base.specs.Sends.{Sends}
-use Rattle.ballot.specs.Inside.{MessagesOrLost, PlainStepOrLost, ReadingStepOrLost}
-use Rattle.ballot.proofs.MessagesTaken.{went_sent, went_lost}
+use Rattle.ballot.specs.Inside.{PlainStepOrLost, ReadingStepOrLost}
+use Rattle.ballot.proofs.MessagesTaken.{went_sent, went_lost, went_whole}
 
 -- a replica that took a row's state and then sent its messages did the row
-pub went_said : {S C O : Type 0} {rules : Rules S C O} {unread : Bool} (old mid : CountedReplica S C) (o : Outcome S C O) (new : CountedReplica S C)
-    (before after : List (Effect C O)) → mid ≡ record { state = o.state; losses = old.losses } → MessagesOrLost mid o.effects new before after →
-    ReadingStepOrLost rules old o unread new before after
-went_said {S = S} {C = C} old mid o new before after e said =
-    went_sent old o new before after said.whole said.sends
-    (ap (λ (z : CountedReplica S C). z.state) said.counted ∙ ap (λ (z : CountedReplica S C). z.state) e)
-    (ap (λ (z : CountedReplica S C). z.losses) said.counted
-    ∙ ap (λ (z : CountedReplica S C). cond said.whole z.losses (one_more z.losses)) e)
+pub went_said : {S C O : Type 0} {rules : Rules S C O} {unread : Bool} (old : CountedReplica S C) (o : Outcome S C O) (new : CountedReplica S C)
+    (before after : List (Effect C O)) (sent : Bool) → new ≡ record { state = o.state; losses = old.losses } → Sends before after o.effects sent →
+    ReadingStepOrLost rules old o unread sent new before after
+went_said {S = S} {C = C} old o new before after sent e sends =
+    went_sent old o new before after sent sends (ap (λ (z : CountedReplica S C). z.state) e) (ap (λ (z : CountedReplica S C). z.losses) e)
 
 -- NewBallot of a ballot above
 pub new_ballot_taken : {S C : Type 0} (O : Type 0) {rules : Rules S C O} (old new : CountedReplica S C) (ballot : ℕ) (members : List ℕ) (previous : ℕ)
@@ -46,10 +43,10 @@ pub new_ballot_taken : {S C : Type 0} (O : Type 0) {rules : Rules S C O} (old ne
       previous_members = previous_members;
       lacking = lacking;
       progress = progress;
-    } → new.losses ≡ cond sent old.losses (one_more old.losses) →
-    PlainStepOrLost rules old (on_new_ballot O old.state ballot members previous previous_members) new before after
+    } → new.losses ≡ old.losses →
+    PlainStepOrLost rules old (on_new_ballot O old.state ballot members previous previous_members) sent new before after
 new_ballot_taken {S = S} {C = C} O {rules = rules} old new ballot members previous previous_members receivers lacking progress before after sent low r l p sends state losses =
-    subst (λ (o : Outcome S C O). PlainStepOrLost rules old o new before after)
+    subst (λ (o : Outcome S C O). PlainStepOrLost rules old o sent new before after)
     (sym (on_new_ballot-joins O old.state ballot members previous previous_members low))
     (went_sent old _ new before after sent
     (subst (λ ms. Sends before after (message_to_each O old.state.id (Join ballot previous) ms) sent) r sends)
@@ -79,14 +76,14 @@ pub join_answered : {S C : Type 0} (O : Type 0) {rules : Rules S C O} (old mid n
     (nat_le old.state.joined ballot && nat_le previous old.state.held_in) ≡ true → log ≡ old.state.log →
     Sends before after (message_to O old.state.id (State ballot log) from ∷ []) sent →
     mid ≡ record old { state = cond (nat_lt old.state.joined ballot) (record old.state { joined = ballot; role = Backup }) old.state } →
-    new.state ≡ mid.state → new.losses ≡ cond sent mid.losses (one_more mid.losses) →
-    PlainStepOrLost rules old (on_join O old.state from ballot previous) new before after
+    new.state ≡ mid.state → new.losses ≡ mid.losses →
+    PlainStepOrLost rules old (on_join O old.state from ballot previous) sent new before after
 join_answered {S = S} {C = C} O {rules = rules} old mid new from ballot previous log before after sent may l sends m state losses =
-    subst (λ (o : Outcome S C O). PlainStepOrLost rules old o new before after) (sym (on_join-answers O old.state from ballot previous may))
+    subst (λ (o : Outcome S C O). PlainStepOrLost rules old o sent new before after) (sym (on_join-answers O old.state from ballot previous may))
     (went_sent old _ new before after sent
     (subst (λ us. Sends before after (message_to O old.state.id (State ballot us) from ∷ []) sent) l sends)
     (state ∙ ap (λ (z : CountedReplica S C). z.state) m)
-    (losses ∙ ap (λ (z : CountedReplica S C). cond sent z.losses (one_more z.losses)) m))
+    (losses ∙ ap (λ (z : CountedReplica S C). z.losses) m))
 
 -- messages to some members, or to the master, are some
 installs_some : {S C : Type 0} (O : Type 0) (r : ReplicaState S C) (members : List ℕ) → install_effects O r members ≡ [] → ⊥
@@ -100,24 +97,24 @@ pub state_taken : {S C O : Type 0} {rules : Rules S C O} (old took mid new : Cou
     lacking ≡ others old.state.id old.state.members →
     mid ≡ record took { state = record took.state { held_in = ballot; role = Installing; lacking = lacking } } →
     Sends before after (install_effects O mid.state mid.state.lacking) sent →
-    new.state ≡ mid.state → new.losses ≡ cond sent mid.losses (one_more mid.losses) →
-    ReadingStepOrLost rules old (on_state rules old.state ballot log) unread new before after
+    new.state ≡ mid.state → new.losses ≡ mid.losses →
+    ReadingStepOrLost rules old (on_state rules old.state ballot log) unread sent new before after
 state_taken {S = S} {C = C} {O = O} {rules = rules} old took mid new ballot log unread lacking before after sent waits is losses l m sends state count =
     let all : CountedReplica S C = record took { state = record took.state { held_in = ballot; role = Installing; lacking = others old.state.id old.state.members } } in
     let same : mid ≡ all =
     m ∙ ap (λ ms. let z : CountedReplica S C = record took { state = record took.state { held_in = ballot; role = Installing; lacking = ms } } in z) l in
-    subst (λ (o : Outcome S C O). ReadingStepOrLost rules old o unread new before after) (sym (on_state-takes rules old.state took.state ballot log waits is))
+    subst (λ (o : Outcome S C O). ReadingStepOrLost rules old o unread sent new before after) (sym (on_state-takes rules old.state took.state ballot log waits is))
     (went_sent old _ new before after sent
     (subst (λ (z : CountedReplica S C). Sends before after (install_effects O z.state z.state.lacking) sent) same sends)
     (state ∙ ap (λ (z : CountedReplica S C). z.state) same)
-    (count ∙ ap (λ (z : CountedReplica S C). cond sent z.losses (one_more z.losses)) same ∙ ap (λ n. cond sent n (one_more n)) losses))
+    (count ∙ ap (λ (z : CountedReplica S C). z.losses) same ∙ losses))
 
 -- State that counts as lost: there was no memory, or its snapshot does not thaw
 pub state_lost : {S C O : Type 0} {rules : Rules S C O} (old new : CountedReplica S C) (ballot : ℕ) (log : Log C) (before : List (Effect C O)) →
-    waits_for old.state ballot (places log) ≡ true → new.state ≡ old.state → new.losses ≡ one_more old.losses →
-    ReadingStepOrLost rules old (on_state rules old.state ballot log) (waits_for old.state ballot (places log) && reads_none rules old.state log) new before before
-state_lost {S = S} {C = C} {O = O} {rules = rules} old new ballot log before waits state losses =
-    went_lost old (on_state rules old.state ballot log) new before before state losses refl (λ quiet. by_log quiet (read_or_none rules old.state log))
+    waits_for old.state ballot (places log) ≡ true → new ≡ old →
+    ReadingStepOrLost rules old (on_state rules old.state ballot log) (waits_for old.state ballot (places log) && reads_none rules old.state log) false new before before
+state_lost {S = S} {C = C} {O = O} {rules = rules} old new ballot log before waits same =
+    went_lost old (on_state rules old.state ballot log) new before before (ap (λ (z : CountedReplica S C). z.state) same) (ap (λ (z : CountedReplica S C). z.losses) same) refl (λ quiet. by_log quiet (read_or_none rules old.state log))
   where
     by_log : SendsAndAddsNothing old.state (on_state rules old.state ballot log) →
         ((took : ReplicaState S C) × (taken rules old.state log ≡ Some took) × (reads_none rules old.state log ≡ false))
@@ -127,13 +124,6 @@ state_lost {S = S} {C = C} {O = O} {rules = rules} old new ballot log before wai
     by_log quiet (inl (took, is, other)) =
         let e = ap (λ (o : Outcome S C O). o.effects) (sym (on_state-takes rules old.state took ballot log waits is)) ∙ quiet.nothing_sent in
         absurd (installs_some O (record took { held_in = ballot; role = Installing; lacking = others old.state.id old.state.members }) (others old.state.id old.state.members) e)
-
--- what counts as lost changes the count alone
-pub lost_is : {S C : Type 0} (old new : CountedReplica S C) → new.state ≡ old.state → new.losses ≡ one_more old.losses →
-    new ≡ record old { losses = one_more old.losses }
-lost_is {S = S} {C = C} old new state losses =
-    ap (λ s. let z : CountedReplica S C = record { state = s; losses = new.losses } in z) state
-    ∙ ap (λ n. let z : CountedReplica S C = record { state = old.state; losses = n } in z) losses
 
 -- a row whose condition does not hold reads nothing, and neither does one whose log was taken
 pub not_read : {P : Type 0} (may none : Bool) → may ≡ false → (may && none) ≡ true → P
@@ -153,28 +143,28 @@ taken_is_read {S = S} {C = C} {P = P} rules r took log may is unread = by_log (r
     by_log (inr (e, other)) = let f = sym e ∙ is in cc
 
 -- Install that is taken, one that counts as lost, and one that is only answered
-pub install_taken : {S C O : Type 0} {rules : Rules S C O} (old took mid new : CountedReplica S C) (from ballot held : ℕ) (log : Log C) (unread : Bool)
-    (before after : List (Effect C O)) →
+pub install_taken : {S C O : Type 0} {rules : Rules S C O} (old took mid : CountedReplica S C) (from ballot held : ℕ) (log : Log C) (unread : Bool)
+    (before after : List (Effect C O)) (sent : Bool) →
     lacks old.state ballot held ≡ true → held ≡ places log → taken rules old.state log ≡ Some took.state → took.losses ≡ old.losses →
     took.state.id ≡ old.state.id →
     mid ≡ record took { state = record took.state { joined = ballot; held_in = ballot; role = Backup } } →
-    MessagesOrLost mid (message_to O mid.state.id (Installed ballot held) from ∷ []) new before after →
-    ReadingStepOrLost rules old (on_install rules old.state from ballot log) unread new before after
-install_taken {S = S} {C = C} {O = O} {rules = rules} old took mid new from ballot held log unread before after may h is losses id m said =
+    Sends before after (message_to O mid.state.id (Installed ballot held) from ∷ []) sent →
+    ReadingStepOrLost rules old (on_install rules old.state from ballot log) unread sent mid before after
+install_taken {S = S} {C = C} {O = O} {rules = rules} old took mid from ballot held log unread before after sent may h is losses id m said =
     let may' = subst (λ k. lacks old.state ballot k ≡ true) h may in
     let same : mid ≡ record { state = record took.state { joined = ballot; held_in = ballot; role = Backup }; losses = old.losses } =
     m ∙ ap (λ n. let z : CountedReplica S C = record { state = record took.state { joined = ballot; held_in = ballot; role = Backup }; losses = n } in z) losses in
     let named : mid.state.id ≡ old.state.id = ap (λ (z : CountedReplica S C). z.state.id) same ∙ id in
-    subst (λ (o : Outcome S C O). ReadingStepOrLost rules old o unread new before after) (sym (on_install-takes rules old.state took.state from ballot log may' is))
-    (went_said old mid _ new before after same
-    (subst (λ k. MessagesOrLost mid (message_to O old.state.id (Installed ballot k) from ∷ []) new before after) h
-    (subst (λ k. MessagesOrLost mid (message_to O k (Installed ballot held) from ∷ []) new before after) named said)))
+    subst (λ (o : Outcome S C O). ReadingStepOrLost rules old o unread sent mid before after) (sym (on_install-takes rules old.state took.state from ballot log may' is))
+    (went_said old _ mid before after sent same
+    (subst (λ k. Sends before after (message_to O old.state.id (Installed ballot k) from ∷ []) sent) h
+    (subst (λ k. Sends before after (message_to O k (Installed ballot held) from ∷ []) sent) named said)))
 
 pub install_lost : {S C O : Type 0} {rules : Rules S C O} (old new : CountedReplica S C) (from ballot held : ℕ) (log : Log C) (before : List (Effect C O)) →
-    lacks old.state ballot held ≡ true → held ≡ places log → new.state ≡ old.state → new.losses ≡ one_more old.losses →
-    ReadingStepOrLost rules old (on_install rules old.state from ballot log) (lacks old.state ballot (places log) && reads_none rules old.state log) new before before
-install_lost {S = S} {C = C} {O = O} {rules = rules} old new from ballot held log before may h state losses =
-    went_lost old (on_install rules old.state from ballot log) new before before state losses refl (λ quiet. by_log quiet (read_or_none rules old.state log))
+    lacks old.state ballot held ≡ true → held ≡ places log → new ≡ old →
+    ReadingStepOrLost rules old (on_install rules old.state from ballot log) (lacks old.state ballot (places log) && reads_none rules old.state log) false new before before
+install_lost {S = S} {C = C} {O = O} {rules = rules} old new from ballot held log before may h same =
+    went_lost old (on_install rules old.state from ballot log) new before before (ap (λ (z : CountedReplica S C). z.state) same) (ap (λ (z : CountedReplica S C). z.losses) same) refl (λ quiet. by_log quiet (read_or_none rules old.state log))
   where
     may' : lacks old.state ballot (places log) ≡ true
     may' = subst (λ k. lacks old.state ballot k ≡ true) h may
@@ -187,16 +177,16 @@ install_lost {S = S} {C = C} {O = O} {rules = rules} old new from ballot held lo
     by_log quiet (inl (took, is, other)) =
         let e = ap (λ (o : Outcome S C O). o.effects) (sym (on_install-takes rules old.state took from ballot log may' is)) ∙ quiet.nothing_sent in cc
 
-pub install_answered : {S C O : Type 0} {rules : Rules S C O} (old new : CountedReplica S C) (from ballot held : ℕ) (log : Log C) (unread : Bool)
-    (before after : List (Effect C O)) →
+pub install_answered : {S C O : Type 0} {rules : Rules S C O} (old : CountedReplica S C) (from ballot held : ℕ) (log : Log C) (unread : Bool)
+    (before after : List (Effect C O)) (sent : Bool) →
     lacks old.state ballot held ≡ false → (old.state.joined == ballot && old.state.held_in == ballot) ≡ true → held ≡ places log →
-    MessagesOrLost old (message_to O old.state.id (Installed ballot held) from ∷ []) new before after →
-    ReadingStepOrLost rules old (on_install rules old.state from ballot log) unread new before after
-install_answered {S = S} {C = C} {O = O} {rules = rules} old new from ballot held log unread before after other here h said =
+    Sends before after (message_to O old.state.id (Installed ballot held) from ∷ []) sent →
+    ReadingStepOrLost rules old (on_install rules old.state from ballot log) unread sent old before after
+install_answered {S = S} {C = C} {O = O} {rules = rules} old from ballot held log unread before after sent other here h said =
     let off = subst (λ k. lacks old.state ballot k ≡ false) h other in
-    subst (λ (o : Outcome S C O). ReadingStepOrLost rules old o unread new before after) (sym (on_install-answers rules old.state from ballot log off here))
-    (went_said old old _ new before after refl
-    (subst (λ k. MessagesOrLost old (message_to O old.state.id (Installed ballot k) from ∷ []) new before after) h said))
+    subst (λ (o : Outcome S C O). ReadingStepOrLost rules old o unread sent old before after) (sym (on_install-answers rules old.state from ballot log off here))
+    (went_said old _ old before after sent refl
+    (subst (λ k. Sends before after (message_to O old.state.id (Installed ballot k) from ∷ []) sent) h said))
 
 -- Installed of a member that lacked the log: others lack it, or it was the last
 pub installed_noted : {S C : Type 0} (O : Type 0) {rules : Rules S C O} (old new : CountedReplica S C) (from ballot : ℕ) (lacking : List ℕ)
@@ -204,43 +194,40 @@ pub installed_noted : {S C : Type 0} (O : Type 0) {rules : Rules S C O} (old new
     ((old.state.joined == ballot && is_installing old.state.role) && list_any (λ member. member == from) old.state.lacking) ≡ true →
     lacking ≡ others from old.state.lacking → (lacking ≡ [] → ⊥) →
     new ≡ record old { state = record old.state { lacking = lacking } } →
-    PlainStepOrLost rules old (on_installed O old.state from ballot) new out out
+    PlainStepOrLost rules old (on_installed O old.state from ballot) true new out out
 installed_noted {S = S} {C = C} O {rules = rules} old new from ballot lacking out may l some n =
     let none = λ (e : others from old.state.lacking ≡ []). some (l ∙ e) in
     let same : new ≡ record old { state = record old.state { lacking = others from old.state.lacking } } =
     n ∙ ap (λ ms. let z : CountedReplica S C = record old { state = record old.state { lacking = ms } } in z) l in
-    subst (λ (o : Outcome S C O). PlainStepOrLost rules old o new out out) (sym (on_installed-counts O old.state from ballot may))
+    subst (λ (o : Outcome S C O). PlainStepOrLost rules old o true new out out) (sym (on_installed-counts O old.state from ballot may))
     (by_others (others from old.state.lacking) none same)
   where
     by_others : (ms : List ℕ) → (ms ≡ [] → ⊥) → new ≡ record old { state = record old.state { lacking = ms } } →
         PlainStepOrLost rules old (record {
           state = record old.state { lacking = ms };
           effects = activates O (record old.state { lacking = ms }) ms;
-        }) new out out
+        }) true new out out
     by_others [] some e = absurd (some refl)
-    by_others (m ∷ ms) some e = record {
-      given = [];
-      appended = sym (append-nil out);
-      way = inl (ap (λ (z : CountedReplica S C). z.state) e, refl, ap (λ (z : CountedReplica S C). z.losses) e);
-    }
+    by_others (m ∷ ms) some e =
+        went_whole old _ new out (ap (λ (z : CountedReplica S C). z.state) e) refl (ap (λ (z : CountedReplica S C). z.losses) e)
 
-pub installed_last : {S C : Type 0} (O : Type 0) {rules : Rules S C O} (old mid new : CountedReplica S C) (from ballot joined : ℕ) (lacking : List ℕ)
-    (before after : List (Effect C O)) →
+pub installed_last : {S C : Type 0} (O : Type 0) {rules : Rules S C O} (old new : CountedReplica S C) (from ballot joined : ℕ) (lacking : List ℕ)
+    (before after : List (Effect C O)) (sent : Bool) →
     ((old.state.joined == ballot && is_installing old.state.role) && list_any (λ member. member == from) old.state.lacking) ≡ true →
     lacking ≡ others from old.state.lacking → lacking ≡ [] → joined ≡ old.state.joined →
-    mid ≡ record old { state = record old.state { lacking = lacking } } →
-    MessagesOrLost mid (message_to O mid.state.id (Activate joined) master ∷ []) new before after →
-    PlainStepOrLost rules old (on_installed O old.state from ballot) new before after
-installed_last {S = S} {C = C} O {rules = rules} old mid new from ballot joined lacking before after may l none j m said =
-    let same : mid ≡ record old { state = record old.state { lacking = others from old.state.lacking } } =
+    new ≡ record old { state = record old.state { lacking = lacking } } →
+    Sends before after (message_to O new.state.id (Activate joined) master ∷ []) sent →
+    PlainStepOrLost rules old (on_installed O old.state from ballot) sent new before after
+installed_last {S = S} {C = C} O {rules = rules} old new from ballot joined lacking before after sent may l none j m said =
+    let same : new ≡ record old { state = record old.state { lacking = others from old.state.lacking } } =
     m ∙ ap (λ ms. let z : CountedReplica S C = record old { state = record old.state { lacking = ms } } in z) l in
-    subst (λ (o : Outcome S C O). PlainStepOrLost rules old o new before after) (sym (on_installed-counts O old.state from ballot may))
-    (went_said old mid _ new before after same
-    (subst (λ (es : List (Effect C O)). MessagesOrLost mid es new before after) (by_none (others from old.state.lacking) (sym l ∙ none)) here))
+    subst (λ (o : Outcome S C O). PlainStepOrLost rules old o sent new before after) (sym (on_installed-counts O old.state from ballot may))
+    (went_said old _ new before after sent same
+    (subst (λ (es : List (Effect C O)). Sends before after es sent) (by_none (others from old.state.lacking) (sym l ∙ none)) here))
   where
-    here : MessagesOrLost mid (message_to O old.state.id (Activate old.state.joined) master ∷ []) new before after
-    here = subst (λ k. MessagesOrLost mid (message_to O old.state.id (Activate k) master ∷ []) new before after) j
-        (subst (λ (z : CountedReplica S C). MessagesOrLost mid (message_to O z.state.id (Activate joined) master ∷ []) new before after) m said)
+    here : Sends before after (message_to O old.state.id (Activate old.state.joined) master ∷ []) sent
+    here = subst (λ k. Sends before after (message_to O old.state.id (Activate k) master ∷ []) sent) j
+        (subst (λ (z : CountedReplica S C). Sends before after (message_to O z.state.id (Activate joined) master ∷ []) sent) m said)
 
     by_none : (ms : List ℕ) → ms ≡ [] →
         message_to O old.state.id (Activate old.state.joined) master ∷ [] ≡ activates O (record old.state { lacking = ms }) ms
@@ -251,14 +238,10 @@ installed_last {S = S} {C = C} O {rules = rules} old mid new from ballot joined 
 pub superseded_left : {S C : Type 0} (O : Type 0) {rules : Rules S C O} (old new : CountedReplica S C) (ballot : ℕ) →
     (old.state.joined == ballot && is_installing old.state.role) ≡ true →
     new ≡ record old { state = record old.state { role = Backup } } →
-    PlainStepOrLost rules old (on_superseded O old.state ballot) new [] []
+    PlainStepOrLost rules old (on_superseded O old.state ballot) true new [] []
 superseded_left {S = S} {C = C} O {rules = rules} old new ballot here n =
-    subst (λ (o : Outcome S C O). PlainStepOrLost rules old o new [] []) (sym (on_superseded-leaves O old.state ballot here))
-    (record {
-      given = [];
-      appended = refl;
-      way = inl (ap (λ (z : CountedReplica S C). z.state) n, refl, ap (λ (z : CountedReplica S C). z.losses) n);
-    })
+    subst (λ (o : Outcome S C O). PlainStepOrLost rules old o true new [] []) (sym (on_superseded-leaves O old.state ballot here))
+    (went_whole old _ new [] (ap (λ (z : CountedReplica S C). z.state) n) refl (ap (λ (z : CountedReplica S C). z.losses) n))
 
 -- a list is empty where its length is said to be zero
 pub empty_is : {X : Type 0} (xs : List X) (n : ℕ) {b : Bool} → b ≡ (n == 0) → n ≡ length xs → b ≡ true → xs ≡ []

@@ -6,13 +6,13 @@ use Rattle.ballot_base.specs.declared.message.Effect.{Effect}
 use Rattle.ballot_base.specs.declared.status.Progress.{Progress}
 use Rattle.ballot_base.specs.Replica.{ReplicaState, CountedReplica}
 use Rattle.ballot_base.specs.Logs.{Log, part, places, pushed}
-use Rattle.ballot_base.specs.Losses.{StepMessagesOrLost, one_more}
 use Rattle.ballot_base.specs.StepOutcome.{Outcome, message_to_followed}
 use Rattle.ballot_base.specs.Application.{outputs_from, outputs_to}
 use Rattle.ballot_base.specs.Service.{least, commit_at, added}
 use Rattle.ballot_base.proofs.StepRows.{commit_at-stays, commit_at-goes, added-is}
 use Rattle.ballot_base.proofs.ThinnedEffects.{Thinned-same}
 use Rattle.ballot_base.specs.Sends.{Sends}
+use Rattle.ballot.specs.Inside.{MessagesOrLost}
 use Rattle.ballot_base.proofs.SendsJoin.{Sends-nothing, Sends-then}
 
 -- what was appended whole
@@ -63,7 +63,7 @@ commit_gives {S = S} {C = C} {O = O} rules r held machine log progress start mid
     (sym (commit_at-goes rules r held above)) (Sends-then (Sends-whole start mid _ given) told)
 
 -- a command that was sent, put into the log and committed is added
-pub add_done : {S C O : Type 0} (rules : Rules S C O) (old grown after new : CountedReplica S C) (command : C)
+pub add_done : {S C O : Type 0} (rules : Rules S C O) (old grown after : CountedReplica S C) (command : C)
     (log : Log C) (progress : List Progress) (long held : ℕ) (sent told : Bool)
     (start mid later : List (Effect C O)) →
     Sends start mid (message_to_followed O old.state.id (Append old.state.joined (places old.state.log) command) old.state.progress) sent →
@@ -72,10 +72,9 @@ pub add_done : {S C O : Type 0} (rules : Rules S C O) (old grown after new : Cou
     long ≡ places log → progress ≡ old.state.progress → held ≡ least long progress →
     after ≡ record { state = (commit_at rules grown.state held).state; losses = grown.losses } →
     Sends mid later (commit_at rules grown.state held).effects told →
-    new.state ≡ after.state → new.losses ≡ cond (sent && told) after.losses (one_more after.losses) →
-    StepMessagesOrLost old (added rules old.state command) new start later
-add_done {S = S} {C = C} {O = O} rules old grown after new command log progress long held sent told start mid later
-    appends l p0 n0 m h0 a commits kept n =
+    MessagesOrLost old (added rules old.state command) (sent && told) after start later
+add_done {S = S} {C = C} {O = O} rules old grown after command log progress long held sent told start mid later
+    appends l p0 n0 m h0 a commits =
     let p : grown ≡ record { state = record old.state { log = pushed old.state.log command }; losses = old.losses } =
     p0 ∙ ap (λ xs. let z : CountedReplica S C = record { state = record old.state { log = xs }; losses = old.losses } in z) l in
     let h : held ≡ least (places (pushed old.state.log command)) old.state.progress =
@@ -87,22 +86,11 @@ add_done {S = S} {C = C} {O = O} rules old grown after new command log progress 
     let all : Sends start later (message_to_followed O old.state.id (Append old.state.joined (places old.state.log) command) old.state.progress ++ o.effects) (sent && told) =
     Sends-then appends
     (subst (λ (z : Outcome S C O). Sends mid later z.effects told) same commits) in
-    let state : new.state ≡ o.state =
-    kept ∙ ap (λ (z : CountedReplica S C). z.state) a
-    ∙ ap (λ (z : Outcome S C O). z.state) same in
+    let state : after.state ≡ o.state = ap (λ (z : CountedReplica S C). z.state) a ∙ ap (λ (z : Outcome S C O). z.state) same in
     let losses : after.losses ≡ old.losses =
     ap (λ (z : CountedReplica S C). z.losses) a ∙ ap (λ (z : CountedReplica S C). z.losses) p in
-    subst (λ (z : Outcome S C O). StepMessagesOrLost old z new start later) (sym (added-is rules old.state command))
-    (record {
-      given = all.given;
-      appended = all.appended;
-      state = state;
-      thinned = all.thinned;
-      counted = by_whole (sent && told) (λ e. all.exact e)
-          (n ∙ ap (λ k. cond (sent && told) k (one_more k)) losses);
-    })
-  where
-    by_whole : {X : Type 0} {xs ys : X} {k n : ℕ} (whole : Bool) → (whole ≡ true → xs ≡ ys) →
-        n ≡ cond whole k (one_more k) → ((xs ≡ ys) × (n ≡ k)) ⊎ (n ≡ one_more k)
-    by_whole true f e = inl (f refl, e)
-    by_whole false f e = inr e
+    subst (λ (z : Outcome S C O). MessagesOrLost old z (sent && told) after start later) (sym (added-is rules old.state command)) (
+      ap (λ s. let z : CountedReplica S C = record { state = s; losses = after.losses } in z) state
+          ∙ ap (λ n. let z : CountedReplica S C = record { state = o.state; losses = n } in z) losses,
+      all,
+    )

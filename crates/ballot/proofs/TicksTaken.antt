@@ -8,7 +8,6 @@ use Rattle.ballot_base.specs.declared.status.Role.{Role}
 use Rattle.ballot_base.specs.declared.status.Role.TheVariants.{Backup, Fetching, Installing, Active}
 use Rattle.ballot_base.specs.Replica.{ReplicaState, CountedReplica}
 use Rattle.ballot_base.specs.Logs.{Log}
-use Rattle.ballot_base.specs.Losses.{SendsAndAddsNothing, one_more}
 use Rattle.ballot_base.specs.StepOutcome.{Outcome, message_to_followed}
 use Rattle.ballot_base.specs.Service.{appends_after}
 use Rattle.ballot_base.specs.Protocol.{replica_step, ticked}
@@ -17,7 +16,7 @@ use Rattle.ballot_base.proofs.MessageRows.{on_tick_active-is}
 use Rattle.ballot_base.specs.Sends.{Sends}
 use Rattle.ballot.specs.Inside.{PlainStepOrLost}
 use Rattle.ballot_base.proofs.SendsJoin.{Sends-nothing, Sends-then}
-use Rattle.ballot.proofs.MessagesTaken.{went_sent, went_quiet}
+use Rattle.ballot.proofs.MessagesTaken.{went_sent}
 
 -- a tick is no step of the replica's own
 pub ticked-state : {S C : Type 0} (O : Type 0) (r : ReplicaState S C) (role : Role) → (ticked O r role).state ≡ r
@@ -27,20 +26,11 @@ ticked-state O r Installing = refl
 ticked-state {S = S} {C = C} O r Active = ap (λ (o : Outcome S C O). o.state) (on_tick_active-is O r)
 
 -- its messages are sent, except those that are lost
-pub tick_taken : {S C O : Type 0} (rules : Rules S C O) (old new : CountedReplica S C) (before after : List (Effect C O)) (whole : Bool) →
+pub tick_taken : {S C O : Type 0} (rules : Rules S C O) (old : CountedReplica S C) (before after : List (Effect C O)) (whole : Bool) →
     Sends before after (ticked O old.state old.state.role).effects whole →
-    new.state ≡ old.state → new.losses ≡ cond whole old.losses (one_more old.losses) →
-    PlainStepOrLost rules old (replica_step rules old.state Ticks) new before after
-tick_taken {O = O} rules old new before after whole sends state losses =
-    went_sent old _ new before after whole sends (state ∙ sym (ticked-state O old.state old.state.role)) losses
-
--- a tick that sends nothing leaves the replica whole
-pub tick_quiet : {S C O : Type 0} (rules : Rules S C O) (old new : CountedReplica S C) (before after : List (Effect C O)) →
-    PlainStepOrLost rules old (replica_step rules old.state Ticks) new before after →
-    SendsAndAddsNothing old.state (replica_step rules old.state Ticks) → new ≡ old
-tick_quiet {S = S} {C = C} {O = O} rules old new before after went quiet =
-    went_quiet went quiet refl
-    ∙ ap (λ s. let z : CountedReplica S C = record { state = s; losses = old.losses } in z) (ticked-state O old.state old.state.role)
+    PlainStepOrLost rules old (replica_step rules old.state Ticks) whole old before after
+tick_taken {O = O} rules old before after whole sends =
+    went_sent old _ old before after whole sends (sym (ticked-state O old.state old.state.role)) refl
 
 -- what an active primary says again is said in two sends
 pub told : {C : Type 0} (O : Type 0) (id joined committed : ℕ) (log log' : Log C) (progress progress' shown : List Progress)

@@ -1,2 +1,3 @@
 pub mod Relevance
 pub mod Inside
+pub mod Told

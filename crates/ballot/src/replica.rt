@@ -13,23 +13,20 @@
 // That the machine is the replay of the applied places is not an invariant of this type: a replica
 // alone may be sent any log. `agreement` proves it for every replica of a group.
 
-ghost use Rattle.std.specs.Prelude.{◌≡◌, ◌≤◌, ◌<◌, ◌↔◌, ◌⊎◌, true, false, IfOk, OnOk, OnErr};
-ghost use Rattle.std.specs.Prelude.{IsErrOf, MatchResult};
+ghost use Rattle.std.specs.Prelude.{◌≡◌, ◌≤◌, ◌<◌, ◌↔◌, false, IfOk, IsErrOf, OnOk, OnErr};
 ghost use Rattle.ballot_base.specs.Sends.{Sends};
-ghost use Rattle.ballot.specs.Inside.{Lacks};
 ghost use Rattle.lists.specs.Lists.{IsPrefixOf};
 ghost use Rattle.ballot_base.specs.LawfulConfig.{is_lawful};
 ghost use Rattle.ballot_base.specs.Logs.{places};
-ghost use Rattle.ballot_base.specs.Losses.{AppendedStepOrLost, StepMessagesOrLost, halted, one_more};
-ghost use Rattle.ballot_base.specs.Replica.{is_active, opening, opening_member, others};
+ghost use Rattle.ballot_base.specs.Losses.{halted};
+ghost use Rattle.ballot_base.specs.Replica.{opening, opening_member, others};
 ghost use Rattle.ballot_base.specs.Replica.{progress_at, status_of};
-ghost use Rattle.ballot_base.specs.StepOutcome.{message_to_followed};
-ghost use Rattle.ballot_base.specs.Service.{added, commit_at, max_places, proposed};
+ghost use Rattle.ballot_base.specs.Service.{commit_at};
 
-use ballot_base::errors::{OpeningError, ProposeError};
+use ballot_base::errors::OpeningError;
 use ballot_base::{
-    Body, Config, Effect, Log, MAX_NODE, MAX_PLACES, Members, Progress, Role, Status, apply_places,
-    counted, least_held, progress_of_others, send_appends, send_commits,
+    Config, Effect, Log, MAX_NODE, Members, Progress, Role, Status, apply_places,
+    progress_of_others, send_commits,
 };
 use machine::{Halted, Machine, Memory};
 use std::alloc::Global;
@@ -39,6 +36,7 @@ mod activation;
 mod compaction;
 mod installation;
 mod messages;
+mod proposals;
 mod relevance;
 mod ticks;
 mod transfer;
@@ -238,107 +236,6 @@ impl<M: Machine> Replica<M> {
         } }
     {
         self.stopped = true;
-    }
-
-    /// Proposes a command: appends it to the log of an active primary. Its outputs are returned,
-    /// with its place, once every member is known to hold it: by this call for a sole member,
-    /// otherwise by a later one. A message for which memory runs out is lost.
-    pub fn propose(
-        &mut self,
-        command: M::Command,
-        out: &mut Vec<Effect<M::Command, M::Output>>,
-    ) -> Result<(), ProposeError>
-        // The protocol's step, or one in which memory ran out and that was counted.
-        ensures step { self.old.state.stopped ≡ false →
-            AppendedStepOrLost M.rules self.old (proposed M.rules self.old.state command)
-            self.new out.old.items out.new.items }
-        ensures done { OnOk result
-            (StepMessagesOrLost self.old (added M.rules self.old.state command)
-            self.new out.old.items out.new.items) }
-
-        // When each refusal comes. Only running out of memory may happen at any time.
-        ensures halted { IsErrOf result ProposeError.Halted ↔ (self.new.state.stopped ≡ true) }
-        ensures not_active { IsErrOf result ProposeError.NotActive
-            ↔ ((self.old.state.stopped ≡ false) × (is_active self.old.state.role ≡ false)) }
-        ensures full { IsErrOf result ProposeError.LogFull
-            ↔ ((self.old.state.stopped ≡ false) ×
-            (is_active self.old.state.role ≡ true) ×
-            (max_places ≤ places self.old.state.log)) }
-
-        // What stays.
-        ensures memory { IsErrOf result ProposeError.Memory →
-            self.new ≡ record self.old { losses = one_more self.old.losses } }
-        ensures same { (self.old.state.stopped ≡ true)
-            ⊎ (IsErrOf result ProposeError.NotActive ⊎ IsErrOf result ProposeError.LogFull) →
-            self.new ≡ self.old }
-        ensures err { OnErr result (out.new.items ≡ out.old.items) }
-    {
-        if self.stopped {
-            return Err(ProposeError::Halted);
-        }
-        if !self.role.is_active() {
-            return Err(ProposeError::NotActive);
-        }
-        if self.log.places() >= MAX_PLACES {
-            return Err(ProposeError::LogFull);
-        }
-        self.add(command, out)
-    }
-
-    // Appends a command to the log, sends it to the other members and commits what all hold. A call
-    // that fails takes back the command and its messages; after `Halted` the replica has stopped.
-    fn add(
-        &mut self,
-        command: M::Command,
-        out: &mut Vec<Effect<M::Command, M::Output>>,
-    ) -> Result<(), ProposeError>
-        requires { self.old.state.stopped ≡ false }
-        ensures outcome { MatchResult result
-            (λ _. StepMessagesOrLost self.old (added M.rules self.old.state command)
-            self.new out.old.items out.new.items)
-            (λ error. Lacks M.rules error self.old self.new) }
-        ensures err { OnErr result (out.new.items ≡ out.old.items) }
-    {
-        let before = out.len();
-        let sent = self.send_next(&command, out);
-        let Ok(()) = self.log.push(command) else {
-            out.truncate(before);
-            self.losses = counted(self.losses, false);
-            return Err(ProposeError::Memory);
-        };
-        let held = least_held(self.log.places(), &self.progress);
-        match self.commit_at(held, out) {
-            Ok(commits_sent) => {
-                self.losses = counted(self.losses, sent & commits_sent);
-                Ok(())
-            }
-            Err(_) => {
-                self.log.pop();
-                out.truncate(before);
-                self.losses = counted(self.losses, false);
-                Err(ProposeError::Halted)
-            }
-        }
-    }
-
-    // Sends Append with the command of the next place to the other members. Returns true if no
-    // message was lost.
-    fn send_next(&self, command: &M::Command, out: &mut Vec<Effect<M::Command, M::Output>>) -> bool
-        ensures { Sends out.old.items out.new.items
-            (message_to_followed M.Output self.now.state.id
-            (Body.Append self.now.state.joined (places self.now.state.log) command.now)
-            self.now.state.progress) result }
-    {
-        let place = self.log.places();
-        send_appends::<M>(
-            self.alloc,
-            self.id,
-            self.joined,
-            place,
-            command,
-            &self.progress,
-            out,
-        )
     }
 
     // Commits the places below `held`: applies those not yet applied, returns their outputs and

@@ -25,4 +25,5 @@ pub mod Proposes
 pub mod Settles
 pub mod Silences
 pub mod StepsJoin
+pub mod Told
 pub mod Repeats

@@ -1,7 +1,6 @@
 //! A replica of the broker with its connections: the state of a node between two items. Its input
 //! is clients' bytes, messages of other nodes and times; its output is bytes and messages.
 
-mod ignored_items;
 mod item;
 mod item_steps;
 mod node_core;

@@ -156,7 +156,7 @@ passes_at_rest at number old p rests =
 -- what a node does with a message that has more than numbers, if it does it quietly, is nothing
 more_ignored : (message : Message Command) (core : CoreState) → has_numbers_alone message.body ≡ false → NamesSome message.body → IsHeardQuietly message core →
     IsIgnored (Receives message) core
-more_ignored message core more names quiet = by core.replica.state.stopped quiet.0
+more_ignored message core more names quiet = by core.replica.state.stopped quiet
   where
     r : ReplicaState BrokerState Command
     r = core.replica.state

@@ -1,7 +1,7 @@
 // Handling Activated: a new primary becomes active.
 
-ghost use Rattle.std.specs.Prelude.{◌≡◌, ◌++◌, true, false, ◌-◌, ◌<◌};
-ghost use Rattle.std.specs.Prelude.{◌≤◌, length, IfOk, OnOk, OnErr, MatchResult};
+ghost use Rattle.std.specs.Prelude.{◌≡◌, ◌⊎◌, ◌++◌, true, false, ◌-◌, ◌<◌};
+ghost use Rattle.std.specs.Prelude.{◌≤◌, length, IfOk, OnOk, OnErr};
 ghost use Rattle.ballot_base.specs.Sends.{Sends};
 ghost use Rattle.ballot.specs.Inside.{ActivationOrLost, PlainStepOrLost};
 ghost use Rattle.ballot_base.specs.Activation.{may_begin, on_activated};
@@ -9,14 +9,14 @@ ghost use Rattle.ballot_base.specs.Logs.{Log, places, popped, pushed};
 ghost use Rattle.ballot_base.specs.Replica.{others, progress_at};
 ghost use Rattle.ballot_base.specs.Service.{commit};
 ghost use Rattle.ballot_base.specs.StepOutcome.{message_to_followed};
-ghost use Rattle.ballot_base.specs.Losses.{halted, one_more};
+ghost use Rattle.ballot_base.specs.Losses.{halted};
 ghost use Rattle.ballot_base.specs.Application.{applied_to};
 ghost use Rattle.lists.specs.Lists.{IsPrefixOf};
 
 use super::Replica;
 use ballot_base::{
-    Body, Effect, MAX_PLACES, Progress, Role, apply_dropping, counted, least_held,
-    progress_of_others, send_appends,
+    Body, Effect, MAX_PLACES, Progress, Role, apply_dropping, least_held, progress_of_others,
+    send_appends,
 };
 use machine::{Halted, Machine, Memory};
 use std::mem;
@@ -29,27 +29,24 @@ impl<M: Machine> Replica<M> {
         &mut self,
         ballot: u64,
         out: &mut Vec<Effect<M::Command, M::Output>>,
-    ) -> Result<(), Halted>
+    ) -> bool
         requires { self.old.state.stopped ≡ false }
         ensures step { PlainStepOrLost M.rules self.old (on_activated M.rules self.old.state ballot)
-            self.new out.old.items out.new.items }
-        ensures ok { OnOk result (self.new.state.stopped ≡ false) }
-        ensures err { OnErr result ((self.new.state.stopped ≡ true) ×
-            (out.new.items ≡ out.old.items)) }
+            result self.new out.old.items out.new.items }
+        ensures stops { self.new.state.stopped ≡ true → out.new.items ≡ out.old.items }
     {
         if !self.may_begin(ballot) {
-            return Ok(());
+            return true;
         }
         let committed = self.committed;
         let Ok(progress) = self.add_start(ballot) else {
-            self.losses = counted(self.losses, false);
-            return Ok(());
+            return false;
         };
         match self.become_active(progress) {
             Ok(waiting) => self.begin(committed, waiting, out),
-            Err(halted) => {
+            Err(_) => {
                 self.take_back_start();
-                Err(halted)
+                false
             }
         }
     }
@@ -57,13 +54,11 @@ impl<M: Machine> Replica<M> {
     // Removes the start again, because memory ran out.
     fn take_back_start(&mut self)
         requires after { self.old.state.committed < places self.old.state.log }
-        ensures { self.new ≡ record {
+        ensures { self.new ≡ record self.old {
           state = record self.old.state { log = popped self.old.state.log };
-          losses = one_more self.old.losses;
         } }
     {
         self.log.pop();
-        self.losses = counted(self.losses, false);
     }
 
     // Appends the start of a ballot to the log. Returns a progress for each other member, at the
@@ -117,21 +112,21 @@ impl<M: Machine> Replica<M> {
         }
     }
 
-    // Sends the start to the other members, as an active primary, and commits what all hold. If the
-    // replica stops, it is Installing again, with this applied length and this progress.
+    // Sends the start to the other members, as an active primary, and commits what all hold.
+    // Returns true if nothing was lost. If the replica stops, it is Installing again, with this
+    // applied length and this progress.
     fn begin(
         &mut self,
         committed: u64,
         waiting: Vec<Progress>,
         out: &mut Vec<Effect<M::Command, M::Output>>,
-    ) -> Result<(), Halted>
+    ) -> bool
         requires running { self.old.state.stopped ≡ false }
         requires some { 0 < length self.old.state.log.rest }
         requires applied { self.old.state.log.base ≤ committed }
         requires after { committed < places self.old.state.log }
-        ensures outcome { MatchResult result
-            (λ _. ActivationOrLost M.rules self.old self.new out.old.items out.new.items)
-            (λ _. (out.new.items ≡ out.old.items) × (self.new ≡ record {
+        ensures { ActivationOrLost M.rules self.old result self.new out.old.items out.new.items
+            ⊎ ((result ≡ false) × (out.new.items ≡ out.old.items) × (self.new ≡ record self.old {
               state = record self.old.state {
                 log = popped self.old.state.log;
                 committed = committed;
@@ -140,23 +135,18 @@ impl<M: Machine> Replica<M> {
                 stopped = true;
                 machine = M.rules.opening;
               };
-              losses = one_more self.old.losses;
             })) }
     {
         let before = out.len();
         match self.send_start(out) {
-            Ok(sent) => {
-                self.losses = counted(self.losses, sent);
-                Ok(())
-            }
-            Err(halted) => {
+            Ok(sent) => sent,
+            Err(_) => {
                 self.log.pop();
                 self.committed = committed;
                 self.role = Role::Installing;
                 self.progress = waiting;
                 out.truncate(before);
-                self.losses = counted(self.losses, false);
-                Err(halted)
+                false
             }
         }
     }

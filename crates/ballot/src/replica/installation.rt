@@ -1,6 +1,6 @@
 // Handling Installed and Superseded: the end of a log transfer at the new primary.
 
-ghost use Rattle.std.specs.Prelude.{◌≡◌, ◌&&◌, ◌==◌, []};
+ghost use Rattle.std.specs.Prelude.{◌≡◌, ◌&&◌, ◌==◌, true, []};
 ghost use Rattle.std.specs.List.{list_any};
 ghost use Rattle.ballot.specs.Inside.{PlainStepOrLost};
 ghost use Rattle.ballot_base.specs.Activation.{is_installing_in, on_installed, on_superseded};
@@ -17,26 +17,26 @@ impl<M: Machine> Replica<M> {
         from: u8,
         ballot: u64,
         out: &mut Vec<Effect<M::Command, M::Output>>,
-    )
+    ) -> bool
         ensures step { PlainStepOrLost M.rules self.old
-            (on_installed M.Output self.old.state from ballot)
+            (on_installed M.Output self.old.state from ballot) result
             self.new out.old.items out.new.items }
         ensures runs { self.new.state.stopped ≡ self.old.state.stopped }
     {
         if !self.waits_for_answer(from, ballot) {
-            return;
+            return true;
         }
         forget(from, &mut self.lacking);
         if !self.lacking.is_empty() {
-            return;
+            return true;
         }
-        self.send_counted(MASTER, Body::Activate(self.joined), out);
+        self.send_one(MASTER, Body::Activate(self.joined), out)
     }
 
-    /// Handles Superseded: the new primary gives the ballot up and becomes a backup.
+    /// Handles Superseded: the new primary gives the ballot up and becomes a backup. Loses nothing.
     pub(super) fn on_superseded(&mut self, ballot: u64)
         ensures step { PlainStepOrLost M.rules self.old
-            (on_superseded M.Output self.old.state ballot) self.new [] [] }
+            (on_superseded M.Output self.old.state ballot) true self.new [] [] }
         ensures runs { self.new.state.stopped ≡ self.old.state.stopped }
     {
         if self.installs(ballot) {

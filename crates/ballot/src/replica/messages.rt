@@ -1,7 +1,9 @@
 // Handling the messages of other nodes.
 
-ghost use Rattle.std.specs.Prelude.{◌≡◌, ◌<◌, ◌↔◌, true, false, [], ◌∷◌, OnOk, OnErr, IsErr};
-ghost use Rattle.ballot.specs.Inside.{MessagesOrLost, PlainStepOrLost, ReadingStepOrLost};
+ghost use Rattle.std.specs.Prelude.{◌≡◌, ◌↔◌, true, false, [], ◌∷◌, OnErr, IsErr};
+ghost use Rattle.ballot.specs.Inside.{PlainStepOrLost, ReadingStepOrLost};
+ghost use Rattle.ballot.specs.Told.{StepTold};
+ghost use Rattle.ballot_base.specs.Sends.{Sends};
 ghost use Rattle.ballot_base.specs.Losses.{AppendedStepOrLost, SendsAndAddsNothing, one_more};
 ghost use Rattle.ballot_base.specs.StepOutcome.{message_to};
 ghost use Rattle.ballot_base.specs.Unread.{is_unread};
@@ -46,46 +48,76 @@ impl<M: Machine> Replica<M> {
         ensures stopped { self.old.state.stopped ≡ true → self.new ≡ self.old }
         ensures err { OnErr result (out.new.items ≡ out.old.items) }
     {
-        if self.stopped {
-            return Err(Halted);
-        }
-        self.on_body(message.from, message.body, out)
+        self.deliver(message, out);
+        if self.stopped { Err(Halted) } else { Ok(()) }
     }
 
+    /// Handles a message as [`Replica::on`] does. Returns true if nothing was lost; a loss is
+    /// counted.
+    pub fn deliver(
+        &mut self,
+        message: Message<M::Command>,
+        out: &mut Vec<Effect<M::Command, M::Output>>,
+    ) -> bool
+        ensures step { self.old.state.stopped ≡ false →
+            StepTold M.rules self.old
+            (replica_step M.rules self.old.state (Receives message)) result
+            self.new out.old.items out.new.items }
+        ensures quiet { self.old.state.stopped ≡ false →
+            SendsAndAddsNothing self.old.state
+            (replica_step M.rules self.old.state (Receives message)) →
+            is_unread M.rules self.old.state message.body ≡ false → result ≡ true }
+        ensures unread { self.old.state.stopped ≡ false →
+            is_unread M.rules self.old.state message.body ≡ true →
+            self.new ≡ record self.old { losses = one_more self.old.losses } }
+        ensures stopped { self.old.state.stopped ≡ true →
+            (result ≡ true) × (self.new ≡ self.old) × (out.new.items ≡ out.old.items) }
+        ensures stops { self.new.state.stopped ≡ true → out.new.items ≡ out.old.items }
+    {
+        if self.stopped {
+            return true;
+        }
+        let whole = self.on_body(message.from, message.body, out);
+        self.losses = counted(self.losses, whole);
+        whole
+    }
+
+    // Handles a message by its kind. Returns true if nothing was lost, and counts no loss; the same
+    // holds for the calls for each kind.
     fn on_body(
         &mut self,
         from: u8,
         body: Body<M::Command>,
         out: &mut Vec<Effect<M::Command, M::Output>>,
-    ) -> Result<(), Halted>
+    ) -> bool
         requires { self.old.state.stopped ≡ false }
         ensures step { ReadingStepOrLost M.rules self.old
             (received M.rules self.old.state from body)
-            (is_unread M.rules self.old.state body) self.new out.old.items out.new.items }
+            (is_unread M.rules self.old.state body) result self.new out.old.items out.new.items }
         ensures unread { is_unread M.rules self.old.state body ≡ true →
-            self.new ≡ record self.old { losses = one_more self.old.losses } }
-        ensures ok { OnOk result (self.new.state.stopped ≡ false) }
-        ensures err { OnErr result ((self.new.state.stopped ≡ true) ×
-            (out.new.items ≡ out.old.items)) }
+            (result ≡ false) × (self.new ≡ self.old) }
+        ensures stops { self.new.state.stopped ≡ true → out.new.items ≡ out.old.items }
     {
         match body {
             Body::NewBallot(ballot, members, previous, previous_members) => {
-                self.on_new_ballot(ballot, members, previous, previous_members, out);
+                self.on_new_ballot(ballot, members, previous, previous_members, out)
             }
             Body::Join(ballot, previous) => self.on_join(from, ballot, previous, out),
             Body::State(ballot, log) => self.on_state(ballot, log, out),
             Body::Install(ballot, log) => self.on_install(from, ballot, log, out),
             Body::Installed(ballot, _) => self.on_installed(from, ballot, out),
-            Body::Activate(_) => {}
-            Body::Activated(ballot) => return self.on_activated(ballot, out),
-            Body::Superseded(ballot) => self.on_superseded(ballot),
-            Body::Append(ballot, place, command) => {
-                self.on_append(from, ballot, place, command, out);
+            Body::Activate(_) => true,
+            Body::Activated(ballot) => self.on_activated(ballot, out),
+            Body::Superseded(ballot) => {
+                self.on_superseded(ballot);
+                true
             }
-            Body::Held(ballot, held) => return self.on_held(from, ballot, held, out),
-            Body::Commit(ballot, held) => return self.on_commit(ballot, held),
+            Body::Append(ballot, place, command) => {
+                self.on_append(from, ballot, place, command, out)
+            }
+            Body::Held(ballot, held) => self.on_held(from, ballot, held, out),
+            Body::Commit(ballot, held) => self.on_commit(ballot, held),
         }
-        Ok(())
     }
 
     // Handles Append: a backup appends the next place, and answers with Held.
@@ -96,39 +128,37 @@ impl<M: Machine> Replica<M> {
         place: u64,
         command: M::Command,
         out: &mut Vec<Effect<M::Command, M::Output>>,
-    )
+    ) -> bool
         ensures step { PlainStepOrLost M.rules self.old
-            (on_append M.Output self.old.state from ballot place command) self.new
+            (on_append M.Output self.old.state from ballot place command) result self.new
             out.old.items out.new.items }
         ensures runs { self.new.state.stopped ≡ self.old.state.stopped }
     {
         if !self.follows(ballot) {
-            return;
+            return true;
         }
         if place > self.log.places() {
-            return;
+            return true;
         }
         if !append_next(&mut self.log, place, command) {
-            self.losses = counted(self.losses, false);
-            return;
+            return false;
         }
         let body = Body::Held(ballot, self.log.places());
-        self.send_counted(from, body, out);
+        self.send_one(from, body, out)
     }
 
-    /// Sends one message, and counts a loss if memory runs out.
-    pub(super) fn send_counted(
-        &mut self,
+    /// Sends one message. Returns false if memory runs out.
+    pub(super) fn send_one(
+        &self,
         receiver: u8,
         body: Body<M::Command>,
         out: &mut Vec<Effect<M::Command, M::Output>>,
-    )
-        ensures { MessagesOrLost self.old (message_to M.Output self.old.state.id body receiver ∷ [])
-            self.new out.old.items out.new.items }
+    ) -> bool
+        ensures { Sends out.old.items out.new.items
+            (message_to M.Output self.now.state.id body receiver ∷ []) result }
     {
         let from = self.id;
-        let sent = send(out, receiver, Message { from, body });
-        self.losses = counted(self.losses, sent);
+        send(out, receiver, Message { from, body })
     }
 
     // Handles Held: the primary raises the member's progress, and commits what all members hold.
@@ -138,62 +168,55 @@ impl<M: Machine> Replica<M> {
         ballot: u64,
         held: u64,
         out: &mut Vec<Effect<M::Command, M::Output>>,
-    ) -> Result<(), Halted>
+    ) -> bool
         requires { self.old.state.stopped ≡ false }
         ensures step { PlainStepOrLost M.rules self.old
-            (on_held M.rules self.old.state from ballot held)
+            (on_held M.rules self.old.state from ballot held) result
             self.new out.old.items out.new.items }
-        ensures ok { OnOk result (self.new.state.stopped ≡ false) }
-        ensures err { OnErr result ((self.new.state.stopped ≡ true) ×
-            (out.new.items ≡ out.old.items)) }
+        ensures stops { self.new.state.stopped ≡ true → out.new.items ≡ out.old.items }
     {
         if !self.leads(ballot) {
-            return Ok(());
+            return true;
         }
         let before = out.len();
         let least = least_raised(self.log.places(), from, held, &self.progress);
         match self.commit_at(least, out) {
             Ok(commits_sent) => {
                 raise(from, held, &mut self.progress);
-                self.losses = counted(self.losses, commits_sent);
-                Ok(())
+                commits_sent
             }
-            Err(halted) => {
+            Err(_) => {
                 out.truncate(before);
-                self.losses = counted(self.losses, false);
-                Err(halted)
+                false
             }
         }
     }
 
     // Handles Commit: a backup applies what every member holds, and drops the outputs, which only
     // the primary returns.
-    fn on_commit(&mut self, ballot: u64, held: u64) -> Result<(), Halted>
+    fn on_commit(&mut self, ballot: u64, held: u64) -> bool
         requires { self.old.state.stopped ≡ false }
-        ensures step { PlainStepOrLost M.rules self.old
-            (on_commit M.rules self.old.state ballot held) self.new [] [] }
-        ensures ok { OnOk result (self.new.state.stopped ≡ false) }
-        ensures err { OnErr result (self.new.state.stopped ≡ true) }
+        ensures { PlainStepOrLost M.rules self.old
+            (on_commit M.rules self.old.state ballot held) result self.new [] [] }
     {
         if !self.follows(ballot) {
-            return Ok(());
+            return true;
         }
         if held > self.log.places() {
-            return Ok(());
+            return true;
         }
         if held <= self.committed {
-            return Ok(());
+            return true;
         }
         let from = self.committed;
         match apply_dropping(self.alloc, &mut self.machine, &self.log, from, held) {
             Ok(()) => {
                 self.committed = held;
-                Ok(())
+                true
             }
-            Err(halted) => {
+            Err(_) => {
                 self.stopped = true;
-                self.losses = counted(self.losses, false);
-                Err(halted)
+                false
             }
         }
     }

@@ -1,6 +1,7 @@
 // Retransmission, as time passes.
 
 ghost use Rattle.std.specs.Prelude.{◌≡◌, ◌++◌, true, false};
+ghost use Rattle.ballot.specs.Told.{StepTold};
 ghost use Rattle.ballot_base.specs.Sends.{Sends};
 ghost use Rattle.ballot_base.specs.Losses.{AppendedStepOrLost, SendsAndAddsNothing};
 ghost use Rattle.ballot_base.specs.Protocol.{replica_step, ticked};
@@ -31,11 +32,28 @@ impl<M: Machine> Replica<M> {
         ensures stopped { self.old.state.stopped ≡ true →
             (self.new ≡ self.old) × (out.new.items ≡ out.old.items) }
     {
+        self.retransmit(out);
+    }
+
+    /// Retransmits as [`Replica::tick`] does. Returns true if nothing was lost; a loss is counted.
+    pub fn retransmit(&mut self, out: &mut Vec<Effect<M::Command, M::Output>>) -> bool
+        ensures step { self.old.state.stopped ≡ false →
+            StepTold M.rules self.old (replica_step M.rules self.old.state Ticks) result
+            self.new out.old.items out.new.items }
+        ensures quiet { self.old.state.stopped ≡ false →
+            SendsAndAddsNothing self.old.state
+            (replica_step M.rules self.old.state Ticks) →
+            (result ≡ true) × (self.new ≡ self.old) }
+        ensures state { self.new.state ≡ self.old.state }
+        ensures stopped { self.old.state.stopped ≡ true →
+            (result ≡ true) × (self.new ≡ self.old) × (out.new.items ≡ out.old.items) }
+    {
         if self.stopped {
-            return;
+            return true;
         }
         let whole = self.send_repeats(out);
         self.losses = counted(self.losses, whole);
+        whole
     }
 
     // Sends the retransmissions of the replica's role. Returns true if no message was lost.

@@ -7,12 +7,11 @@ ghost use Rattle.ballot.specs.Inside.{PlainStepOrLost, ReadingStepOrLost};
 ghost use Rattle.ballot_base.specs.Transfer.{on_new_ballot, on_join, on_state, on_install};
 ghost use Rattle.ballot_base.specs.Transfer.{waits_for, lacks};
 ghost use Rattle.ballot_base.specs.Logs.{places};
-ghost use Rattle.ballot_base.specs.Losses.{one_more};
 ghost use Rattle.ballot_base.specs.TakenLog.{taken, with_snapshot};
 ghost use Rattle.ballot_base.specs.Unread.{is_unread};
 
 use super::Replica;
-use ballot_base::{Body, Effect, Log, Members, Role, counted, others_of, send_joins, send_state};
+use ballot_base::{Body, Effect, Log, Members, Role, others_of, send_joins, send_state};
 use machine::Machine;
 
 impl<M: Machine> Replica<M> {
@@ -24,14 +23,14 @@ impl<M: Machine> Replica<M> {
         previous: u64,
         previous_members: Members,
         out: &mut Vec<Effect<M::Command, M::Output>>,
-    )
+    ) -> bool
         ensures step { PlainStepOrLost M.rules self.old
-            (on_new_ballot M.Output self.old.state ballot members previous previous_members)
+            (on_new_ballot M.Output self.old.state ballot members previous previous_members) result
             self.new out.old.items out.new.items }
         ensures runs { self.new.state.stopped ≡ self.old.state.stopped }
     {
         if ballot <= self.joined {
-            return;
+            return true;
         }
         self.joined = ballot;
         self.role = Role::Fetching;
@@ -41,8 +40,7 @@ impl<M: Machine> Replica<M> {
         self.lacking.clear();
         self.progress.clear();
         let receivers = self.previous_members.as_slice();
-        let sent = send_joins(self.id, ballot, previous, receivers, out);
-        self.losses = counted(self.losses, sent);
+        send_joins(self.id, ballot, previous, receivers, out)
     }
 
     /// Handles Join: the replica leaves all lower ballots and sends its log.
@@ -52,18 +50,18 @@ impl<M: Machine> Replica<M> {
         ballot: u64,
         previous: u64,
         out: &mut Vec<Effect<M::Command, M::Output>>,
-    )
+    ) -> bool
         ensures step { PlainStepOrLost M.rules self.old
-            (on_join M.Output self.old.state from ballot previous)
+            (on_join M.Output self.old.state from ballot previous) result
             self.new out.old.items out.new.items }
         ensures runs { self.new.state.stopped ≡ self.old.state.stopped }
     {
         if !self.may_join(ballot, previous) {
-            return;
+            return true;
         }
         let sent = send_state::<M>(self.alloc, self.id, ballot, &self.log, from, out);
         self.leave_for(ballot);
-        self.losses = counted(self.losses, sent);
+        sent
     }
 
     // Joins a ballot, leaving all lower ones.
@@ -87,32 +85,29 @@ impl<M: Machine> Replica<M> {
         ballot: u64,
         log: Log<M::Command>,
         out: &mut Vec<Effect<M::Command, M::Output>>,
-    )
+    ) -> bool
         requires { self.old.state.stopped ≡ false }
         ensures step { ReadingStepOrLost M.rules self.old
             (on_state M.rules self.old.state ballot log)
-            (is_unread M.rules self.old.state (Body.State ballot log))
+            (is_unread M.rules self.old.state (Body.State ballot log)) result
             self.new out.old.items out.new.items }
         ensures unread { is_unread M.rules self.old.state (Body.State ballot log) ≡ true →
-            self.new ≡ record self.old { losses = one_more self.old.losses } }
+            (result ≡ false) × (self.new ≡ self.old) }
         ensures runs { self.new.state.stopped ≡ self.old.state.stopped }
     {
         if !self.waits_for(ballot, log.places()) {
-            return;
+            return true;
         }
         let Ok(lacking) = others_of(self.alloc, self.id, self.members.as_slice()) else {
-            self.losses = counted(self.losses, false);
-            return;
+            return false;
         };
         if !self.take(log) {
-            self.losses = counted(self.losses, false);
-            return;
+            return false;
         }
         self.held_in = ballot;
         self.role = Role::Installing;
         self.lacking = lacking;
-        let sent = self.send_log(out);
-        self.losses = counted(self.losses, sent);
+        self.send_log(out)
     }
 
     /// Handles Install: a member takes the log of a new ballot once. Later it only answers, since
@@ -123,28 +118,29 @@ impl<M: Machine> Replica<M> {
         ballot: u64,
         log: Log<M::Command>,
         out: &mut Vec<Effect<M::Command, M::Output>>,
-    )
+    ) -> bool
         requires { self.old.state.stopped ≡ false }
         ensures step { ReadingStepOrLost M.rules self.old
             (on_install M.rules self.old.state from ballot log)
-            (is_unread M.rules self.old.state (Body.Install ballot log))
+            (is_unread M.rules self.old.state (Body.Install ballot log)) result
             self.new out.old.items out.new.items }
         ensures unread { is_unread M.rules self.old.state (Body.Install ballot log) ≡ true →
-            self.new ≡ record self.old { losses = one_more self.old.losses } }
+            (result ≡ false) × (self.new ≡ self.old) }
         ensures runs { self.new.state.stopped ≡ self.old.state.stopped }
     {
         let held = log.places();
         if self.lacks(ballot, held) {
             if !self.take(log) {
-                self.losses = counted(self.losses, false);
-                return;
+                return false;
             }
             self.joined = ballot;
             self.held_in = ballot;
             self.role = Role::Backup;
-            self.send_counted(from, Body::Installed(ballot, held), out);
+            self.send_one(from, Body::Installed(ballot, held), out)
         } else if self.holds(ballot) {
-            self.send_counted(from, Body::Installed(ballot, held), out);
+            self.send_one(from, Body::Installed(ballot, held), out)
+        } else {
+            true
         }
     }
 

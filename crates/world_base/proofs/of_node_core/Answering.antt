@@ -1,6 +1,6 @@
 -- Answering.antt: what the replica did if memory may have run out, and what it gave.
 use Rattle.std.proofs.Common.{◌≡◌, ◌≤◌, ◌<◌, ℕ, Bool, true, false, not, if◌then◌else◌, ◌⊎◌, inl, inr, List, [], ◌++◌, length, Result, Ok, Err, refl, sym, ap, subst, ◌∙◌}
-use Rattle.std.specs.Prelude.{OnOk, OnErr, IsErr}
+use Rattle.std.specs.Prelude.{OnOk, OnErr}
 use Rattle.std.specs.Result.{is_ok, IsErrOf}
 use Rattle.std.proofs.lemmas.Bool.{lt-ltb, le-ltb, cases_lt}
 use Rattle.broker_base.specs.State.{State}
@@ -11,9 +11,8 @@ use Rattle.ballot_base.specs.declared.errors.error.ProposeError.{ProposeError}
 use Rattle.ballot_base.specs.declared.errors.error.ProposeError.TheVariants.{NotActive, LogFull, Memory, Halted}
 use Rattle.ballot_base.specs.declared.message.Effect.{Effect}
 use Rattle.ballot_base.specs.Losses.{AppendedStepOrLost, ReplicaStepOrLost, StepMessagesOrLost, halted, one_more}
-use Rattle.ballot_base.specs.Protocol.{Input, replica_step}
+use Rattle.ballot_base.specs.Protocol.{Input}
 use Rattle.ballot_base.specs.Replica.{CountedReplica, ReplicaState, is_active}
-use Rattle.ballot_base.specs.StepOutcome.{Outcome, nothing_done}
 use Rattle.ballot_base.specs.Service.{added, max_places, proposed}
 use Rattle.world_base.specs.node_core.Core.{CoreState, rules, serves}
 use Rattle.world_base.specs.node_core.Inside.{NodeReplicaStepOrLost, Answered, HandledAll, ProposedBy, StepPartOrLost}
@@ -26,35 +25,6 @@ use Rattle.world_base.proofs.of_node_core.Accounts.{ran_without_effects}
 use Rattle.world_base.proofs.of_node_core.Delivering.{delivers_nothing}
 
 -- ---- a message or a tick
-
-heard_stopped : (input : Input Command) (r : ReplicaState State Command) → r.stopped ≡ true → nothing_done Output r ≡ outcome_of_input input r
-heard_stopped input r e = ap (λ (b : Bool). if b then nothing_done Output r else replica_step rules r input) (sym e)
-
-heard_running : (input : Input Command) (r : ReplicaState State Command) → r.stopped ≡ false → replica_step rules r input ≡ outcome_of_input input r
-heard_running input r e = ap (λ (b : Bool). if b then nothing_done Output r else replica_step rules r input) (sym e)
-
-pub acts_heard : (input : Input Command) (old : CoreState) (new : CountedReplica State Command) (before later : List (Effect Command Output)) →
-    before ≡ [] →
-    (old.replica.state.stopped ≡ false → AppendedStepOrLost rules old.replica (replica_step rules old.replica.state input) new before later) →
-    (old.replica.state.stopped ≡ true → (new ≡ old.replica) × (later ≡ before)) →
-    NodeReplicaStepOrLost (outcome_of_input input old.replica.state) old (record old { replica = new }) later
-acts_heard input old new before later none step stays =
-    record { replica = new; core = refl; steps = by (old.replica.state.stopped) refl }
-  where
-    by : (b : Bool) → old.replica.state.stopped ≡ b → ReplicaStepOrLost rules old.replica (outcome_of_input input old.replica.state) new later
-    by true e =
-        let same = stays e in
-        subst (λ (o : Outcome State Command Output). ReplicaStepOrLost rules old.replica o new later) (heard_stopped input old.replica.state e)
-        (inl (
-          ap (λ (r : CountedReplica State Command). r.state) same.0,
-          same.1 ∙ none,
-          ap (λ (r : CountedReplica State Command). r.losses) same.0,
-        ))
-    by false e =
-        let did = step e in
-        let given : did.given ≡ later = sym (did.appended ∙ ap (λ (l : List (Effect Command Output)). l ++ did.given) none) in
-        subst (λ (o : Outcome State Command Output). ReplicaStepOrLost rules old.replica o new later) (heard_running input old.replica.state e)
-        (subst (λ (l : List (Effect Command Output)). ReplicaStepOrLost rules old.replica (replica_step rules old.replica.state input) new l) given did.steps)
 
 pub drives_all : (input : Input Command) (a b c : CoreState) (given x y : List (Effect Command Output)) →
     NodeReplicaStepOrLost (outcome_of_input input a.replica.state) a b given → HandledAll given b c x y → StepPartOrLost (Drives input) a c x y
@@ -69,25 +39,6 @@ drives_all input a b c given x y acts delivered =
       core = refl;
       appended = delivered.appended;
     }
-
--- the same as the code has it: the node was changed no more after it
-pub acts_kept : (input : Input Command) (old : CoreState) (new : CountedReplica State Command) (before later : List (Effect Command Output))
-    (after : CoreState) → before ≡ [] →
-    (old.replica.state.stopped ≡ false → AppendedStepOrLost rules old.replica (replica_step rules old.replica.state input) new before later) →
-    (old.replica.state.stopped ≡ true → (new ≡ old.replica) × (later ≡ before)) → after ≡ record old { replica = new } →
-    NodeReplicaStepOrLost (outcome_of_input input old.replica.state) old after later
-acts_kept input old new before later after none step stays kept =
-    subst (λ (k : CoreState). NodeReplicaStepOrLost (outcome_of_input input old.replica.state) old k later) (sym kept)
-    (acts_heard input old new before later none step stays)
-
--- a replica that has stopped hands nothing out
-pub err_of_stopped : {E : Type 0} (result : Result (Unit {0}) E) (old new : CountedReplica State Command) (before later : List (Effect Command Output)) →
-    (IsErr result → new.state.stopped ≡ true) × (new.state.stopped ≡ true → IsErr result) →
-    OnErr result (later ≡ before) → new ≡ old → old.state.stopped ≡ true → later ≡ before
-err_of_stopped (Ok x) old new before later told err same stopped =
-    let e = told.1 (ap (λ (r : CountedReplica State Command). r.state.stopped) same ∙ stopped) in
-    absurd cc
-err_of_stopped (Err e) old new before later told err same stopped = err
 
 -- ---- a command
 

@@ -116,7 +116,7 @@ unfolding drives
 hears_calmly message core heard_so =
     record {
       next = learnt;
-      is = ap (λ (es : List (Effect Command Output)). handled_all es learnt) heard_so.0.nothing_sent;
+      is = ap (λ (es : List (Effect Command Output)). handled_all es learnt) heard_so.nothing_sent;
       fails_none = λ none. none;
       waits = λ each. each;
     }

@@ -1,5 +1,5 @@
 -- ItemsRun.antt: what an item does if memory may have run out, and the step around it.
-use Rattle.std.proofs.Common.{◌≡◌, ◌⊎◌, inl, inr, ℕ, Bool, true, false, if◌then◌else◌, List, None, refl, sym, ap, subst, ◌∙◌}
+use Rattle.std.proofs.Common.{◌≡◌, ◌⊎◌, inl, inr, ℕ, Bool, true, false, not, if◌then◌else◌, List, None, refl, sym, ap, subst, ◌∙◌}
 use Rattle.std.specs.List.{find}
 use Rattle.std.proofs.lemmas.List.{append_cancel_left}
 use Rattle.broker_spec.specs.declared.command.Command.{Command}
@@ -57,12 +57,18 @@ steps_by : (old : CountedCore) (a b : RunningStep) (outcome : StepOutcome) (new 
 steps_by old a b outcome new losses x y turns settles true e counted = inr counted
 steps_by old a b outcome new losses x y turns settles false e counted = inl (exactly_by old a b outcome new losses x y turns settles e counted)
 
+counted_by : (losses before : ℕ) (has_lost : Bool) → losses ≡ (if not has_lost then before else one_more before) →
+    losses ≡ (if has_lost then one_more before else before)
+counted_by losses before true e = e
+counted_by losses before false e = e
+
 pub stepped_by : (old : CountedCore) (item : Item) (a b : RunningStep) (new : CoreState) (losses : ℕ) (x y : List (Effect Command Output)) →
     a.core ≡ old.core → DoesOutcome a b x y (acts_on item a.core) → StepPartOrLost (ActsOn item) a.core b.core x y → new ≡ settled b.core →
-    losses ≡ (if b.has_lost then one_more old.losses else old.losses) → a.has_lost ≡ false →
+    losses ≡ (if not b.has_lost then old.losses else one_more old.losses) → a.has_lost ≡ false →
     (ItemTakesNoMemory item a.core → find has_failed a.core.connections ≡ None → b.has_lost ≡ a.has_lost) →
     ItemStepOrLost old item (record { core = new; losses = losses }) x y
-stepped_by old item a b new losses x y same turns ran settles counted calm quiet =
+stepped_by old item a b new losses x y same turns ran settles counted_so calm quiet =
+    let counted = counted_by losses old.losses b.has_lost counted_so in
     record {
       given = turns.given;
       appended = turns.appended;

@@ -1,5 +1,5 @@
 -- Silences.antt: the silent connection of the lowest port, and what its closing is.
-use Rattle.std.proofs.Common.{◌≡◌, ℕ, ◌+◌, ◌-◌, ◌<◌, ◌≤◌, ◌⊎◌, inl, inr, nat_lt, List, Some, None, refl, sym, subst, ◌∙◌, arith}
+use Rattle.std.proofs.Common.{◌≡◌, ℕ, ◌+◌, ◌-◌, ◌<◌, ◌≤◌, ◌⊎◌, inl, inr, nat_lt, List, Some, None, refl, sym, ap, subst, ◌∙◌, arith}
 use Rattle.std.proofs.lemmas.Bool.{lt-ltb, le-ltb, cases_lt}
 use Rattle.broker_spec.specs.declared.command.Command.{Command}
 use Rattle.broker_spec.specs.declared.command.Output.{Output}
@@ -34,3 +34,9 @@ silent_some now core port some = rw some refl
 pub turns_silent : (now : ℕ) (port : Port) (a b : RunningStep) (x y : List (Effect Command Output)) →
     lowest_silent now a.core.connections ≡ Some port → DoesOutcome a b x y (port_closed port a.core) → DoesOutcome a b x y (ends_silent now a.core)
 turns_silent now port a b x y some turns = subst (λ (t : StepOutcome). DoesOutcome a b x y t) (silent_some now a.core port some) turns
+
+-- none was silent at the start, and nothing has changed
+pub silent_again : {P : Type 0} (now : ℕ) (port : Port) (a b : RunningStep) → (lowest_silent now a.core.connections ≡ None → b ≡ a) →
+    lowest_silent now b.core.connections ≡ Some port → lowest_silent now a.core.connections ≡ None → P
+silent_again now port a b same some none =
+    let f = sym some ∙ ap (λ (r : RunningStep). lowest_silent now r.core.connections) (same none) ∙ none in cc

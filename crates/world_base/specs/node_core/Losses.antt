@@ -1,12 +1,12 @@
 -- How steps with losses are counted, and which steps never are.
-use Rattle.std.specs.Prelude.{◌≡◌, ◌⊎◌, ◌<◌, Bool, false, List, [], ◌++◌, Option, Some, None}
+use Rattle.std.specs.Prelude.{◌≡◌, ◌⊎◌, Bool, false, List, [], ◌++◌, Option, Some, None}
 use Rattle.std.specs.List.{find}
 use Rattle.lists.specs.Lists.{Each}
 use Rattle.broker_spec.specs.declared.command.Command.{Command}
 use Rattle.broker_spec.specs.declared.command.Output.{Output}
 use Rattle.ballot_base.specs.declared.message.Effect.{Effect}
 use Rattle.ballot_base.specs.Compaction.{can_cut}
-use Rattle.ballot_base.specs.Losses.{SendsAndAddsNothing, greatest_count, one_more}
+use Rattle.ballot_base.specs.Losses.{SendsAndAddsNothing, one_more}
 use Rattle.ballot_base.specs.Protocol.{Input}
 use Rattle.ballot_base.specs.Protocol.Input.{Receives, Ticks}
 use Rattle.ballot_base.specs.StepOutcome.{nothing_done}
@@ -54,12 +54,10 @@ was_proposed (Some connection) = is_proposed connection.stage
 
 -- By the protocol the message makes the replica send nothing, append nothing and apply nothing,
 -- though it may learn what a member holds, that a member no longer lacks the log, or that its
--- ballot was superseded. The replica's count of losses is below its maximum, at which it no longer
--- shows whether a call lost something.
+-- ballot was superseded.
 abbrev pub IsHeardQuietly : Message Command → CoreState → Type 0
 IsHeardQuietly message core =
     SendsAndAddsNothing core.replica.state (outcome_of_input (Receives message) core.replica.state)
-    × (core.replica.losses < greatest_count)
 
 -- An item takes no memory if it does nothing. The same holds for a message that is heard quietly
 -- (`IsHeardQuietly`), a crash, and the end of a connection whose CONNECT was not proposed: that

@@ -7,8 +7,8 @@ ghost use Rattle.broker_spec.specs.Sized.{IsSized};
 ghost use Rattle.world_base.specs.node_connections.Connections.{has_failed, awaits_first_packet, is_proposed};
 ghost use Rattle.world_base.specs.node_connections.ConnectionChanges.{closed_connection, with_unread};
 ghost use Rattle.world_base.specs.node_core.Inside.{TakesPacket, DoesOutcome, StepPartOrLost, ReportsLost, WithoutFailure};
-ghost use Rattle.world_base.specs.declared.node_core.item.Item.TheVariants as items;
-ghost use Rattle.world_base.specs.node_core.Losses.{DoesNothing, IsHeardQuietly, ReadsNone, ItemTakesNoMemory, was_proposed};
+ghost use Rattle.world_base.specs.node_connections.Silent.{lowest_silent};
+ghost use Rattle.world_base.specs.node_core.Losses.{ItemTakesNoMemory, was_proposed};
 ghost use Rattle.world_base.specs.node_core.Lossy.{without_effects};
 ghost use Rattle.world_base.specs.node_core.LossyProposals.{ProposesCommand};
 ghost use Rattle.world_base.specs.node_core.LossyStep.{ActsOn, EndsAllSilent, HoldsBytes, ReportsAllFailed, ReadsPackets, DoesItem};
@@ -18,12 +18,12 @@ ghost use Rattle.world_base.specs.node_core.FailedConnections.{reports_all_faile
 ghost use Rattle.world_base.specs.node_core.KeepAlive.{ends_all_silent};
 ghost use Rattle.world_base.specs.node_core.PacketInput.{connect_proposed, takes_first_packet, changes, port_closed, open_at, reads_all, reads_next, proposes_packet};
 ghost use Rattle.world_base.specs.node_core.Step.{acts_on, does_item};
-ghost use Rattle.world_base.specs.node_core.Effects.{proposes, without_messages};
+ghost use Rattle.world_base.specs.node_core.Effects.{has_room, proposes, without_messages};
 
 use crate::node_connections::{ConnectionStage, Front, Piece, Port};
 use crate::node_core::item::Item;
 use crate::node_core::stepping_node::SteppingNode;
-use ballot_base::{Effect, Message};
+use ballot_base::Effect;
 use broker_spec::{Command, ConnectionName, Output, SizedPacket};
 use packet::{Connect, Packet};
 use packet_base::ClientId;
@@ -40,27 +40,7 @@ impl SteppingNode {
             find has_failed self.old.core.connections ≡ None →
             self.new.has_lost ≡ self.old.has_lost }
     {
-        if self.ignores(&item) {
-            return self.report_failed(effects);
-        }
         self.do_item(item, effects);
-        self.report_failed(effects);
-    }
-
-    /// Handles a message without effect: reports each connection that failed to the broker.
-    pub(crate) fn pass_over(
-        &mut self,
-        message: &Message<Command>,
-        effects: &mut Vec<Effect<Command, Output>>,
-    )
-        requires { DoesNothing (items.Peer message.now) self.old.core }
-        ensures exact { DoesOutcome self.old self.new effects.old.items effects.new.items
-            (acts_on (items.Peer message.now) self.old.core) }
-        ensures lossy { StepPartOrLost (ActsOn (items.Peer message.now)) self.old.core self.new.core
-            effects.old.items effects.new.items }
-        ensures quiet { find has_failed self.old.core.connections ≡ None →
-            self.new.has_lost ≡ self.old.has_lost }
-    {
         self.report_failed(effects);
     }
 
@@ -70,12 +50,7 @@ impl SteppingNode {
             (does_item item self.old.core) }
         ensures lossy { StepPartOrLost
             (DoesItem item) self.old.core self.new.core effects.old.items effects.new.items }
-        ensures heard { (message : Message Command) → item ≡ items.Peer message →
-            IsHeardQuietly message self.old.core → ReadsNone message self.old.core →
-            WithoutFailure self.old self.new }
-        ensures crash { item ≡ items.Crash → WithoutFailure self.old self.new }
-        ensures ended { (port : Port) → item ≡ items.Ended port →
-            was_proposed (open_at port self.old.core) ≡ false → WithoutFailure self.old self.new }
+        ensures quiet { ItemTakesNoMemory item self.old.core → WithoutFailure self.old self.new }
     {
         match item {
             Item::Peer(message) => self.receive(message, effects),
@@ -101,6 +76,7 @@ impl SteppingNode {
             (proposes (commands.Expel client) self.old.core) }
         ensures lossy { StepPartOrLost (ProposesCommand (commands.Expel client)) self.old.core
             self.new.core effects.old.items effects.new.items }
+        ensures quiet { has_room self.old.core ≡ false → self.new ≡ self.old }
     {
         self.propose(Command::Expel(client), effects);
     }
@@ -111,6 +87,7 @@ impl SteppingNode {
             (ends_all_silent now self.old.core) }
         ensures lossy { StepPartOrLost
             (EndsAllSilent now) self.old.core self.new.core effects.old.items effects.new.items }
+        ensures none { lowest_silent now self.old.core.connections ≡ None → self.new ≡ self.old }
     {
         for _connection in 0..self.listed() {
             let Some(port) = self.lowest_silent(now) else {
@@ -127,6 +104,7 @@ impl SteppingNode {
         ensures lossy { StepPartOrLost
             (HoldsBytes port piece) self.old.core self.new.core
             effects.old.items effects.new.items }
+        ensures none { open_at port self.old.core ≡ None → self.new ≡ self.old }
     {
         if !self.hold_at(port, &piece) {
             self.has_lost = true;
@@ -141,6 +119,7 @@ impl SteppingNode {
         ensures lossy { StepPartOrLost
             (ReadsPackets now port) self.old.core self.new.core
             effects.old.items effects.new.items }
+        ensures none { open_at port self.old.core ≡ None → self.new ≡ self.old }
     {
         for _packet in 0..self.unread_len(port) {
             if !self.read_next(port, now, effects) {
@@ -293,9 +272,9 @@ impl SteppingNode {
         }
     }
 
-    // Reports each failed connection to the broker. What the broker then sends may close others,
-    // which are reported too.
-    fn report_failed(&mut self, effects: &mut Vec<Effect<Command, Output>>)
+    /// Reports each failed connection to the broker. What the broker then sends may close others,
+    /// which are reported too.
+    pub(crate) fn report_failed(&mut self, effects: &mut Vec<Effect<Command, Output>>)
         ensures exact { DoesOutcome self.old self.new effects.old.items effects.new.items
             (reports_all_failed self.old.core) }
         ensures lossy { StepPartOrLost ReportsAllFailed

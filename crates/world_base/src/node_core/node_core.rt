@@ -13,12 +13,11 @@
 // When the node no longer leads a ballot, the step closes all connections. A name is therefore used
 // only in its own ballot, and clients reconnect at the new primary.
 
-ghost use Rattle.std.specs.Prelude.{◌≡◌, ◌≤◌, ◌↔◌, ◌++◌, false, not, [], if◌then◌else◌, IfOk, IsOk, IsErrOf, OnErr, OnOk};
+ghost use Rattle.std.specs.Prelude.{◌≡◌, ◌≤◌, ◌↔◌, ◌++◌, false, not, [], IfOk, IsOk, IsErrOf, OnErr, OnOk};
 ghost use Rattle.std.specs.Option.{is_some};
 ghost use Rattle.ballot_base.specs.LawfulConfig.{is_lawful};
 ghost use Rattle.ballot_base.specs.Compaction.{can_cut};
 ghost use Rattle.ballot_base.specs.Logs.{places};
-ghost use Rattle.ballot_base.specs.Losses.{one_more};
 ghost use Rattle.ballot_base.specs.Replica.{status_of};
 ghost use Rattle.broker_spec.specs.Connection.{is_connection_name};
 ghost use Rattle.world_base.specs.node_core.Core.{opening_core};
@@ -30,11 +29,11 @@ ghost use Rattle.world_base.specs.node_connections.Stands.{standing_of};
 ghost use Rattle.world_base.specs.node_core.Effects.{has_room};
 ghost use Rattle.world_base.specs.node_core.Losses.{DoesNothing, ItemStepOrLost};
 
-use crate::node_connections::{Handed, Port, Standing};
+use crate::node_connections::{Handed, Port, Standing, has_port, push_idle};
 use crate::node_core::item::Item;
 use crate::node_core::stepping_node::SteppingNode;
 use ballot_base::errors::OpeningError;
-use ballot_base::{Config, Effect, MAX_NODE, Message, Status};
+use ballot_base::{Config, Effect, MAX_NODE, MAX_PLACES, Message, Status, counted};
 use broker_spec::{Command, Output};
 use machine::Memory;
 use std::alloc::Global;
@@ -85,7 +84,7 @@ impl NodeCore {
     pub fn status(&self) -> Status
         ensures { result ≡ status_of self.now.core.replica.state }
     {
-        self.stepping.status()
+        self.stepping.replica.status()
     }
 
     /// Returns the commands of the replica's log from its base on, which [`NodeCore::snapshot`]
@@ -96,7 +95,7 @@ impl NodeCore {
         ensures within { self.now.core.replica.state.committed
             ≤ places self.now.core.replica.state.log }
     {
-        self.stepping.rest()
+        self.stepping.replica.rest()
     }
 
     /// Returns the base of the replica's log and the snapshot at it, which is empty at base 0.
@@ -106,7 +105,7 @@ impl NodeCore {
         ensures none { result.0 ≡ 0 → result.1.now ≡ [] }
         ensures applied { result.0 ≤ self.now.core.replica.state.committed }
     {
-        self.stepping.snapshot()
+        self.stepping.replica.snapshot()
     }
 
     /// Returns true if a proposal, such as that of an [`Item::Expel`], would be taken: the replica
@@ -114,7 +113,8 @@ impl NodeCore {
     pub fn has_room(&self) -> bool
         ensures { result ≡ has_room self.now.core }
     {
-        self.stepping.has_room()
+        let status = self.stepping.replica.status();
+        status.serves() && status.held < MAX_PLACES
     }
 
     /// Returns true if an [`Item::Cut`] has something to cut: the replica runs, and has applied
@@ -122,7 +122,7 @@ impl NodeCore {
     pub fn can_cut(&self) -> bool
         ensures { result ≡ can_cut self.now.core.replica.state }
     {
-        self.stepping.can_cut()
+        self.stepping.replica.can_cut()
     }
 
     /// Returns how many steps lost something, because memory ran out or a snapshot could not be
@@ -137,7 +137,7 @@ impl NodeCore {
     pub fn has_port(&self, port: Port) -> bool
         ensures { result ≡ is_some (listed_at port self.now.core) }
     {
-        self.stepping.has_port(port)
+        has_port(&self.stepping.connections, port)
     }
 
     /// Returns the state of a port's connection.
@@ -151,14 +151,15 @@ impl NodeCore {
     pub fn has_no_name_left(&self) -> bool
         ensures { result ≡ not (is_connection_name (next_name self.now.core)) }
     {
-        self.stepping.has_no_name_left()
+        self.stepping.next_name().is_none()
     }
 
     /// Returns true if a message of another node would have an effect; without one it is ignored.
     pub fn heeds(&self, message: &Message<Command>) -> bool
         ensures { (result ≡ false) ↔ DoesNothing (Item.Peer message.now) self.now.core }
     {
-        self.stepping.heeds(message)
+        let replica = &self.stepping.replica;
+        !replica.status().stopped && replica.heeds(message)
     }
 
     /// Handles a message without effect: as [`NodeCore::step`] with it, but without a copy.
@@ -171,9 +172,9 @@ impl NodeCore {
         ensures { ItemStepOrLost self.old (Item.Peer message.now) self.new
             effects.old.items effects.new.items }
     {
-        self.stepping.begin_step();
-        self.stepping.pass_over(message, effects);
-        self.losses = losses_after(self.losses, self.stepping.has_lost());
+        self.stepping.has_lost = false;
+        self.stepping.report_failed(effects);
+        self.losses = counted(self.losses, !self.stepping.has_lost);
         self.stepping.settle();
     }
 
@@ -183,9 +184,9 @@ impl NodeCore {
     pub fn step(&mut self, item: Item, effects: &mut Vec<Effect<Command, Output>>)
         ensures { ItemStepOrLost self.old item self.new effects.old.items effects.new.items }
     {
-        self.stepping.begin_step();
+        self.stepping.has_lost = false;
         self.stepping.act_on(item, effects);
-        self.losses = losses_after(self.losses, self.stepping.has_lost());
+        self.losses = counted(self.losses, !self.stepping.has_lost);
         self.stepping.settle();
     }
 
@@ -217,16 +218,6 @@ impl NodeCore {
             (ports.new.items ≡ ports.old.items ++ idle_ports self.now.core) }
         ensures err { OnErr result (IsPrefixOf ports.old.items ports.new.items) }
     {
-        self.stepping.idle_ports(ports)
-    }
-}
-
-fn losses_after(losses: u64, has_lost: bool) -> u64
-    ensures { result ≡ (if has_lost then one_more losses else losses) }
-{
-    if has_lost {
-        losses.saturating_add(1)
-    } else {
-        losses
+        push_idle(&self.stepping.connections, ports)
     }
 }

@@ -4,11 +4,10 @@ ghost use Rattle.std.specs.Prelude.{◌≡◌, ◌++◌, [], IfOk, IsOk, OnErr, 
 ghost use Rattle.std.specs.List.{position};
 ghost use Rattle.world_base.specs.node_connections.Connections.{is_at};
 ghost use Rattle.world_base.specs.node_connections.Stands.{standing_of};
-ghost use Rattle.lists.specs.Lists.{IsPrefixOf};
 ghost use Rattle.world_base.specs.node_connections.PendingOutput.{handed_after, pending_bytes};
-ghost use Rattle.world_base.specs.node_core.PortOutput.{hands_over, idle_ports, listed_at};
+ghost use Rattle.world_base.specs.node_core.PortOutput.{hands_over, listed_at};
 
-use crate::node_connections::{Handed, Port, Standing, keep_listed, push_idle};
+use crate::node_connections::{Handed, Port, Standing, keep_listed};
 use crate::node_core::stepping_node::SteppingNode;
 use machine::Memory;
 
@@ -34,16 +33,6 @@ impl SteppingNode {
         connection.outgoing(out)?;
         keep_listed(&mut self.connections);
         Ok(handed)
-    }
-
-    /// Appends the ports of the open connections without pending output. If memory runs out, some
-    /// of them may have been appended.
-    pub(crate) fn idle_ports(&self, ports: &mut Vec<Port>) -> Result<(), Memory>
-        ensures ok { OnOk result
-            (ports.new.items ≡ ports.old.items ++ idle_ports self.now.core) }
-        ensures err { OnErr result (IsPrefixOf ports.old.items ports.new.items) }
-    {
-        push_idle(&self.connections, ports)
     }
 
     /// Returns the state of a port's connection.

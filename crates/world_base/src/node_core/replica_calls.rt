@@ -1,12 +1,12 @@
 // Calls of the replica. Its effects are handled at once.
 
-ghost use Rattle.std.specs.Prelude.{◌≡◌, ◌<◌, false, true, [], ◌∷◌};
-ghost use Rattle.ballot_base.specs.Losses.{greatest_count};
+ghost use Rattle.std.specs.Prelude.{◌≡◌, if◌then◌else◌, false, true, [], ◌∷◌};
+ghost use Rattle.ballot_base.specs.Compaction.{can_cut};
 ghost use Rattle.ballot_base.specs.Protocol.Input.{Receives, Ticks};
 ghost use Rattle.ballot_base.specs.Service.{proposed};
 ghost use Rattle.world_base.specs.node_core.Core.{rules, serves};
 ghost use Rattle.world_base.specs.node_core.Inside.{NodeReplicaStepOrLost, Answered, HandledAll, DoesExactly, DoesOutcome, StepsReplica, ProposedBy, StepPartOrLost, WithoutFailure};
-ghost use Rattle.world_base.specs.node_core.Losses.{IsHeardQuietly, ReadsNone};
+ghost use Rattle.world_base.specs.node_core.Losses.{IsHeardQuietly, IsIgnored, ReadsNone};
 ghost use Rattle.world_base.specs.node_core.Lossy.{Drives, Performs, without_effects};
 ghost use Rattle.world_base.specs.node_core.LossyStep.{LogCutOrLost};
 ghost use Rattle.world_base.specs.node_core.Step.{cuts};
@@ -28,6 +28,7 @@ impl SteppingNode {
         ensures lossy { StepPartOrLost (ProposedBy result command) self.old.core self.new.core
             effects.old.items effects.new.items }
         ensures taken { self.new.has_lost ≡ false → result ≡ has_room self.old.core }
+        ensures quiet { has_room self.old.core ≡ false → self.new ≡ self.old }
     {
         if !self.serves() {
             return false;
@@ -50,10 +51,11 @@ impl SteppingNode {
             (proposed rules self.old.core.replica.state command) given.new.items }
         ensures answered { Answered result command self.old.core self.new.core given.new.items }
         ensures taken { self.new.has_lost ≡ false → result ≡ has_room self.old.core }
+        ensures quiet { has_room self.old.core ≡ false →
+            (self.new ≡ self.old) × (given.new.items ≡ []) }
     {
-        let before = self.replica.losses();
-        let put = self.replica.propose(command, given);
-        self.note_losses(before);
+        let (put, whole) = self.replica.append(command, given);
+        self.note(whole);
         put.is_ok()
     }
 
@@ -86,10 +88,8 @@ impl SteppingNode {
         ensures quiet { IsHeardQuietly message self.old.core → ReadsNone message self.old.core →
             WithoutFailure self.old self.new × (given.new.items ≡ []) }
     {
-        let before = self.replica.losses();
-        // A replica that stops counts a loss; one that had stopped does nothing.
-        let _ = self.replica.on(message, given);
-        self.note_losses(before);
+        let whole = self.replica.deliver(message, given);
+        self.note(whole);
     }
 
     /// Ticks the replica, and handles the effects at once.
@@ -98,6 +98,7 @@ impl SteppingNode {
             (drives Ticks self.old.core) }
         ensures lossy { StepPartOrLost
             (Drives Ticks) self.old.core self.new.core effects.old.items effects.new.items }
+        ensures quiet { IsIgnored Ticks self.old.core → self.new ≡ self.old }
     {
         let mut given = Vec::new(self.alloc);
         self.tick_replica(&mut given);
@@ -111,33 +112,33 @@ impl SteppingNode {
             (outcome_of_input Ticks self.old.core.replica.state) given.new.items }
         ensures acts { NodeReplicaStepOrLost (outcome_of_input Ticks self.old.core.replica.state)
             self.old.core self.new.core given.new.items }
+        ensures quiet { IsIgnored Ticks self.old.core →
+            (self.new ≡ self.old) × (given.new.items ≡ []) }
     {
-        let before = self.replica.losses();
-        self.replica.tick(given);
-        self.note_losses(before);
+        let whole = self.replica.retransmit(given);
+        self.note(whole);
     }
 
     /// Cuts the replica's log if there is something to cut.
     pub(crate) fn cut_log(&mut self)
         ensures exact { DoesExactly self.old self.new (cuts self.old.core) }
         ensures lossy { LogCutOrLost self.old.core (without_effects self.new.core) }
+        ensures quiet { can_cut self.old.core.replica.state ≡ false → self.new ≡ self.old }
     {
-        let before = self.replica.losses();
-        self.replica.cut();
-        self.note_losses(before);
+        if !self.replica.can_cut() {
+            return;
+        }
+        let whole = self.replica.cut();
+        self.note(whole);
     }
 
-    // Sets `has_lost` if the replica's count of losses has risen above `before`.
-    fn note_losses(&mut self, before: u64)
-        ensures kept { self.new.core ≡ self.old.core }
-        ensures none { self.new.has_lost ≡ false →
-            (self.old.has_lost ≡ false) ×
-            ((self.old.core.replica.losses ≡ before) × (before < greatest_count)) }
-        ensures same { self.old.core.replica.losses ≡ before → before < greatest_count →
-            self.new ≡ self.old }
+    // Notes a loss, unless a call of the replica was whole.
+    fn note(&mut self, whole: bool)
+        ensures { self.new ≡ record self.old {
+          has_lost = if whole then self.old.has_lost else true;
+        } }
     {
-        let after = self.replica.losses();
-        if after != before || after == u64::MAX {
+        if !whole {
             self.has_lost = true;
         }
     }

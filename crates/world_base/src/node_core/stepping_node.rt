@@ -1,41 +1,36 @@
 // The node during a step: `NodeCore` without its count of losses.
 //
-// `has_lost` is set by the part of a step that lost something and read by `NodeCore` at its end, so
-// a step with several losses counts once. While it is unset, each call is exactly its definition in
-// `specs/node_core`; in any case it has done no more than the `Lossy*` definitions allow.
+// `has_lost` is cleared when a step begins, set by the part of it that lost something and read at
+// its end, so a step with several losses counts once. While it is unset, each call is exactly its
+// definition in `specs/node_core`; in any case it did no more than the `Lossy*` definitions allow.
 //
 // Invariant: `last_count <= MAX_COUNT`. Names are given in rising order of ballot and count, so
 // none is given twice. A connection that fails is only marked (`Failed`) while effects are handled,
 // and its loss is proposed after them: so handling an output never leads to a proposal within it.
 
-ghost use Rattle.std.specs.Prelude.{◌≡◌, ◌⊎◌, ◌≤◌, ◌↔◌, false, true, not, [], length, IfOk, IfSome, OnSome, IfNone, IsErrOf};
+ghost use Rattle.std.specs.Prelude.{◌≡◌, ◌⊎◌, ◌≤◌, ◌↔◌, false, true, length, None, IfOk, IfSome, OnSome, IfNone, IsErrOf};
 ghost use Rattle.std.specs.List.{position};
-ghost use Rattle.std.specs.Option.{is_some};
 ghost use Rattle.broker_spec.specs.Connection.{is_connection_name, max_count};
 ghost use Rattle.ballot_base.specs.LawfulConfig.{is_lawful};
-ghost use Rattle.ballot_base.specs.Compaction.{can_cut};
-ghost use Rattle.ballot_base.specs.Logs.{places};
-ghost use Rattle.ballot_base.specs.Replica.{status_of};
 ghost use Rattle.world_base.specs.node_connections.Connections.{has_failed, is_open_at, is_open_named};
 ghost use Rattle.world_base.specs.node_connections.ConnectionChanges.{noted_proposed, closed_connection, failing, with_unread, with_queued};
 ghost use Rattle.world_base.specs.node_core.Core.{opening_core, serves};
-ghost use Rattle.world_base.specs.node_core.PortOutput.{listed_at};
 ghost use Rattle.world_base.specs.node_core.Inside.{DoesExactly};
 ghost use Rattle.world_base.specs.node_connections.Silent.{lowest_silent};
 ghost use Rattle.packet.specs.Spelling.{spelling};
 ghost use Rattle.world_base.specs.node_core.PacketInput.{changes, open_at, unread_of};
 ghost use Rattle.world_base.specs.node_connections.Refusals.{connect_refused};
 ghost use Rattle.world_base.specs.node_core.Step.{accepted, accepts_connection, next_name, with_next_connection, settled};
-ghost use Rattle.world_base.specs.node_core.Effects.{changes_named, has_room};
+ghost use Rattle.world_base.specs.node_core.Effects.{changes_named};
 
 use crate::node_connections::{
     Connection, Piece, Port, close_each, has_port, keep_listed, lowest_silent, push,
 };
 use ballot::Replica;
 use ballot_base::errors::OpeningError;
-use ballot_base::{Config, MAX_NODE, MAX_PLACES, Status};
+use ballot_base::{Config, MAX_NODE};
 use broker::BrokerMachine;
-use broker_spec::{Command, ConnectionName};
+use broker_spec::ConnectionName;
 use packet::Packet;
 use packet_base::RefusalCode;
 use std::alloc::Global;
@@ -111,72 +106,11 @@ impl SteppingNode {
         })
     }
 
-    /// Begins a step: clears `has_lost`.
-    pub(crate) fn begin_step(&mut self)
-        ensures { self.new ≡ record self.old { has_lost = false } }
-    {
-        self.has_lost = false;
-    }
-
-    /// Returns true if something was lost in this step.
-    pub(crate) fn has_lost(&self) -> bool
-        ensures { result ≡ self.now.has_lost }
-    {
-        self.has_lost
-    }
-
-    /// Returns what the replica shows of itself.
-    pub(crate) fn status(&self) -> Status
-        ensures { result ≡ status_of self.now.core.replica.state }
-    {
-        self.replica.status()
-    }
-
-    /// Returns the commands of the replica's log from its base on.
-    pub(crate) fn rest(&self) -> &[Command]
-        ensures rest { result.now ≡ self.now.core.replica.state.log.rest }
-        ensures within { self.now.core.replica.state.committed
-            ≤ places self.now.core.replica.state.log }
-    {
-        self.replica.rest()
-    }
-
-    /// Returns the base of the replica's log, and the snapshot at it.
-    pub(crate) fn snapshot(&self) -> (u64, &[u8])
-        ensures base { result.0 ≡ self.now.core.replica.state.log.base }
-        ensures bytes { result.1.now ≡ self.now.core.replica.state.log.snapshot }
-        ensures none { result.0 ≡ 0 → result.1.now ≡ [] }
-        ensures applied { result.0 ≤ self.now.core.replica.state.committed }
-    {
-        self.replica.snapshot()
-    }
-
-    /// Returns true if the replica has applied places to cut.
-    pub(crate) fn can_cut(&self) -> bool
-        ensures { result ≡ can_cut self.now.core.replica.state }
-    {
-        self.replica.can_cut()
-    }
-
-    /// Returns true if a connection of this port is listed.
-    pub(crate) fn has_port(&self, port: Port) -> bool
-        ensures { result ≡ is_some (listed_at port self.now.core) }
-    {
-        has_port(&self.connections, port)
-    }
-
     /// Returns true if the node serves clients: its replica is the active primary and runs.
     pub(crate) fn serves(&self) -> bool
         ensures { result ≡ serves self.now.core }
     {
         self.replica.status().serves()
-    }
-
-    /// Returns true if a proposal would be taken: by an active primary whose log has room.
-    pub(crate) fn has_room(&self) -> bool
-        ensures { result ≡ has_room self.now.core }
-    {
-        self.serves() && self.replica.status().held < MAX_PLACES
     }
 
     /// Returns the index of the open connection of a port in the list.
@@ -275,6 +209,8 @@ impl SteppingNode {
                   changes port (with_unread piece.now) self.old.core;
             } }
         ensures same { result ≡ false → self.new ≡ self.old }
+        ensures none { open_at port self.old.core ≡ None →
+            (result ≡ true) × (self.new ≡ self.old) }
     {
         match self.index_at(port) {
             Some(index) => self.connections[index].hold(piece).is_ok(),
@@ -321,20 +257,13 @@ impl SteppingNode {
         }
     }
 
-    // Returns the name of the next connection; `None` if all of the ballot are used.
-    fn next_name(&self) -> Option<ConnectionName>
+    /// Returns the name of the next connection; `None` if all of the ballot are used.
+    pub(crate) fn next_name(&self) -> Option<ConnectionName>
         ensures named { IfSome result (λ name. name ≡ next_name self.now.core) }
         ensures some { OnSome result (is_connection_name (next_name self.now.core) ≡ true) }
         ensures none { IfNone result (is_connection_name (next_name self.now.core) ≡ false) }
     {
         ConnectionName::new(self.replica.status().ballot, self.accepted() + 1)
-    }
-
-    /// Returns true if all connection names of the ballot are used.
-    pub(crate) fn has_no_name_left(&self) -> bool
-        ensures { result ≡ not (is_connection_name (next_name self.now.core)) }
-    {
-        self.next_name().is_none()
     }
 
     /// Returns the name for a new connection of a port; `None` if it is not accepted.
@@ -358,6 +287,7 @@ impl SteppingNode {
         ensures exact { DoesExactly self.old self.new (with_next_connection port self.old.core) }
         ensures lossy { (self.new.core ≡ with_next_connection port self.old.core)
             ⊎ (self.new.core ≡ self.old.core) }
+        ensures none { accepts_connection port self.old.core ≡ false → self.new ≡ self.old }
     {
         let Some(name) = self.name_for(port) else {
             return;

@@ -14,7 +14,7 @@ pub returns-in-Ok-commit_at-clause-outcome : goal.returns-in-Ok-commit_at-clause
 returns-in-Ok-commit_at-clause-outcome g c =
     let steps = g.M.Machine.rules in
     rw (← c.self.view_is)
-    (add_done steps _ _ c.commit_at.new.self _ c.args.command c.push.new.self
+    (add_done steps _ _ c.commit_at.new.self c.args.command c.push.new.self
     c.deref.result.now c.places.result c.least_held-held.result
     c.send_next-sent.result c.in-Ok-commit_at.commits_sent _ _ _
     (rw (← c.self.view_is) at c.send_next-sent.ensures)
@@ -24,6 +24,4 @@ returns-in-Ok-commit_at-clause-outcome g c =
     c.deref.ensures.value
     c.least_held-held.ensures
     c.in-Ok-commit_at.ensures.state
-    c.in-Ok-commit_at.ensures.effects
-    (rw (← c.self-2.view_is) refl)
-    (rw (← c.self-2.view_is) c.counted-self-inside-in-Ok-commit_at.ensures))
+    c.in-Ok-commit_at.ensures.effects)

@@ -1,10 +1,9 @@
 use Rattle.std.proofs.Common.{◌≤◌, ap, sym, ◌∙◌}
-use Rattle.ballot_base.specs.Losses.{one_more}
 use Rattle.ballot_base.specs.Logs.{places}
 use Rattle.ballot_base.specs.Replica.{CountedReplica}
 use Rattle.ballot_base.proofs.ChangeRows.{on_activated-stays}
 use Rattle.ballot.proofs.MessagesTaken.{went_same}
-use Rattle.ballot.proofs.ActivationTaken.{activated_lost, activated_halted, become_active_is, activated_begun, begun_runs, start_after, start_after_active, start_after_stopped}
+use Rattle.ballot.proofs.ActivationTaken.{activated_lost, activated_halted, become_active_is, activated_begun, begun_stops, start_after, start_after_active, start_after_stopped}
 use Rattle.ballot.proofs.replica.Replica.on_activated.Goals as goal
 
 pub returns-then-not-may_begin-clause-step : goal.returns-then-not-may_begin-clause-step
@@ -15,9 +14,7 @@ returns-then-not-may_begin-clause-step g c =
 pub returns-in_default-clause-step : goal.returns-in_default-clause-step
 returns-in_default-clause-step g c =
     let steps = g.M.Machine.rules in
-    activated_lost steps c.args.self.now _ c.args.ballot _ (sym c.may_begin.ensures ∙ c.if-not-may_begin.false)
-    (ap (λ (z : CountedReplica _ _). z.state) (c.self-2.view_is ∙ c.in_default.ensures.err))
-    (c.counted-self-inside.ensures ∙ ap (λ (z : CountedReplica _ _). one_more z.losses) (c.self-2.view_is ∙ c.in_default.ensures.err))
+    activated_lost steps c.args.self.now _ c.args.ballot _ (sym c.may_begin.ensures ∙ c.if-not-may_begin.false) c.in_default.ensures.err
 
 pub become_active-requires-clause-after : goal.become_active-requires-clause-after
 become_active-requires-clause-after g c =
@@ -51,15 +48,15 @@ returns-in-Ok-become_active-clause-step g c =
     c.in-Ok.ensures.state c.in-Ok.ensures.progress c.in-Ok-become_active.ensures.state)
     (ap (λ (z : CountedReplica _ _). z.state.committed) c.self.view_is)
     (c.in-Ok-become_active.ensures.earlier ∙ ap (λ (z : CountedReplica _ _). z.state.progress) c.in-Ok.ensures.state)
-    c.begin.ensures.outcome
+    c.begin.ensures
 
-pub returns-in-Ok-become_active-clause-ok : goal.returns-in-Ok-become_active-clause-ok
-returns-in-Ok-become_active-clause-ok g c =
+pub returns-in-Ok-become_active-clause-stops : goal.returns-in-Ok-become_active-clause-stops
+returns-in-Ok-become_active-clause-stops g c stopped =
     let steps = g.M.Machine.rules in
-    (begun_runs steps c.begin.result c.args.self.now c.become_active.new.self c.begin.new.self c.args.ballot c.self.inside.committed
+    begun_stops steps c.begin.result c.args.self.now c.become_active.new.self c.begin.new.self c.args.ballot c.self.inside.committed
     c.in-Ok-become_active.waiting.items _ _
     (become_active_is steps c.args.self.now c.add_start.new.self c.become_active.new.self c.args.ballot c.in-Ok.progress.items
-    c.in-Ok.ensures.state c.in-Ok.ensures.progress c.in-Ok-become_active.ensures.state) c.requires c.begin.ensures.outcome).0
+    c.in-Ok.ensures.state c.in-Ok.ensures.progress c.in-Ok-become_active.ensures.state) c.requires c.begin.ensures stopped
 
 pub returns-in-Err-clause-step : goal.returns-in-Err-clause-step
 returns-in-Err-clause-step g c =

@@ -23,14 +23,14 @@ returns-then-not-append_next-clause-step g c =
     (sym c.follows.ensures ∙ c.if-not-follows.false)
     (rw (← c.self.view_is) c.if-not-append_next.ensures.lost.1)
     (rw (← c.self.view_is, c.if-not-append_next.ensures.lost.0) refl)
-    (rw (← c.self.view_is) c.counted-self-inside.ensures)
+    (rw (← c.self.view_is) refl)
 
 pub returns-clause-step : goal.returns-clause-step
 returns-clause-step g c =
     let within : c.args.place ≤ places c.args.self.now.state.log =
     rw (← c.self.view_is) (omega (arith, c.places.ensures, c.if-place-places.false)) in
-    append_taken _ c.args.self.now _ c.send_counted.new.self c.args.from c.args.ballot c.args.place c.args.command c.append_next.new.log
-    c.places-2.result _ _
+    append_taken _ c.args.self.now _ c.args.from c.args.ballot c.args.place c.args.command c.append_next.new.log
+    c.places-2.result _ _ c.send_one.result
     (sym c.follows.ensures ∙ c.if-not-follows.false)
     within
     (rw (← c.self.view_is) c.if-not-append_next.ensures.taken)
@@ -38,4 +38,4 @@ returns-clause-step g c =
     (ap (λ (z : CountedReplica _ _). let y : CountedReplica _ _ = record z {
       state = record z.state { log = c.append_next.new.log };
     } in y) c.self.view_is)
-    c.send_counted.ensures
+    c.send_one.ensures

@@ -1,4 +1,4 @@
-use Rattle.std.proofs.Common.{◌≡◌, ◌≤◌, length, refl, ap, sym, ◌∙◌, arith}
+use Rattle.std.proofs.Common.{◌≡◌, ◌≤◌, false, length, refl, ap, sym, ◌∙◌, arith}
 use Rattle.ballot_base.specs.Logs.{places}
 use Rattle.ballot_base.specs.Replica.{CountedReplica}
 use Rattle.ballot_base.specs.Service.{least, raised}
@@ -38,13 +38,15 @@ returns-in-Ok-clause-step g c =
     ∙ c.raise.ensures ∙ ap (raised c.args.from c.args.held) c.deref_mut.ensures.value
     ∙ ap (λ (z : CountedReplica _ _). raised c.args.from c.args.held z.state.progress) c.self-2.view_is)
     (rw (← c.self-2.view_is) refl)
-    (rw (← c.self-2.view_is) c.counted-self-inside.ensures)
+    (rw (← c.self-2.view_is) refl)
 
-pub returns-in-Ok-clause-ok : goal.returns-in-Ok-clause-ok
-returns-in-Ok-clause-ok g c =
+pub returns-in-Ok-clause-stops : goal.returns-in-Ok-clause-stops
+returns-in-Ok-clause-stops g c stopped =
     let steps = g.M.Machine.rules in
+    let runs : c.self-2.inside.stopped ≡ false =
     ap (λ (z : CountedReplica _ _). z.state.stopped) (c.self-2.view_is ∙ c.in-Ok.ensures.state)
-    ∙ commit_at-stopped steps c.args.self.now.state c.least_raised-least.result ∙ c.requires
+    ∙ commit_at-stopped steps c.args.self.now.state c.least_raised-least.result ∙ c.requires in
+    let f = sym stopped ∙ runs in cc
 
 pub returns-in-Err-clause-step : goal.returns-in-Err-clause-step
 returns-in-Err-clause-step g c =
@@ -59,7 +61,6 @@ returns-in-Err-clause-step g c =
     c.least_raised-least.ensures
     c.in-Err.ensures.needed
     c.in-Err.ensures.stops
-    (rw (← c.self-2.view_is) refl)
-    (rw (← c.self-2.view_is) c.counted-self-inside-in-Err.ensures)
+    refl
     (taken_back _ c.len-before.result c.in-Err.ensures.err
     (omega (arith, c.len-before.ensures, c.args.out.now.ok.0)) c.truncate.ensures.items)

@@ -1,39 +1,35 @@
 use Rattle.std.proofs.Common.{ap, sym, ◌∙◌}
 use Rattle.ballot_base.specs.declared.status.Role.TheVariants.{Backup}
 use Rattle.ballot_base.specs.Transfer.{lacks}
-use Rattle.ballot_base.specs.Losses.{one_more}
 use Rattle.ballot_base.specs.Replica.{CountedReplica}
 use Rattle.ballot_base.proofs.ChangeRows.{on_install-stays}
 use Rattle.ballot_base.proofs.LogsTaken.{taken-id}
 use Rattle.ballot.proofs.MessagesTaken.{went_same}
-use Rattle.ballot.proofs.ChangesTaken.{install_taken, install_lost, install_answered, lost_is, not_read, taken_is_read}
+use Rattle.ballot.proofs.ChangesTaken.{install_taken, install_lost, install_answered, not_read, taken_is_read}
 use Rattle.ballot.proofs.replica.Replica.on_install.Goals as goal
 
 pub returns-then-lacks-clause-step : goal.returns-then-lacks-clause-step
 returns-then-lacks-clause-step g c =
     let steps = g.M.Machine.rules in
-    install_taken {rules = steps} c.args.self.now c.take.new.self _ c.send_counted.new.self c.args.from c.args.ballot c.places-held.result c.args.log _ _ _
+    install_taken {rules = steps} c.args.self.now c.take.new.self _ c.args.from c.args.ballot c.places-held.result c.args.log _ _ _ c.send_one.result
     (sym c.lacks.ensures ∙ c.if-lacks.true) c.places-held.ensures c.if-not-take.ensures.took.0 c.if-not-take.ensures.took.1
     (taken-id steps c.args.self.now.state c.take.new.self.state c.args.log c.if-not-take.ensures.took.0)
     (ap (λ (z : CountedReplica _ _). let y : CountedReplica _ _ = record z {
       state = record z.state { joined = c.args.ballot; held_in = c.args.ballot; role = Backup };
     } in y) c.self.view_is)
-    c.send_counted.ensures
+    c.send_one.ensures
 
 pub returns-then-not-take-clause-step : goal.returns-then-not-take-clause-step
 returns-then-not-take-clause-step g c =
     let steps = g.M.Machine.rules in
-    let same = c.self.view_is ∙ c.if-not-take.ensures.unread.0 in
     install_lost {rules = steps} c.args.self.now _ c.args.from c.args.ballot c.places-held.result c.args.log _
-    (sym c.lacks.ensures ∙ c.if-lacks.true) c.places-held.ensures
-    (ap (λ (z : CountedReplica _ _). z.state) same)
-    (c.counted-self-inside.ensures ∙ ap (λ (z : CountedReplica _ _). one_more z.losses) same)
+    (sym c.lacks.ensures ∙ c.if-lacks.true) c.places-held.ensures c.if-not-take.ensures.unread.0
 
 pub returns-then-holds-clause-step : goal.returns-then-holds-clause-step
 returns-then-holds-clause-step g c =
     let steps = g.M.Machine.rules in
-    install_answered {rules = steps} c.args.self.now _ c.args.from c.args.ballot c.places-held.result c.args.log _ _ _
-    (sym c.lacks.ensures ∙ c.if-lacks.false) (sym c.holds.ensures ∙ c.if-holds.true) c.places-held.ensures c.send_counted-then-holds.ensures
+    install_answered {rules = steps} c.args.self.now c.args.from c.args.ballot c.places-held.result c.args.log _ _ _ c.send_one-then-holds.result
+    (sym c.lacks.ensures ∙ c.if-lacks.false) (sym c.holds.ensures ∙ c.if-holds.true) c.places-held.ensures c.send_one-then-holds.ensures
 
 pub returns-clause-step : goal.returns-clause-step
 returns-clause-step g c =
@@ -46,13 +42,6 @@ pub returns-then-lacks-clause-unread : goal.returns-then-lacks-clause-unread
 returns-then-lacks-clause-unread g c = λ unread.
     let steps = g.M.Machine.rules in
     taken_is_read steps c.args.self.now.state c.take.new.self.state c.args.log _ c.if-not-take.ensures.took.0 unread
-
-pub returns-then-not-take-clause-unread : goal.returns-then-not-take-clause-unread
-returns-then-not-take-clause-unread g c = λ unread.
-    let same = c.self.view_is ∙ c.if-not-take.ensures.unread.0 in
-    lost_is c.args.self.now _
-    (ap (λ (z : CountedReplica _ _). z.state) same)
-    (c.counted-self-inside.ensures ∙ ap (λ (z : CountedReplica _ _). one_more z.losses) same)
 
 pub returns-then-holds-clause-unread : goal.returns-then-holds-clause-unread
 returns-then-holds-clause-unread g c = λ unread.

@@ -1,5 +1,4 @@
-use Rattle.std.proofs.Common.{ap, refl, sym, ◌∙◌}
-use Rattle.ballot_base.specs.Replica.{CountedReplica}
+use Rattle.std.proofs.Common.{refl, sym, ◌∙◌}
 use Rattle.ballot_base.proofs.ChangeRows.{on_installed-stays}
 use Rattle.ballot.proofs.MessagesTaken.{went_same}
 use Rattle.ballot.proofs.ChangesTaken.{installed_noted, installed_last, empty_is, not_empty_is}
@@ -20,8 +19,8 @@ returns-then-not-is_empty-clause-step g c =
 pub returns-clause-step : goal.returns-clause-step
 returns-clause-step g c =
     rw (← c.self.view_is)
-    (installed_last _ _ _ _ c.args.from c.args.ballot c.send_counted.inside.joined c.forget.new.members.items _ _
+    (installed_last _ _ _ c.args.from c.args.ballot _ c.forget.new.members.items _ _ c.send_one.result
     (rw (← c.self.view_is) at (sym c.waits_for_answer.ensures ∙ c.if-not-waits_for_answer.false))
     c.forget.ensures
     (empty_is _ _ c.is_empty.ensures c.forget.new.members.ok.0 c.if-not-is_empty.false)
-    (ap (λ (z : CountedReplica _ _). z.state.joined) c.send_counted.view_is) refl c.send_counted-2.ensures)
+    refl refl c.send_one.ensures)

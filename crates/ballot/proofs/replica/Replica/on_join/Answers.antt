@@ -15,5 +15,5 @@ returns-clause-step g c =
     (rw (← c.self.view_is) refl)
     (rw (← c.self.view_is) c.send_state-sent.ensures)
     c.leave_for.ensures
-    (rw (← c.self-2.view_is) refl)
-    (rw (← c.self-2.view_is) c.counted-self-inside.ensures)
+    refl
+    refl

@@ -13,6 +13,6 @@ pub returns-clause-step : goal.returns-clause-step
 returns-clause-step g c =
     rw (← c.self.view_is)
     (new_ballot_taken _ _ _ c.args.ballot c.args.members c.args.previous c.args.previous_members c.as_slice-receivers.result.now
-    c.clear.new.self.items c.clear-2.new.self.items _ _ c.send_joins-sent.result
+    c.clear.new.self.items c.clear-2.new.self.items _ _ c.send_joins.result
     c.if-ballot-self.false c.as_slice-receivers.ensures c.clear.ensures.items c.clear-2.ensures.items
-    c.send_joins-sent.ensures refl c.counted-self-inside.ensures)
+    c.send_joins.ensures refl refl)

@@ -1,17 +1,25 @@
-use Rattle.std.proofs.Common.{Bool, if◌then◌else◌, ap, subst, ◌∙◌}
+use Rattle.std.proofs.Common.{◌≡◌, if◌then◌else◌, not, ap, refl, subst, ◌∙◌}
 use Rattle.ballot_base.specs.Losses.{one_more}
+use Rattle.world_base.specs.declared.node_core.node_core.NodeCore.TheInside.{Inside}
 use Rattle.world_base.specs.node_core.Core.{CountedCore}
 use Rattle.world_base.specs.node_core.Inside.{RunningStep}
 use Rattle.world_base.specs.node_core.Losses.{ItemStepOrLost}
+use Rattle.world_base.specs.node_core.Step.{settled}
 use Rattle.world_base.proofs.of_node_core.EndsRun.{core_of}
 use Rattle.world_base.proofs.of_node_core.ItemsRun.{stepped_by}
 use Rattle.world_base.proofs.node_core.node_core.NodeCore.step.Goals as goal
 
 pub returns : goal.returns
 returns c =
-    subst (λ (n : CountedCore). ItemStepOrLost n c.args.item (record { core = c.settle.new.self.core; losses = c.losses_after-self-inside.result })
+    let kept : c.self-inside-2.inside.0.1.0 ≡ c.self.inside.losses =
+    cc (ap (λ (n : Inside). n.losses) c.self-inside.view_is, ap (λ (n : Inside). n.losses) c.self-inside-2.view_is) in
+    let settles : c.settle.new.self.core ≡ settled c.act_on.new.self.core =
+    cc (ap (λ (r : RunningStep). r.core) c.settle.ensures, ap (λ (n : Inside). settled n.stepping.core) c.self-inside-2.view_is) in
+    subst (λ (n : CountedCore). ItemStepOrLost n c.args.item (record { core = c.settle.new.self.core; losses = c.counted-self-inside-inside.result })
     c.args.effects.now.items c.act_on.new.effects.items) c.self.view_is
-    (stepped_by _ c.args.item c.begin_step.new.self c.act_on.new.self c.settle.new.self.core c.losses_after-self-inside.result _ _
-    (core_of _ _ c.begin_step.ensures) c.act_on.ensures.exact c.act_on.ensures.lossy (core_of _ _ c.settle.ensures)
-    (c.losses_after-self-inside.ensures ∙ ap (λ (w : Bool). if w then one_more c.self.inside.losses else c.self.inside.losses) c.has_lost.ensures)
-    (ap (λ (r : RunningStep). r.has_lost) c.begin_step.ensures) c.act_on.ensures.quiet)
+    (stepped_by _ c.args.item _ c.act_on.new.self c.settle.new.self.core c.counted-self-inside-inside.result _ _
+    (core_of _ _ (ap (λ (n : Inside). n.stepping) c.self-inside.view_is)) c.act_on.ensures.exact c.act_on.ensures.lossy settles
+    (c.counted-self-inside-inside.ensures
+    ∙ ap (λ k. if not c.self-inside-2.inside.0.0.has_lost then k else one_more k) kept
+    ∙ ap (λ (n : Inside). if not n.stepping.has_lost then c.self.inside.losses else one_more c.self.inside.losses) c.self-inside-2.view_is)
+    refl c.act_on.ensures.quiet)

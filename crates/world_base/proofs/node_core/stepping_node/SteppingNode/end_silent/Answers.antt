@@ -1,4 +1,4 @@
-use Rattle.std.proofs.Common.{◌≡◌, ◌≤◌, ℕ, suc, ◌+◌, length, sym, subst, ◌∙◌, arith}
+use Rattle.std.proofs.Common.{◌≡◌, ◌≤◌, ℕ, suc, ◌+◌, length, refl, sym, subst, ◌∙◌, arith}
 use Rattle.world_base.specs.node_core.Inside.{StepPartOrLost, DoesOutcome}
 use Rattle.world_base.specs.node_core.KeepAlive.{ends_silent}
 use Rattle.world_base.specs.node_core.Lossy.{Repeated}
@@ -8,13 +8,14 @@ use Rattle.world_base.specs.node_core.Effects.{repeated}
 use Rattle.world_base.proofs.of_node_core.Accounts.{ran_as, ran_enough, ran_more, ran_none}
 use Rattle.world_base.proofs.of_node_core.EndsRun.{idle_silent, ran_silent}
 use Rattle.world_base.proofs.of_node_core.Repeats.{repeats_none, repeats_more, repeats_enough}
-use Rattle.world_base.proofs.of_node_core.Silences.{silent_none, turns_silent}
+use Rattle.world_base.proofs.of_node_core.Silences.{silent_none, silent_again, turns_silent}
 use Rattle.world_base.proofs.node_core.stepping_node.SteppingNode.end_silent.Goals as goal
 
 pub loop-connection-init : goal.loop-connection-init
 loop-connection-init c = record {
   exact = repeats_none (ends_silent c.args.now) c.args.self.now c.args.effects.now.items;
   lossy = ran_none (EndsSilent c.args.now) c.args.self.now.core c.args.effects.now.items;
+  none = λ _. refl;
 }
 
 -- none is silent any more
@@ -54,4 +55,6 @@ loop-connection-preserved c =
           c.args.effects.now.items c.loop-connection.effects.items c.end.new.effects.items c.loop-connection.invariant.lossy
           (ran_silent c.args.now c.in-Some.port c.loop-connection.self.core c.end.new.self.core c.loop-connection.effects.items c.end.new.effects.items
           (sym c.lowest_silent.ensures ∙ c.in-Some.is) c.end.ensures.lossy));
+      none = λ none. silent_again c.args.now c.in-Some.port c.args.self.now c.loop-connection.self c.loop-connection.invariant.none
+          (sym c.lowest_silent.ensures ∙ c.in-Some.is) none;
     }

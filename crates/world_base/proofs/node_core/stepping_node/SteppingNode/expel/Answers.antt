@@ -3,3 +3,6 @@ use Rattle.world_base.proofs.node_core.stepping_node.SteppingNode.expel.Goals as
 
 pub returns-clause-lossy : goal.returns-clause-lossy
 returns-clause-lossy c = ran_proposes _ c.propose.result _ _ _ _ c.propose.ensures.lossy
+
+pub returns-clause-quiet : goal.returns-clause-quiet
+returns-clause-quiet c = c.propose.ensures.quiet

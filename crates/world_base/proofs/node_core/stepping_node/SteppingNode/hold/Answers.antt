@@ -1,5 +1,6 @@
-use Rattle.std.proofs.Common.{◌∙◌}
+use Rattle.std.proofs.Common.{sym, ◌∙◌}
 use Rattle.world_base.proofs.of_node_core.EndsRun.{core_of, ran_held, ran_not_held}
+use Rattle.std.specs.Prelude.{false}
 use Rattle.world_base.proofs.node_core.stepping_node.SteppingNode.hold.Goals as goal
 
 pub returns-then-not-hold_at-clause-lossy : goal.returns-then-not-hold_at-clause-lossy
@@ -8,3 +9,10 @@ returns-then-not-hold_at-clause-lossy c =
 
 pub returns-clause-lossy : goal.returns-clause-lossy
 returns-clause-lossy c = ran_held c.args.port c.args.piece _ c.hold_at.new.self.core _ (core_of _ _ (c.hold_at.ensures.ok c.if-not-hold_at.false))
+
+pub returns-then-not-hold_at-clause-none : goal.returns-then-not-hold_at-clause-none
+returns-then-not-hold_at-clause-none c = λ none.
+    let f = sym (c.hold_at.ensures.none none).0 ∙ c.if-not-hold_at.true in cc
+
+pub returns-clause-none : goal.returns-clause-none
+returns-clause-none c = λ none. (c.hold_at.ensures.none none).1

@@ -1,4 +1,4 @@
-use Rattle.std.proofs.Common.{inl, inr, refl}
+use Rattle.std.proofs.Common.{inl, inr, refl, sym, ◌∙◌}
 use Rattle.world_base.proofs.of_node_core.Opens.{opens-none, opened, opened_core, opened_not}
 use Rattle.world_base.proofs.node_core.stepping_node.SteppingNode.open.Goals as goal
 
@@ -27,3 +27,11 @@ returns-clause-lossy c =
 
 pub returns-then-not-push-clause-lossy : goal.returns-then-not-push-clause-lossy
 returns-then-not-push-clause-lossy c = rw (← c.self.view_is) (inr (opened_not _ _ (c.push.ensures.same c.if-not-push.true)))
+
+pub returns-then-not-push-clause-none : goal.returns-then-not-push-clause-none
+returns-then-not-push-clause-none c = λ refused.
+    let f = sym c.in-Some.ensures.some ∙ refused in cc
+
+pub returns-clause-none : goal.returns-clause-none
+returns-clause-none c = λ refused.
+    let f = sym c.in-Some.ensures.some ∙ refused in cc

@@ -19,3 +19,8 @@ returns-clause-exact c =
 pub returns-clause-lossy : goal.returns-clause-lossy
 returns-clause-lossy c =
     proposed_all c.propose_to_replica-taken.result c.args.command _ _ _ _ _ _ c.propose_to_replica-taken.ensures.answered c.handle_all.ensures.lossy
+
+pub returns-clause-quiet : goal.returns-clause-quiet
+returns-clause-quiet c = λ no_room.
+    let refused = c.propose_to_replica-taken.ensures.quiet no_room in
+    c.handle_all.ensures.nothing refused.1 ∙ refused.0

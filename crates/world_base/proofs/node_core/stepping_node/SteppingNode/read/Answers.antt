@@ -1,4 +1,4 @@
-use Rattle.std.proofs.Common.{◌≡◌, ◌≤◌, ℕ, suc, ◌+◌, subst, arith}
+use Rattle.std.proofs.Common.{◌≡◌, ◌≤◌, ℕ, suc, ◌+◌, refl, subst, arith}
 use Rattle.world_base.specs.node_core.Inside.{StepPartOrLost, DoesOutcome}
 use Rattle.world_base.specs.node_core.Lossy.{Repeated}
 use Rattle.world_base.specs.node_core.LossyStep.{ReadsPackets}
@@ -6,6 +6,7 @@ use Rattle.world_base.specs.node_core.LossyPacketInput.{ReadsNext}
 use Rattle.world_base.specs.node_core.PacketInput.{open_at, reads_next, unread_of}
 use Rattle.world_base.specs.node_core.Effects.{repeated}
 use Rattle.world_base.proofs.of_node_core.Accounts.{ran_as, ran_enough, ran_more, ran_none}
+use Rattle.world_base.proofs.of_node_core.Idle.{few_unread}
 use Rattle.world_base.proofs.of_node_core.Repeats.{repeats_none, repeats_more, repeats_enough}
 use Rattle.world_base.proofs.node_core.stepping_node.SteppingNode.read.Goals as goal
 
@@ -13,6 +14,7 @@ pub loop-packet-init : goal.loop-packet-init
 loop-packet-init c = record {
   exact = repeats_none (reads_next c.args.now c.args.port) c.args.self.now c.args.effects.now.items;
   lossy = ran_none (ReadsNext c.args.now c.args.port) c.args.self.now.core c.args.effects.now.items;
+  none = λ _. refl;
 }
 
 -- no whole packet is left
@@ -54,4 +56,11 @@ loop-packet-preserved c =
           (ran_more (ReadsNext c.args.now c.args.port) c.loop-packet._packet c.args.self.now.core c.loop-packet.self.core c.read_next.new.self.core
           c.args.effects.now.items c.loop-packet.effects.items c.read_next.new.effects.items
           c.loop-packet.invariant.lossy c.read_next.ensures.lossy);
+      none = λ none. let some = few_unread c.args.port c.args.self.now.core none in
+          absurd (omega (arith, some, c.loop-packet-test.true, c.unread_len-packet-end.ensures));
     }
+
+pub returns-then-not-read_next-clause-none : goal.returns-then-not-read_next-clause-none
+returns-then-not-read_next-clause-none c = λ none.
+    let some = few_unread c.args.port c.args.self.now.core none in
+    absurd (omega (arith, some, c.loop-packet-test.true, c.unread_len-packet-end.ensures))

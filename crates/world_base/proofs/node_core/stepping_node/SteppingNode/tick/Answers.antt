@@ -1,3 +1,4 @@
+use Rattle.std.proofs.Common.{◌∙◌}
 use Rattle.ballot_base.specs.Protocol.Input.{Ticks}
 use Rattle.world_base.proofs.of_node_core.Answering.{drives_all}
 use Rattle.world_base.proofs.of_node_core.Proposes.{turns_driven}
@@ -8,3 +9,8 @@ returns-clause-exact c = turns_driven _ _ _ Ticks _ _ _ c.tick_replica.ensures.h
 
 pub returns-clause-lossy : goal.returns-clause-lossy
 returns-clause-lossy c = drives_all Ticks _ _ _ _ _ _ c.tick_replica.ensures.acts c.handle_all.ensures.lossy
+
+pub returns-clause-quiet : goal.returns-clause-quiet
+returns-clause-quiet c = λ ignored.
+    let still = c.tick_replica.ensures.quiet ignored in
+    c.handle_all.ensures.nothing still.1 ∙ still.0
