@@ -8,7 +8,7 @@ use Rattle.packet_base.specs.declared.header.Header.{Header}
 use Rattle.packet_base.specs.declared.header.Header.TheVariants as headers
 use Rattle.packet_base.specs.Header.{header_of}
 use Rattle.packet_base.specs.Readers.{◌>>=◌, ◌>>◌, check, ended, length_at}
-use Rattle.packet_base.specs.TopicFields.{topic_at}
+use Rattle.packet_base.specs.TopicFields.{filter_at}
 use Rattle.packet_base.specs.Lists.{begins_list}
 use Rattle.packet_base.specs.Outcome.{StopsBy}
 use Rattle.packet.specs.declared.packet.Packet.{Packet}
@@ -22,8 +22,8 @@ use Rattle.packet.specs.Connect.{connect_of}
 use Rattle.packet.specs.Connack.{connack_of}
 use Rattle.packet.specs.Publish.{publish_of}
 use Rattle.packet.specs.IdAlone.{id_alone_of}
-use Rattle.packet.specs.Subscribe.{subscribe_of}
-use Rattle.packet.specs.Suback.{suback_of}
+use Rattle.packet.specs.Subscribe.{subscription_at, subscribe_of}
+use Rattle.packet.specs.Suback.{granted_at, suback_of}
 use Rattle.packet.specs.Unsubscribe.{unsubscribe_of}
 
 -- a packet without a body (MQTT 3.12 to 3.14)
@@ -66,15 +66,15 @@ verdict (first ∷ bytes) = do
 abbrev pub IsUnfinished : List ℕ → Type 0
 IsUnfinished bytes = verdict bytes ≡ Err stops.More
 
--- Whether memory is needed: the fields before the first text or list have no fault. These are all
--- fields of a CONNECT, the topic of a PUBLISH, and the identifier of a packet with a list, which is
--- not empty. No other packet has a text or a list.
+-- Whether memory is needed: nothing has a fault up to where it is first taken. That is after all
+-- fields of a CONNECT and of a PUBLISH, and after the first item of a list. No other packet has a
+-- text or a list.
 abbrev pub asks_in_body : Header → List ℕ → Bool
 asks_in_body headers.Connect body = is_ok (connect_of body)
-asks_in_body (headers.Publish flags retain) body = is_ok (topic_at body)
-asks_in_body headers.Subscribe body = begins_list body
-asks_in_body headers.Suback body = begins_list body
-asks_in_body headers.Unsubscribe body = begins_list body
+asks_in_body (headers.Publish flags retain) body = is_ok (publish_of flags retain body)
+asks_in_body headers.Subscribe body = begins_list subscription_at body
+asks_in_body headers.Suback body = begins_list granted_at body
+asks_in_body headers.Unsubscribe body = begins_list filter_at body
 asks_in_body header body = false
 
 -- whether memory is needed for what is at the front, once the whole body is there

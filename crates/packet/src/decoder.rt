@@ -44,9 +44,9 @@ pub enum Step {
 ///   outside its table.
 ///   outside its table.
 ///
-/// `Memory` may come once the whole body is there, and only for a packet with a text or a list. It
-/// comes after all fields of a CONNECT, after the topic of a PUBLISH, and after the identifier of a
-/// SUBSCRIBE, a SUBACK and an UNSUBSCRIBE.
+/// `Memory` may come once the whole body is there, and only for a packet with a text or a list: a
+/// CONNECT or a PUBLISH without a fault, or a SUBSCRIBE, a SUBACK or an UNSUBSCRIBE whose
+/// identifier and first item have none.
 pub fn decode(alloc: Global, bytes: &[u8]) -> Result<Step, DecodeFault>
     ensures exact { Decodes bytes.now result }
     ensures within { IfOk result (IsWithin bytes.now) }

@@ -12,7 +12,6 @@ ghost use Rattle.std.specs.Prelude.{
   IsOk,
 };
 ghost use Rattle.packet_base.specs.Outcome.{Gives, IsOutOfMemory};
-ghost use Rattle.packet_base.specs.TopicFields.{topic_at};
 ghost use Rattle.packet.specs.Publish.{publish_body, publish_of, FitsPublish};
 
 use crate::delivery::Delivery;
@@ -44,10 +43,11 @@ impl Publish {
         body: &mut Reader,
     ) -> Result<Publish, Stop>
         ensures exact { Gives (λ value. value) result (publish_of flags retain body.old) }
-        ensures memory { IsOutOfMemory result → IsOk (topic_at body.old) }
+        ensures memory { IsOutOfMemory result → IsOk (publish_of flags retain body.old) }
     {
-        let topic = body.topic(alloc)?;
+        let topic = body.topic_text()?;
         let delivery = Delivery::read(flags, body)?;
+        let topic = TopicName::of_faultless(alloc, topic)?;
         let payload = Payload::new(alloc, body.rest())?;
         Ok(Publish {
             topic,

@@ -96,7 +96,7 @@ impl Suback {
     #[tactic(auto, unfolding(crate::specs::Suback::suback_of))]
     pub(crate) fn read(alloc: Global, body: &mut Reader) -> Result<Suback, Stop>
         ensures exact { Gives (λ value. value) result (suback_of body.old) }
-        ensures memory { IsOutOfMemory result → begins_list body.old ≡ true }
+        ensures memory { IsOutOfMemory result → begins_list granted_at body.old ≡ true }
     {
         let id = body.id()?;
         let codes = PacketList::read(alloc, body)?;

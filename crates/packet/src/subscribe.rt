@@ -59,8 +59,9 @@ impl ListItem for Subscription {
 
     #[tactic(auto, unfolding(crate::specs::Subscribe::subscription_at))]
     fn read(alloc: Global, body: &mut Reader) -> Result<Subscription, Stop> {
-        let filter = body.filter(alloc)?;
+        let filter = body.filter_text()?;
         let qos = QoS::of(body.byte()?)?;
+        let filter = Filter::of_faultless(alloc, filter)?;
         Ok(Subscription { filter, qos })
     }
 
@@ -93,7 +94,7 @@ impl Subscribe {
     #[tactic(auto, unfolding(crate::specs::Subscribe::subscribe_of))]
     pub(crate) fn read(alloc: Global, body: &mut Reader) -> Result<Subscribe, Stop>
         ensures exact { Gives (λ value. value) result (subscribe_of body.old) }
-        ensures memory { IsOutOfMemory result → begins_list body.old ≡ true }
+        ensures memory { IsOutOfMemory result → begins_list subscription_at body.old ≡ true }
     {
         let id = body.id()?;
         let filters = PacketList::read(alloc, body)?;

@@ -12,6 +12,7 @@ ghost use Rattle.std.specs.Prelude.{
   true,
 };
 ghost use Rattle.packet_base.specs.Outcome.{Gives, IsOutOfMemory};
+ghost use Rattle.packet_base.specs.TopicFields.{filter_at};
 ghost use Rattle.packet_base.specs.Lists.{begins_list};
 ghost use Rattle.packet.specs.Unsubscribe.{unsubscribe_body, unsubscribe_of, FitsUnsubscribe};
 
@@ -34,7 +35,7 @@ impl Unsubscribe {
     #[tactic(auto, unfolding(crate::specs::Unsubscribe::unsubscribe_of))]
     pub(crate) fn read(alloc: Global, body: &mut Reader) -> Result<Unsubscribe, Stop>
         ensures exact { Gives (λ value. value) result (unsubscribe_of body.old) }
-        ensures memory { IsOutOfMemory result → begins_list body.old ≡ true }
+        ensures memory { IsOutOfMemory result → begins_list filter_at body.old ≡ true }
     {
         let id = body.id()?;
         let filters = PacketList::read(alloc, body)?;

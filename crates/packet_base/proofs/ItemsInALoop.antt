@@ -5,7 +5,7 @@ use Rattle.std.proofs.lemmas.List.{append-nil}
 use Rattle.topics.specs.declared.malformed.MalformedKind.TheVariants as kinds
 use Rattle.packet_base.specs.declared.stop.Stop.{Stop}
 use Rattle.packet_base.specs.declared.stop.Stop.TheVariants as stops
-use Rattle.packet_base.specs.Readers.{◌>>=◌, byte_at}
+use Rattle.packet_base.specs.Readers.{◌>>=◌}
 use Rattle.packet_base.specs.Lists.{ItemAt, items_of, items_at}
 use Rattle.packet_base.specs.Outcome.{StopsBy}
 
@@ -97,7 +97,14 @@ items_begin {A = A} item front most bytes empty all =
     ap (λ (xs : List A). prefixed xs (left_after item most 0 bytes)) empty
     ∙ prefixed_nil (left_after item most 0 bytes) ∙ ap (λ (n : ℕ). items_of item n bytes) e
 
--- if there is a turn, there is a byte
-pub a_byte : (turns most : ℕ) (bytes : List ℕ) → turns < most → most ≡ length bytes → IsOk (byte_at bytes)
-a_byte turns most [] less all = absurd (omega (arith, less, all))
-a_byte turns most (b ∷ rest) less all = refl
+-- no item was read yet, or the first one has no fault
+abbrev pub Began : {A : Type 0} → ItemAt A → List ℕ → List ℕ → Type 0
+Began item start bytes = (bytes ≡ start) ⊎ IsOk (item start)
+
+-- an item that is read is the first one, or comes after it
+pub began_so : {A : Type 0} (item : ItemAt A) (start bytes : List ℕ) → IsOk (item bytes) → Began item start bytes → IsOk (item start)
+began_so item start bytes ok (inl e) = subst (λ (b : List ℕ). IsOk (item b)) e ok
+began_so item start bytes ok (inr first) = first
+
+pub read_well : {X : Type 0} {read : Result X Stop} {value : X} → read ≡ Ok value → IsOk read
+read_well {X = X} {value = value} e = subst (λ (r : Result X Stop). IsOk r) (sym e) refl

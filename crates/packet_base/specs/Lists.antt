@@ -4,7 +4,7 @@ use Rattle.std.specs.Prelude.{length, Result, Ok}
 use Rattle.topics.specs.declared.malformed.MalformedKind.TheVariants as kinds
 use Rattle.packet_base.specs.declared.stop.Stop.{Stop}
 use Rattle.packet_base.specs.declared.stop.Stop.TheVariants as stops
-use Rattle.packet_base.specs.Readers.{◌>>=◌, ◌>>◌, check, byte_at, id_at}
+use Rattle.packet_base.specs.Readers.{◌>>=◌, ◌>>◌, check, id_at}
 
 -- reading an item: its value, and the bytes after it
 abbrev pub ItemAt : Type 0 → Type 0
@@ -29,6 +29,6 @@ list_of item bytes = do
   check (not (length items == 0)) (stops.Malformed kinds.Shape)
   Ok items
 
--- whether an identifier is at the front, with at least one byte of a list after it
-abbrev pub begins_list : List ℕ → Bool
-begins_list body = is_ok (id_at body >>= (λ id. byte_at id.1))
+-- whether an identifier is at the front, with an item without a fault after it
+abbrev pub begins_list : {A : Type 0} → ItemAt A → List ℕ → Bool
+begins_list item body = is_ok (id_at body >>= (λ id. item id.1))

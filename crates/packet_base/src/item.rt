@@ -10,8 +10,9 @@ ghost use Rattle.std.specs.Prelude.{
   length,
   vec_len,
   vec_capacity,
+  IsOk,
 };
-ghost use Rattle.packet_base.specs.Outcome.{Reads};
+ghost use Rattle.packet_base.specs.Outcome.{Reads, IsOutOfMemory};
 ghost use Rattle.packet_base.specs.Lists.{ItemAt};
 
 use crate::field_writers::put_text;
@@ -33,7 +34,10 @@ pub trait ListItem: Drop {
 
     /// Reads one item.
     fn read(alloc: Global, body: &mut Reader) -> Result<Self, Stop>
-        ensures { Reads (λ value. value) result body.new (item_at body.old) };
+        ensures exact { Reads (λ value. value) result body.new (item_at body.old) }
+
+        // Memory may run out only for an item without a fault.
+        ensures memory { IsOutOfMemory result → IsOk (item_at body.old) };
 
     /// Returns how many bytes the item takes.
     fn spelled_len(&self) -> usize

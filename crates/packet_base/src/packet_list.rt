@@ -15,7 +15,6 @@ ghost use Rattle.std.specs.Prelude.{
 ghost use Rattle.std.specs.List.{AllZip, All, flat_map};
 ghost use Rattle.std.specs.Cmp.Lexicographic.{pointwise, lists_per, lists_equiv};
 ghost use Rattle.packet_base.specs.Outcome.{Gives, IsOutOfMemory};
-ghost use Rattle.packet_base.specs.Readers.{byte_at};
 ghost use Rattle.packet_base.specs.Lists.{items_at, list_of};
 
 use crate::item::ListItem;
@@ -64,11 +63,11 @@ impl<T> PacketList<T> {
 }
 
 impl<T: ListItem> PacketList<T> {
-    /// Reads items up to the end of the body. An empty list is `Shape`, and takes no memory (MQTT
-    /// 3.8.3, 3.9.3, 3.10.3).
+    /// Reads items up to the end of the body. An empty list is `Shape` (MQTT 3.8.3, 3.9.3, 3.10.3).
+    /// Memory may run out only if the first item has no fault.
     pub fn read(alloc: Global, body: &mut Reader) -> Result<PacketList<T>, Stop>
         ensures exact { Gives (λ value. value) result (list_of T.item_at body.old) }
-        ensures memory { IsOutOfMemory result → IsOk (byte_at body.old) }
+        ensures memory { IsOutOfMemory result → IsOk (T.item_at body.old) }
     {
         let items = read_items(alloc, body)?;
         if items.is_empty() {
@@ -109,9 +108,10 @@ impl<T: ListItem> PacketList<T> {
 }
 
 // Reads items up to the end of the body.
+#[tactic(auto, using(crate::proofs::ItemsInALoop::began_so))]
 fn read_items<T: ListItem>(alloc: Global, body: &mut Reader) -> Result<Vec<T>, Stop>
     ensures exact { Gives (λ read. read.items) result (items_at T.item_at body.old) }
-    ensures memory { IsOutOfMemory result → IsOk (byte_at body.old) }
+    ensures memory { IsOutOfMemory result → IsOk (T.item_at body.old) }
 {
     let mut items = Vec::new(alloc);
     // Each item takes at least one byte, so there are no more items than bytes.

@@ -8,10 +8,11 @@
 // inside a body is `Shape`: the length of the body is known before a reader is made, so more input
 // cannot help.
 
-ghost use Rattle.std.specs.Prelude.{◌≡◌, ◌<◌, true, IfOk, IsOk, IsTrue, ◌==◌, nat_eq, length, drop};
+ghost use Rattle.std.specs.Prelude.{◌≡◌, ◌<◌, None, true, IfOk, IsOk, IsTrue, ◌==◌, nat_eq, length, drop};
 ghost use Rattle.std.specs.List.{starts_with};
 ghost use Rattle.packet_base.specs.Readers.{byte_at, front_at, number_at, id_at, text_at, text_of};
 ghost use Rattle.packet_base.specs.Readers.{ended, is_text};
+ghost use Rattle.topics.specs.Text.{topic_fault, filter_fault};
 ghost use Rattle.packet_base.specs.TopicFields.{topic_at, filter_at};
 ghost use Rattle.packet_base.specs.Outcome.{Gives, Reads, TakesNoMemory, IsOutOfMemory};
 ghost use Rattle.packet_base.specs.Inside.{name_of, pattern_of};
@@ -138,30 +139,52 @@ impl<'a> Reader<'a> {
 
     /// Reads a Topic Name with its length before it. A text with a fault is `Text`, `Topic` or
     /// `TooDeep` (MQTT 4.7).
-    #[tactic(auto, unfolding(crate::specs::TopicFields::topic_at, crate::specs::Readers::text_at), using(crate::proofs::Texts::topic_ends))]
     pub fn topic(&mut self, alloc: Global) -> Result<TopicName, Stop>
         ensures exact { Reads (λ value. value) result self.new (topic_at self.old) }
 
         // Memory may run out only for a text without a fault.
         ensures memory { IsOutOfMemory result → IsOk (topic_at self.old) }
     {
+        let text = self.topic_text()?;
+        Ok(TopicName::of_faultless(alloc, text)?)
+    }
+
+    /// Reads the text of a Topic Name with its length before it, as [`Reader::topic`] does, and
+    /// leaves it where it is.
+    #[tactic(auto, unfolding(crate::specs::TopicFields::topic_at, crate::specs::Readers::text_at), using(crate::proofs::Texts::topic_ends))]
+    pub fn topic_text(&mut self) -> Result<&'a str, Stop>
+        ensures exact { Reads (λ text. text.now) result self.new (topic_at self.old) }
+        ensures checked { IfOk result (λ text. topic_fault text.now ≡ None) }
+        ensures memory { TakesNoMemory result }
+    {
         let len = self.number()?;
         let bytes = self.front(usize::from(len))?;
-        topic_name(alloc, bytes)
+        topic_name(bytes)
     }
 
     /// Reads a Topic Filter with its length before it. A text with a fault is `Text`, `Filter` or
     /// `TooDeep` (MQTT 4.7.1).
-    #[tactic(auto, unfolding(crate::specs::TopicFields::filter_at, crate::specs::Readers::text_at), using(crate::proofs::Texts::filter_ends))]
     pub fn filter(&mut self, alloc: Global) -> Result<Filter, Stop>
         ensures exact { Reads (λ value. value) result self.new (filter_at self.old) }
 
         // Memory may run out only for a text without a fault.
         ensures memory { IsOutOfMemory result → IsOk (filter_at self.old) }
     {
+        let text = self.filter_text()?;
+        Ok(Filter::of_faultless(alloc, text)?)
+    }
+
+    /// Reads the text of a Topic Filter with its length before it, as [`Reader::filter`] does, and
+    /// leaves it where it is.
+    #[tactic(auto, unfolding(crate::specs::TopicFields::filter_at, crate::specs::Readers::text_at), using(crate::proofs::Texts::filter_ends))]
+    pub fn filter_text(&mut self) -> Result<&'a str, Stop>
+        ensures exact { Reads (λ text. text.now) result self.new (filter_at self.old) }
+        ensures checked { IfOk result (λ text. filter_fault text.now ≡ None) }
+        ensures memory { TakesNoMemory result }
+    {
         let len = self.number()?;
         let bytes = self.front(usize::from(len))?;
-        topic_filter(alloc, bytes)
+        topic_filter(bytes)
     }
 
     /// Returns all unread bytes, without reading them.
@@ -199,26 +222,34 @@ fn checked_text(bytes: &[u8]) -> Result<&str, Stop>
     Ok(text)
 }
 
-// Returns the bytes as a Topic Name. `TopicName::new` rejects U+0000.
+// Returns the bytes as the text of a Topic Name. `TopicName::fault_of` finds U+0000.
 #[tactic(auto, using(crate::proofs::Texts::name_tests))]
-fn topic_name(alloc: Global, bytes: &[u8]) -> Result<TopicName, Stop>
-    ensures exact { Gives (λ value. value) result (name_of bytes.now) }
-    ensures memory { IsOutOfMemory result → IsOk (name_of bytes.now) }
+fn topic_name(bytes: &[u8]) -> Result<&str, Stop>
+    ensures exact { Gives (λ text. text.now) result (name_of bytes.now) }
+    ensures checked { IfOk result (λ text. topic_fault text.now ≡ None) }
+    ensures memory { TakesNoMemory result }
 {
     let Ok(text) = std::str::from_utf8(bytes) else {
         return Err(Stop::Malformed(MalformedKind::Text));
     };
-    Ok(TopicName::new(alloc, text)?)
+    match TopicName::fault_of(text) {
+        Some(fault) => Err(Stop::Malformed(fault)),
+        None => Ok(text),
+    }
 }
 
-// Returns the bytes as a Topic Filter. `Filter::new` rejects U+0000.
+// Returns the bytes as the text of a Topic Filter. `Filter::fault_of` finds U+0000.
 #[tactic(auto, using(crate::proofs::Texts::pattern_tests))]
-fn topic_filter(alloc: Global, bytes: &[u8]) -> Result<Filter, Stop>
-    ensures exact { Gives (λ value. value) result (pattern_of bytes.now) }
-    ensures memory { IsOutOfMemory result → IsOk (pattern_of bytes.now) }
+fn topic_filter(bytes: &[u8]) -> Result<&str, Stop>
+    ensures exact { Gives (λ text. text.now) result (pattern_of bytes.now) }
+    ensures checked { IfOk result (λ text. filter_fault text.now ≡ None) }
+    ensures memory { TakesNoMemory result }
 {
     let Ok(text) = std::str::from_utf8(bytes) else {
         return Err(Stop::Malformed(MalformedKind::Text));
     };
-    Ok(Filter::new(alloc, text)?)
+    match Filter::fault_of(text) {
+        Some(fault) => Err(Stop::Malformed(fault)),
+        None => Ok(text),
+    }
 }

@@ -1,6 +1,6 @@
 // A Topic Filter: what a subscription asks for (MQTT 4.7.1).
 
-ghost use Rattle.std.specs.Prelude.{◌≡◌, ◌&&◌, Some, None, IfOk, OnOk, IfErr, IsTrue};
+ghost use Rattle.std.specs.Prelude.{◌≡◌, ◌≢◌, ◌&&◌, Some, None, IfOk, OnOk, IfErr, IsTrue};
 ghost use Rattle.topics.specs.Text.{filter_fault, is_filter, named_topic, RefusesBy, levels};
 ghost use Rattle.topics.specs.Text.{has_length, has_wildcards_in_place, has_no_wildcard, may_stand};
 
@@ -47,11 +47,41 @@ impl Filter {
         // Memory may run out only for a text without a fault.
         ensures err { IfErr result (RefusesBy (filter_fault text.now)) }
     {
-        if let Some(fault) = fault_of(text.as_bytes()) {
+        if let Some(fault) = Filter::fault_of(text) {
             return Err(fault);
         }
         let text = Text::new(alloc, text)?;
         Ok(Filter { text })
+    }
+
+    /// Returns the Topic Filter of a text without a fault; it fails only if memory runs out.
+    #[tactic(auto, using(crate::proofs::Faultless::is_filter_none))]
+    pub fn of_faultless(alloc: Global, text: &str) -> Result<Filter, AllocError>
+        requires { filter_fault text.now ≡ None }
+        ensures { IfOk result (λ filter. filter ≡ text.now) }
+    {
+        let text = Text::new(alloc, text)?;
+        Ok(Filter { text })
+    }
+
+    /// Returns the first fault of a text as a Topic Filter, as [`Filter::new`] has it; `None` if it
+    /// has none. Takes no memory. Only a text with wildcards is scanned a second time.
+    pub fn fault_of(text: &str) -> Option<MalformedKind>
+        ensures exact { result ≡ filter_fault text.now }
+        ensures memory { result ≢ Some MalformedKind.Memory }
+    {
+        let text = text.as_bytes();
+        let survey = Survey::of(text);
+        if survey.has_null {
+            return Some(MalformedKind::Text);
+        }
+        if !has_length(text) || !is_formed(text, survey.has_no_wildcard) {
+            return Some(MalformedKind::Filter);
+        }
+        if !survey.is_shallow {
+            return Some(MalformedKind::TooDeep);
+        }
+        None
     }
 
     /// Returns the Topic Name of the same text, if the filter has no wildcard: the only one that it
@@ -75,24 +105,6 @@ impl Filter {
     {
         self.text.as_str()
     }
-}
-
-// Returns the first fault of a text as a Topic Filter. Only a text with wildcards is scanned a
-// second time.
-fn fault_of(text: &[u8]) -> Option<MalformedKind>
-    ensures { result ≡ filter_fault text.now }
-{
-    let survey = Survey::of(text);
-    if survey.has_null {
-        return Some(MalformedKind::Text);
-    }
-    if !has_length(text) || !is_formed(text, survey.has_no_wildcard) {
-        return Some(MalformedKind::Filter);
-    }
-    if !survey.is_shallow {
-        return Some(MalformedKind::TooDeep);
-    }
-    None
 }
 
 // Returns true if the wildcards are in their places, or if there are none.

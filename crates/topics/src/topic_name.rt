@@ -1,6 +1,6 @@
 // A Topic Name: what a publication is about (MQTT 4.7).
 
-ghost use Rattle.std.specs.Prelude.{◌≡◌, Some, None, IfOk, OnOk, IfErr, IsTrue, true};
+ghost use Rattle.std.specs.Prelude.{◌≡◌, ◌≢◌, Some, None, IfOk, OnOk, IfErr, IsTrue, true};
 ghost use Rattle.topics.specs.Text.{topic_fault, is_topic, RefusesBy};
 
 use crate::level::has_length;
@@ -44,11 +44,41 @@ impl TopicName {
         // Memory may run out only for a text without a fault.
         ensures err { IfErr result (RefusesBy (topic_fault text.now)) }
     {
-        if let Some(fault) = fault_of(text.as_bytes()) {
+        if let Some(fault) = TopicName::fault_of(text) {
             return Err(fault);
         }
         let text = Text::new(alloc, text)?;
         Ok(TopicName { text })
+    }
+
+    /// Returns the Topic Name of a text without a fault; it fails only if memory runs out.
+    #[tactic(auto, using(crate::proofs::Faultless::is_topic_none))]
+    pub fn of_faultless(alloc: Global, text: &str) -> Result<TopicName, AllocError>
+        requires { topic_fault text.now ≡ None }
+        ensures { IfOk result (λ name. name ≡ text.now) }
+    {
+        let text = Text::new(alloc, text)?;
+        Ok(TopicName { text })
+    }
+
+    /// Returns the first fault of a text as a Topic Name, as [`TopicName::new`] has it; `None` if
+    /// it has none. Takes no memory.
+    pub fn fault_of(text: &str) -> Option<MalformedKind>
+        ensures exact { result ≡ topic_fault text.now }
+        ensures memory { result ≢ Some MalformedKind.Memory }
+    {
+        let text = text.as_bytes();
+        let survey = Survey::of(text);
+        if survey.has_null {
+            return Some(MalformedKind::Text);
+        }
+        if !has_length(text) || !survey.has_no_wildcard {
+            return Some(MalformedKind::Topic);
+        }
+        if !survey.is_shallow {
+            return Some(MalformedKind::TooDeep);
+        }
+        None
     }
 
     /// Returns the Topic Name of a text without a fault.
@@ -66,23 +96,6 @@ impl TopicName {
     {
         self.text.as_str()
     }
-}
-
-// Returns the first fault of a text as a Topic Name.
-fn fault_of(text: &[u8]) -> Option<MalformedKind>
-    ensures { result ≡ topic_fault text.now }
-{
-    let survey = Survey::of(text);
-    if survey.has_null {
-        return Some(MalformedKind::Text);
-    }
-    if !has_length(text) || !survey.has_no_wildcard {
-        return Some(MalformedKind::Topic);
-    }
-    if !survey.is_shallow {
-        return Some(MalformedKind::TooDeep);
-    }
-    None
 }
 
 impl Clone for TopicName {
