@@ -6,7 +6,8 @@
 // is taken without its step, and none is stepped twice. `grown` and `takings` are counters beside
 // it: when the size of the log makes a cut due, and what a gate is asked about.
 
-ghost use Rattle.std.specs.Prelude.{◌≡◌, ◌≤◌, ◌++◌, ◌*◌, ◌↔◌, [], length, map, slice_index, take, true, false, All, EachIndex, IfOk, IsTrue, OnErr, OnOk};
+ghost use Rattle.std.specs.Prelude.{◌≡◌, ◌≤◌, ◌++◌, ◌*◌, ◌↔◌, [], length, map, slice_index};
+ghost use Rattle.std.specs.Prelude.{take, true, false, All, EachIndex, IfOk, IsOk, IsTrue, OnErr, OnOk};
 ghost use Rattle.mailbox.specs.Delivery.{items_of_lane, no_bounds};
 ghost use Rattle.mailbox.specs.Ends.{AreAllLanes, ArrivesWhole, HasArrived, WasEmpty, unmet};
 ghost use Rattle.mailbox.specs.declared.lane.TheConstants.{MAX_SENT};
@@ -179,7 +180,8 @@ impl<J: NodeNaming> NodeState<J> {
     }
 
     /// Appends the bytes queued for a port and not yet handed over, and returns whether more may
-    /// come, as [`NodeCore::outgoing`]. No item is taken.
+    /// come, as [`NodeCore::outgoing`]. No item is taken. If memory runs out, nothing changes;
+    /// without bytes to hand over it never does.
     pub fn outgoing(&mut self, port: Port, out: &mut Vec<u8>) -> Result<Handed, Memory>
         ensures bytes { OnOk result
             (out.new.items ≡ out.old.items ++ pending_bytes (listed_at port self.old.node.core)) }
@@ -188,6 +190,7 @@ impl<J: NodeNaming> NodeState<J> {
         ensures left { OnOk result (self.new ≡ record self.old {
           node = record self.old.node { core = hands_over port self.old.node.core };
         }) }
+        ensures nothing { pending_bytes (listed_at port self.old.node.core) ≡ [] → IsOk result }
 
         // The node is still the fold of `step` over all items taken.
         ensures replays { Replays
