@@ -53,11 +53,6 @@ pub opened_first : {nodes : ℕ} {config : Config} {ids clients : List (List ℕ
 opened_first {nodes = nodes} {config = config} {world = world} is begun =
     subst (λ (cs : List (List ℕ)). WorldOpens nodes config cs world) is begun
 
--- a world that opens has lost nothing
-pub opens_whole : {nodes : ℕ} {config : Config} {clients : List (List ℕ)} {world : WorldState}
-    → WorldOpens nodes config clients world → world.losses ≡ 0
-opens_whole begun = ap (λ (w : WorldState). w.losses) begun.is
-
 -- ---- agreement
 
 agrees_on : (nodes : ℕ) (config : Config) (clients : List (List ℕ)) (first : WorldState) (script_lines : List ScriptLine) (lines : List ℕ) (last : WorldState)
@@ -85,9 +80,9 @@ plays_on (Err error) clients script_lines first last old mid new all ends none =
 
 plays : (text old new : List ℕ) (script : Script) (first : WorldState) (losses : ℕ) → IsScript (lines_of text) script
     → AreReached script.opening.nodes script.opening.config first.nodes
-    → (reached : IsReached script.opening.nodes script.opening.config script.opening.clients.items first) × (asked_on reached ≡ []) → first.losses ≡ 0
+    → (reached : IsReached script.opening.nodes script.opening.config script.opening.clients.items first) × (asked_on reached ≡ []) → WorldOpens script.opening.nodes script.opening.config script.opening.clients.items first
     → PlaysOn script.opening.clients.items script.lines.items first old new losses → Plays text old new losses
-plays text old new script first losses is opened exact whole on =
+plays text old new script first losses is opened exact begun on =
     let clients = script.opening.clients.items in
     let end = end_line on.ends.agreed on.last.nodes.master.active in
     record {
@@ -97,10 +92,10 @@ plays text old new script first losses is opened exact whole on =
       transcript = on.all.lines ++ end;
       is_transcript = record {
         first = first;
+        begins = begun;
         opened = opened;
         exact = exact.0;
         unasked = exact.1;
-        whole = whole;
         lines = on.all.lines;
         played = on.all.played;
         agreed = on.ends.agreed;
@@ -116,23 +111,23 @@ plays text old new script first losses is opened exact whole on =
 pub plays_well : {E : Type 0} (result : Result (Unit {0}) E) (text old new : List ℕ) (script : Script) (first : WorldState)
     (clients : List (List ℕ)) (script_lines : List ScriptLine) → IsScript (lines_of text) script
     → AreReached script.opening.nodes script.opening.config first.nodes
-    → (reached : IsReached script.opening.nodes script.opening.config script.opening.clients.items first) × (asked_on reached ≡ []) → first.losses ≡ 0
+    → (reached : IsReached script.opening.nodes script.opening.config script.opening.clients.items first) × (asked_on reached ≡ []) → WorldOpens script.opening.nodes script.opening.config script.opening.clients.items first
     → clients ≡ script.opening.clients.items → script_lines ≡ script.lines.items → OnOk result (PlaysOn clients script_lines first old new 0) → OnOk result (Plays text old new 0)
-plays_well (Ok done) text old new script first clients script_lines is opened exact whole named all on =
-    plays text old new script first 0 is opened exact whole
+plays_well (Ok done) text old new script first clients script_lines is opened exact begun named all on =
+    plays text old new script first 0 is opened exact begun
     (subst (λ (o : List ScriptLine). PlaysOn script.opening.clients.items o first old new 0) all (subst (λ (n : List (List ℕ)). PlaysOn n script_lines first old new 0) named on))
-plays_well (Err error) text old new script first clients script_lines is opened exact whole named all on = on
+plays_well (Err error) text old new script first clients script_lines is opened exact begun named all on = on
 
 pub plays_losing : (text old new : List ℕ) (script : Script) (first : WorldState) (clients : List (List ℕ)) (script_lines : List ScriptLine) → IsScript (lines_of text) script
     → AreReached script.opening.nodes script.opening.config first.nodes
-    → (reached : IsReached script.opening.nodes script.opening.config script.opening.clients.items first) × (asked_on reached ≡ []) → first.losses ≡ 0
+    → (reached : IsReached script.opening.nodes script.opening.config script.opening.clients.items first) × (asked_on reached ≡ []) → WorldOpens script.opening.nodes script.opening.config script.opening.clients.items first
     → clients ≡ script.opening.clients.items → script_lines ≡ script.lines.items → (losses : ℕ) × ((0 < losses) × PlaysOn clients script_lines first old new losses)
     → (losses : ℕ) × ((0 < losses) × Plays text old new losses)
-plays_losing text old new script first clients script_lines is opened exact whole named all (losses, (some, on)) = (
+plays_losing text old new script first clients script_lines is opened exact begun named all (losses, (some, on)) = (
   losses,
   (
     some,
-    plays text old new script first losses is opened exact whole
+    plays text old new script first losses is opened exact begun
         (subst (λ (o : List ScriptLine). PlaysOn script.opening.clients.items o first old new losses) all
         (subst (λ (n : List (List ℕ)). PlaysOn n script_lines first old new losses) named on)),
   ),

@@ -66,7 +66,7 @@ ends_in text old new script first last clients script_lines is opens named all o
 -- ---- its way out
 
 pub tells_recovery : {E : Type 0} (result : Result (Unit {0}) E) (text members client old new : List ℕ) (last : WorldState) (events written : List Event) → EndsIn text last → CanEscape members client last →
-    LeadsClientOut client last events → written ≡ events → OnOk result (new ≡ old ++ event_lines written) → OnOk result (TellsRecovery text members client old new)
+    LeadsClientOut members client last events → written ≡ events → OnOk result (new ≡ old ++ event_lines written) → OnOk result (TellsRecovery text members client old new)
 tells_recovery (Ok done) text members client old new last events written ends possible leads same is =
     record { last = last; ends = ends; possible = possible; events = events; leads = leads; is = is ∙ ap (λ (l : List Event). old ++ event_lines l) same }
 tells_recovery (Err error) text members client old new last events written ends possible leads same is = is

@@ -68,7 +68,7 @@ pub record TellsRecovery (text members : List ℕ) (client : List ℕ) (old new 
   pub ends : EndsIn text last
   pub possible : CanEscape members client last
   pub events : List Event
-  pub leads : LeadsClientOut client last events
+  pub leads : LeadsClientOut members client last events
   pub is : new ≡ old ++ event_lines events
 
 -- there is no recovery

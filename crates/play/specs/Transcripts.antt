@@ -8,7 +8,7 @@ use Rattle.script.specs.declared.script_reader.Script.{Script}
 use Rattle.play.specs.Lines.{done_line, end_line, idle_line}
 use Rattle.world_pipes.specs.declared.events.event.Event.{Event}
 use Rattle.world.specs.Trace.{AreReached, StaysReached, KeepsGroup}
-use Rattle.world.specs.Events.{EventHappens}
+use Rattle.world.specs.Events.{EventHappens, WorldOpens}
 use Rattle.world.specs.Requests.{EventAsks}
 use Rattle.world.specs.StandsFor.{IsReached, KeepsReached, asked_on}
 use Rattle.world.specs.World.{WorldState}
@@ -63,15 +63,16 @@ pub data Played (clients : List (List ℕ)) (first : WorldState)
       → ScriptStep clients (length script_lines) script_line old new more
       → Played clients first (script_lines ++ script_line ∷ []) (lines ++ more) new
 
--- each line of a script has its event, these are the lines of its transcript, and the last line has
--- the count of agreed commands
+-- A script's world opens as its first lines say, each line after them has its event, these are the
+-- lines of its transcript, and the last line has the count of agreed commands.
 pub record IsTranscript (script : Script) (last : WorldState) (transcript : List ℕ) : Type 0 where
   pub first : WorldState
+  pub begins :
+      WorldOpens script.opening.nodes script.opening.config script.opening.clients.items first
   pub opened : AreReached script.opening.nodes script.opening.config first.nodes
   pub exact :
       IsReached script.opening.nodes script.opening.config script.opening.clients.items first
   pub unasked : asked_on exact ≡ []
-  pub whole : first.losses ≡ 0
   pub lines : List ℕ
   pub played : Played script.opening.clients.items first script.lines.items lines last
   pub agreed : ℕ

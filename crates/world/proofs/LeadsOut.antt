@@ -162,6 +162,12 @@ module _ (name : Client) (w : WorldState) (housed : SlotsAreValid (targets_of_cl
           ∙ l.pair.led.active
           ∙ ap (λ (x : MasterState). x.given + 1) r.stands.nodes.master
 
+      members_are : (a : AnsweredTo name h.i h.at number p.index h.core v.nodes last_event new) → new.nodes.master.members ≡ first ∷ os
+      members_are a =
+          ap (λ (n : NodesState). n.master.members) (served a).nodes
+          ∙ ap (λ (x : MasterState). x.members) (a.is.master ∙ sym h.awaits.seen.master)
+          ∙ l.pair.led.members
+
       agreed : NodesGo w.nodes new.nodes → (before after : List Command) → AgreeOn w.nodes before → AgreeOn new.nodes after → IsPrefixOf before after
       agreed go before after x y =
           let reached : AreReached nodes config w.nodes = are_reached nodes config g w.nodes (trace_of r.trail) r.stands.nodes in
@@ -169,18 +175,18 @@ module _ (name : Client) (w : WorldState) (housed : SlotsAreValid (targets_of_cl
           subst (λ (xs : List Command). IsPrefixOf xs after) (sym (reached_agree w.nodes before x nodes config reached))
           (subst (λ (ys : List Command). IsPrefixOf reached.list ys) (sym (reached_agree new.nodes after y nodes config grown.0)) grown.1)
 
-      escaped : HasEscaped name w new
+      escaped : HasEscaped (first ∷ os) name w new
       escaped =
           let a = answered in
           let z = served a in
-          record { active = active a; agreed = agreed (goes a); core = z.core; client = z.client; online = z.online; present = z.present }
+          record { active = active a; formed = members_are a; agreed = agreed (goes a); core = z.core; client = z.client; online = z.online; present = z.present }
 
-    opened : HasEscaped name w new
+    opened : HasEscaped (first ∷ os) name w new
     opened =
         let o = opens_out name left.before b ballot p.index p.node os log left.after left.there can_open left.housed (asking (sent_then w (length os))) new left.closed left.rest left.whole in
         escaped o.after (subst (λ (k : ℕ). HasOpened name left.before.state b ballot p.index os log k left.after o.after) same_number o.has) o.rest o.whole
 
-  leads : EventsHappen (escaping_events w (first ∷ os) possible.index holds name bytes) w new → WorldLosesNothing w new → HasEscaped name w new
+  leads : EventsHappen (escaping_events w (first ∷ os) possible.index holds name bytes) w new → WorldLosesNothing w new → HasEscaped (first ∷ os) name w new
   leads run none =
       let l = led_to config g moments came w r.stands.nodes housed (first ∷ os) name possible more new run none in
       let lawful_is = lawful config g moments came w r.stands.nodes housed (first ∷ os) name possible more new in
@@ -191,6 +197,6 @@ module _ (name : Client) (w : WorldState) (housed : SlotsAreValid (targets_of_cl
 
 -- whichever members they are
 pub escaping_leads_out : (members : List ℕ) (name : Client) (w : WorldState) (possible : CanEscape members name w) (holds : Bool) → holds ≡ is_open possible.core.state.stage →
-    SlotsAreValid (targets_of_clients w.clients) w.connections → LeadsClientOut name w (escaping_events w members possible.index holds name (14 + length possible.core.state.client))
+    SlotsAreValid (targets_of_clients w.clients) w.connections → LeadsClientOut members name w (escaping_events w members possible.index holds name (14 + length possible.core.state.client))
 escaping_leads_out [] name w possible holds held housed nodes config cs new r run none = absurd (none-some bad_members (sym possible.granted))
 escaping_leads_out (first ∷ os) name w possible holds held housed nodes config cs new r run none = leads name w housed first os possible holds held nodes config cs r new run none

@@ -54,10 +54,12 @@ pub record CanEscape (members : List ℕ) (name : Client) (world : WorldState) :
 
 -- ---- what it leads to
 
--- The ballot that was to be assigned next is active. What was agreed before is a prefix of what is
--- agreed now. The client is online, and its last CONNACK said that its session is present.
-pub record HasEscaped (name : Client) (old new : WorldState) : Type 0 where
+-- The ballot that was to be assigned next is active, and has these members. What was agreed before
+-- is a prefix of what is agreed now. The client is online, and its last CONNACK said that its
+-- session is present.
+pub record HasEscaped (members : List ℕ) (name : Client) (old new : WorldState) : Type 0 where
   pub active : new.nodes.master.active ≡ old.nodes.master.given + 1
+  pub formed : new.nodes.master.members ≡ members
   pub agreed : (before after : List Command) → AgreeOn old.nodes before → AgreeOn new.nodes after →
       IsPrefixOf before after
   pub core : Core
@@ -66,8 +68,8 @@ pub record HasEscaped (name : Client) (old new : WorldState) : Type 0 where
   pub present : core.state.session_present ≡ true
 
 -- whatever happened before, if none of these events loses anything
-abbrev pub LeadsClientOut : Client → WorldState → List Event → Type 0
-LeadsClientOut name old events =
+abbrev pub LeadsClientOut : List ℕ → Client → WorldState → List Event → Type 0
+LeadsClientOut members name old events =
     (nodes : ℕ) (config : Config) (clients : List Client) (new : WorldState) →
     IsReached nodes config clients old → EventsHappen events old new → WorldLosesNothing old new →
-    HasEscaped name old new
+    HasEscaped members name old new

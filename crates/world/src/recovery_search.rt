@@ -26,11 +26,12 @@ const MAX_MESSAGES: u64 = 1 << 62;
 
 impl World {
     /// Returns the events of a recovery of this world, at most 6n + 5 for n members. They lead to a
-    /// ballot of these members, the first of them its primary, and to the client online with its
-    /// session present. Changes nothing.
+    /// ballot of these members, given with the first of them as its primary, and to the client
+    /// online with its session present. Changes nothing.
     ///
     /// After [`World::run`] with these events, if no loss is counted, the ballot that is assigned
-    /// next is active, and what was agreed before is a prefix of what is agreed.
+    /// next is active and has these members, and what was agreed before is a prefix of what is
+    /// agreed. That its primary serves is in no clause.
     ///
     /// Fails with [`EscapeError::Idle`] if there is no recovery:
     ///
@@ -43,7 +44,7 @@ impl World {
     pub fn escape(&self, members: &[u8], client: &ClientId) -> Result<Vec<Event>, EscapeError>
         ensures short { IfOk result (λ events. length events.items ≤ 6 * length members.now + 5) }
         ensures leads_out { IfOk result
-            (λ events. LeadsClientOut client.now self.now events.items) }
+            (λ events. LeadsClientOut members.now client.now self.now events.items) }
 
         // Unless memory runs out, `Idle` comes exactly if there is no recovery.
         ensures idle { IsErrOf result EscapeError.Idle → CanEscape members.now client.now self.now →

@@ -50,7 +50,7 @@ returns-clause-short c =
 
 pub returns-clause-leads_out : goal.returns-clause-leads_out
 returns-clause-leads_out c =
-    subst (LeadsClientOut c.args.client.now c.args.self.now) (sym (written c))
+    subst (LeadsClientOut c.args.members.now c.args.client.now c.args.self.now) (sym (written c))
     (escaping_leads_out c.args.members.now c.args.client.now c.args.self.now (possible c) (is_holding c.index.result.now.piped) refl (rw (← c.self.view_is) c.self.invariant.0))
 
 pub returns-clause-can : goal.returns-clause-can
