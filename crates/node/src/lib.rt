@@ -10,6 +10,7 @@ mod node_state;
 mod overdue;
 mod permit;
 mod report;
+mod rows;
 mod theorems;
 
 pub use ballot_base::errors::{OpeningError, ProposeError};
@@ -25,6 +26,7 @@ pub use node_state::NodeState;
 pub use overdue::is_overdue;
 pub use permit::Permit;
 pub use report::Report;
+pub use rows::{numbers_of_an_inbox, numbers_of_the_intake, numbers_of_times};
 pub use theorems::{cuts_come_apart, cuts_come_often, open_bytes_are_counted};
 pub use world_base::node_connections::{Handed, Piece, Port, Standing};
 pub use world_base::node_core::{Item, NodeCore};

@@ -8,6 +8,7 @@ mod given_effects;
 pub mod outbox;
 mod peer;
 mod recipients;
+mod rows;
 
 pub use crate::outbox::OrderError;
 pub use addressed_message::AddressedMessage;
@@ -15,3 +16,4 @@ pub use cluster::Cluster;
 pub use given_effects::{GivenEffects, Receivers, queue_all};
 pub use master::Idle;
 pub use peer::{AdmittedBytes, Peer};
+pub use rows::numbers_of_an_outbox;

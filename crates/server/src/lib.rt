@@ -5,6 +5,7 @@
 pub mod node_threads;
 mod opening;
 mod outcome;
+mod rows;
 mod serve_error;
 mod service;
 mod shutdown;
@@ -18,6 +19,7 @@ pub use master::Idle;
 pub use node_base::devices::{Gate, NoGate};
 pub use post::Cluster;
 pub use post::outbox::OrderError;
+pub use rows::numbers_of_a_server;
 pub use serve_error::ServeError;
 pub use service::{serve_gated, serve_while};
 pub use streams::{Listener, MAX_CONNECTIONS};

@@ -10,6 +10,8 @@ pub use ballot_base::{Body, Config, Effect, MAX_NODE, Members, Message, Status};
 pub use broker::BrokerMachine;
 pub use broker_spec::{Command, ConnectionName, Output};
 pub use machine::Memory;
+pub use rows::numbers_of_a_connection;
 
 pub mod node_connections;
 pub mod node_core;
+mod rows;
