@@ -3,6 +3,7 @@
 #![tactic(auto)]
 
 mod arguments;
+mod cause;
 mod commands;
 mod document;
 mod fault;
@@ -12,6 +13,7 @@ mod node_table;
 mod table_text;
 mod words;
 
+pub use cause::{TableCause, table_cause};
 pub use fault::{LineFault, TableFault};
 pub use job::{Escape, Job, Play, Publish, Serve, Subscribe};
 pub use node_table::{ListeningNode, NodeTable};

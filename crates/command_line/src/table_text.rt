@@ -57,7 +57,8 @@ fn are_nodes(nodes: &[ListeningNode], members: &[u8]) -> bool
     members.iter().all(|member| has_node(nodes, *member))
 }
 
-fn has_node(nodes: &[ListeningNode], id: u8) -> bool
+/// Returns true if one of the nodes has this number.
+pub(crate) fn has_node(nodes: &[ListeningNode], id: u8) -> bool
     ensures { result ≡ has_node nodes.now id }
 {
     nodes.iter().any(|node| node.id == id)

@@ -2,6 +2,7 @@
 
 ghost use Rattle.std.specs.Prelude.{◌≡◌};
 
+use machine::MEMORY_TEXT;
 use std::alloc::AllocError;
 use std::error::Error;
 use std::fmt;
@@ -45,7 +46,7 @@ impl fmt::Display for JoinError {
     fn fmt<W: fmt::Write>(&self, f: &mut fmt::Formatter<W>) -> fmt::Result {
         match self {
             JoinError::Part(fault) => write!(f, "{fault}"),
-            JoinError::Memory => write!(f, "out of memory"),
+            JoinError::Memory => write!(f, "{MEMORY_TEXT}"),
             JoinError::Failed => write!(f, "the stream has failed before"),
         }
     }

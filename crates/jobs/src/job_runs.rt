@@ -3,7 +3,7 @@
 // A job gets its input, output and standard error as parameters, so tests run it in memory. What
 // clauses say is about refused texts, what is printed on the output, and the exit status; no clause
 // says what is printed on standard error, or sent over a network. An error is one line on standard
-// error and one exit status, both of `JobError`; nothing below this crate prints or exits. Output
+// error and one exit status, both of `JobError`, and for a table a line with its cause; nothing below this crate prints or exits. Output
 // that cannot be written is an error of `play` and `sub`; `serve` goes on without it, but fails at
 // the end if it cannot write `bye`.
 
@@ -13,6 +13,7 @@ ghost use Rattle.jobs.specs.Failures.{EndsByError, FailsAt};
 ghost use Rattle.jobs.specs.Errors.{exit_status};
 
 use crate::job_error::JobError;
+use crate::table_causes::print_cause;
 use crate::{scripts, serving_table, tcp_clients};
 use command_line::Job;
 use std::io::{BufRead, Write};
@@ -23,7 +24,8 @@ use std::thread::Threads;
 use std::time::Clock;
 
 /// Runs a job over one reader and two writers, and returns the exit status. Prints an error in one
-/// line, which no clause says.
+/// line, and after one of the table of nodes what is wrong with it, in a second line. No clause says
+/// what is printed there.
 pub fn perform<R, I, O, E>(
     rt: &R,
     job: &Job<'_>,
@@ -43,7 +45,13 @@ where
 {
     match do_job(rt, job, input, output, faults) {
         Ok(()) => 0,
-        Err(error) => print_fault(faults, &error),
+        Err(error) => {
+            let status = print_fault(faults, &error);
+            if let (JobError::Table, Job::Serve(serve)) = (&error, job) {
+                print_cause(rt, serve.config, faults);
+            }
+            status
+        }
     }
 }
 

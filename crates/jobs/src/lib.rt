@@ -8,6 +8,7 @@ mod orders;
 mod refusals;
 mod scripts;
 mod serving_table;
+mod table_causes;
 mod tcp_clients;
 mod whole_input;
 mod whole_output;
