@@ -1,5 +1,5 @@
-//! Tests of what the program consists of: the client, words of the command line, scripts, and the
-//! subcommands with their input and output.
+//! Tests of what the program consists of: the client, scripts that are played, and the subcommands
+//! with their input and output.
 #![tactic(auto)]
 
 #[cfg(test)]
@@ -9,10 +9,8 @@ mod examples;
 #[cfg(test)]
 mod played;
 #[cfg(test)]
-mod script_texts;
+mod refusal_texts;
 #[cfg(test)]
 mod served;
 #[cfg(test)]
 mod user_clients;
-#[cfg(test)]
-mod words;

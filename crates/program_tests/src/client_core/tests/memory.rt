@@ -2,13 +2,18 @@
 // the gate none fails. A call answers `Memory` and has changed nothing, or the client is as after
 // `lost`; if the call is made again, all is as it is with memory.
 
-use super::handshakes::taken;
 use super::row::*;
 use client::ClientCore;
 use client_base::ClientError;
 use packet_base::QoS;
 use std::alloc::Global;
 use std::test::*;
+
+// Returns how many are taken out, and how many are left then.
+fn taken(client: &mut ClientCore) -> (usize, usize) {
+    let taken = client.take_accepted();
+    (taken.len(), client.accepted().len())
+}
 
 // What others may see of a client, apart from its bytes: how many are kept and were accepted,
 // whether it is connected, and whether the server had its session.
@@ -67,12 +72,12 @@ fn is_unchanged_or_lost(
 // the first try left something changed.
 fn act_again(client: &mut ClientCore, alloc: Global, done: Act<'_>) -> Option<ClientError> {
     let before = shown_by(client);
-    let refusal = attempt(client, alloc, done, None);
+    let refusal = attempt(client, alloc, done);
     if refusal != Some(ClientError::Memory) {
         return refusal;
     }
     if is_unchanged_or_lost(client, alloc, done, before) {
-        attempt(client, alloc, done, None)
+        attempt(client, alloc, done)
     } else {
         Some(ClientError::TooLarge)
     }
@@ -88,7 +93,7 @@ fn first_fault_again<'a>(
         let (done, _, _, _, _) = *row;
         let refusal = act_again(client, alloc, done);
         if let Some(came) = came_after(client, alloc, row, refusal) {
-            return Some(Fault::Row(at, None, *row, came));
+            return Some(Fault(at, *row, came));
         }
     }
     None

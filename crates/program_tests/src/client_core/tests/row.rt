@@ -39,15 +39,9 @@ pub struct Came {
     counts: (usize, usize),
 }
 
-/// Why rows fail.
+/// At this index, this row did not hold, and this came instead.
 #[derive(Clone, Copy, Debug, PartialEq, Eq)]
-pub enum Fault<'a> {
-    /// There was no memory for a client.
-    NoMemory,
-    /// At this index, with each piece split after this many bytes or whole, this row did not hold,
-    /// and this came instead.
-    Row(usize, Option<usize>, Row<'a>, Came),
-}
+pub struct Fault<'a>(pub usize, pub Row<'a>, pub Came);
 
 /// CONNECT of client `a` with CleanSession 0 and keep alive 0 (MQTT 3.1).
 pub const CONNECT: &[u8] = &[
@@ -69,9 +63,6 @@ pub const PUBREC: &[u8] = &[0x50, 0x02, 0x00, 0x01];
 /// No bytes.
 pub const NOTHING: &[u8] = &[];
 
-/// No piece of the rows is longer.
-const LONGEST: usize = 26;
-
 /// Returns client `a`, never connected; none if there is no memory for it.
 pub fn new_client(alloc: Global) -> Option<ClientCore> {
     let client = ClientId::new(alloc, "a").ok()?;
@@ -86,24 +77,6 @@ pub fn give(client: &mut ClientCore, bytes: &[u8]) -> Option<ClientError> {
 /// Opens a connection, and returns its refusal.
 pub fn open(client: &mut ClientCore) -> Option<ClientError> {
     client.open().err()
-}
-
-// Passes a piece in two parts, the first of this many bytes or of all. Returns the first error.
-fn give_in_two(client: &mut ClientCore, bytes: &[u8], split: usize) -> Option<ClientError> {
-    let Some((front, rest)) = bytes.split_at_checked(split.min(bytes.len())) else {
-        return Some(ClientError::TooLarge);
-    };
-    let first = give(client, front);
-    let second = give(client, rest);
-    first.or(second)
-}
-
-// Passes a piece, whole or split in two.
-fn give_split(client: &mut ClientCore, bytes: &[u8], split: Option<usize>) -> Option<ClientError> {
-    match split {
-        Some(split) => give_in_two(client, bytes, split),
-        None => give(client, bytes),
-    }
 }
 
 /// Subscribes to a filter; `Memory` also if there is no memory for the filter.
@@ -143,12 +116,7 @@ pub fn publish(
 }
 
 /// Does this, and returns its refusal.
-pub fn attempt(
-    client: &mut ClientCore,
-    alloc: Global,
-    act: Act<'_>,
-    split: Option<usize>,
-) -> Option<ClientError> {
+pub fn attempt(client: &mut ClientCore, alloc: Global, act: Act<'_>) -> Option<ClientError> {
     match act {
         Act::Open => open(client),
         Act::Lost => {
@@ -156,7 +124,7 @@ pub fn attempt(
             None
         }
         Act::Disconnect => client.disconnect().err(),
-        Act::Bytes(bytes) => give_split(client, bytes, split),
+        Act::Bytes(bytes) => give(client, bytes),
         Act::Subscribe => subscribe(client, alloc, "t/#"),
         Act::Unsubscribe => unsubscribe(client, alloc, "t/#"),
         Act::Publish(qos, byte) => publish(client, alloc, qos, &[byte]),
@@ -216,47 +184,4 @@ pub fn came_after(
         came.front = front_of(out.as_slice());
     }
     Some(came)
-}
-
-/// Returns what came of a row, if it is not what the row says.
-pub fn came_instead(
-    client: &mut ClientCore,
-    alloc: Global,
-    row: &Row<'_>,
-    split: Option<usize>,
-) -> Option<Came> {
-    let (done, _, _, _, _) = *row;
-    let refusal = attempt(client, alloc, done, split);
-    came_after(client, alloc, row, refusal)
-}
-
-/// Does the rows with a client that was never connected, each piece of the server whole or split in
-/// two. Fails with the first row whose result differs, and what came.
-pub fn play_split<'a>(
-    alloc: Global,
-    rows: &[Row<'a>],
-    split: Option<usize>,
-) -> Result<ClientCore, Fault<'a>> {
-    let Some(mut client) = new_client(alloc) else {
-        return Err(Fault::NoMemory);
-    };
-    for (at, row) in rows.iter().enumerate() {
-        if let Some(came) = came_instead(&mut client, alloc, row, split) {
-            return Err(Fault::Row(at, split, *row, came));
-        }
-    }
-    Ok(client)
-}
-
-/// Does the rows with every split of each piece, and at last with none.
-pub fn play<'a>(alloc: Global, rows: &[Row<'a>]) -> Result<ClientCore, Fault<'a>> {
-    for split in 0..LONGEST {
-        play_split(alloc, rows, Some(split))?;
-    }
-    play_split(alloc, rows, None)
-}
-
-/// Returns the first row whose result differs, with some split or none, and what came.
-pub fn first_fault<'a>(alloc: Global, rows: &[Row<'a>]) -> Option<Fault<'a>> {
-    play(alloc, rows).err()
 }

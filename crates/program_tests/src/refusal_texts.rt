@@ -1,0 +1,4 @@
+//! Refusals, with their numbers and texts. It has only tests.
+
+#[cfg(test)]
+mod tests;

@@ -1,4 +1,0 @@
-//! Texts that are read as scripts, or refused. It has only tests.
-
-#[cfg(test)]
-mod tests;

@@ -1,4 +1,0 @@
-// What no clause says: that words and tables which are as they should be are read.
-
-mod lines;
-mod tables;
