@@ -10,7 +10,7 @@ use Rattle.client.specs.Inside.PacketSteps.{Tries, ReadsOne}
 pub handling_fails : (old mid new : Core) (packet : Packet) (error : ClientError) → ReadsPacket old packet mid
     → Tries (outcome_of_packet packet mid) mid (Err error) new → ReadsOne old (Err error) new
 handling_fails old mid new packet errors.Memory r t =
-    (ap (λ (c : Core). c.state) t ∙ r.1, ap (λ (c : Core). c.out) t ∙ r.2)
+    (inr (packet, mid, r, t.0), ap (λ (c : Core). c.state) t.1 ∙ r.1, ap (λ (c : Core). c.out) t.1 ∙ r.2)
 handling_fails old mid new packet errors.SessionLost r t = (packet, mid, r, t.0, t.1)
 handling_fails old mid new packet _ r t =
     (inr (packet, mid, r, t.0), ap (λ (c : Core). c.state) t.1 ∙ r.1, ap (λ (c : Core). c.out) t.1 ∙ r.2)

@@ -1,6 +1,7 @@
 -- The value of a `ClientCore` in contracts: its state, its unread bytes and its written bytes; and
 -- what its calls do.
-use Rattle.std.specs.Prelude.{◌≡◌, ℕ, Bool, false, List, [], ◌∷◌, Some, None, Result, Ok, Err}
+use Rattle.std.specs.Prelude.{◌≡◌, ◌≢◌, ◌<◌, ◌⊎◌, ℕ, Bool, false, List, [], ◌∷◌, length, Some, None}
+use Rattle.std.specs.Prelude.{Result, Ok, Err}
 use Rattle.packet_base.specs.declared.qos.QoS.{QoS}
 use Rattle.packet.specs.declared.packet.Packet.{Packet}
 use Rattle.packet.specs.Spelling.{AppendsSpelling}
@@ -38,29 +39,42 @@ IsDone outcome old new =
     (new.state ≡ outcome.state) × AppendsAll old.out new.out outcome.writes
     × (new.unread ≡ old.unread)
 
--- A call is the whole step with its error; if memory runs out nothing changes.
+-- the step writes a packet, or the client queues or accepts one more publication; its other lists
+-- grow only when it writes
+abbrev pub Grows : ClientOutcome → ClientState → Type 0
+Grows outcome before =
+    (outcome.writes ≢ [])
+    ⊎ ((length before.queued < length outcome.state.queued)
+    ⊎ (length before.accepted < length outcome.state.accepted))
+
+-- memory may run out: the step is not refused, and something grows
+abbrev pub NeedsMemory : ClientOutcome → ClientState → Type 0
+NeedsMemory outcome before = (outcome.refusal ≡ None) × Grows outcome before
+
+-- A call is the whole step with its error. If memory runs out nothing changes.
 abbrev pub AnswersCall : ClientOutcome → Core → Result (Unit {0}) ClientError → Core → Type 0
 AnswersCall outcome old (Ok done) new = (outcome.refusal ≡ None) × IsDone outcome old new
-AnswersCall outcome old (Err errors.Memory) new = new ≡ old
+AnswersCall outcome old (Err errors.Memory) new = NeedsMemory outcome old.state × (new ≡ old)
 AnswersCall outcome old (Err cause) new = (outcome.refusal ≡ Some cause) × (new ≡ old)
 
 -- the connection is lost: written bytes stay, unread ones are dropped
 abbrev pub gone : Core → Core
 gone core = record core { state = lost core.state; unread = nothing_read }
 
--- the client opens a connection: CONNECT is the first packet that is written on it
+-- the client opens a connection: CONNECT is the first packet that is written on it, and memory may
+-- run out for it
 abbrev pub OpensConnection : ClientOutcome → Core → Result (Unit {0}) ClientError → Core → Type 0
 OpensConnection outcome old (Ok done) new =
     (new.state ≡ outcome.state) × AppendsAll [] new.out outcome.writes × (new.unread ≡ nothing_read)
 OpensConnection outcome old (Err cause) new = (cause ≡ errors.Memory) × (new ≡ old)
 
--- the client disconnects: like a call, and the unread bytes are dropped
+-- the client disconnects: like a call, but the unread bytes are dropped
 abbrev pub LeavesServer : ClientOutcome → Core → Result (Unit {0}) ClientError → Core → Type 0
 LeavesServer outcome old (Ok done) new =
     (outcome.refusal ≡ None) × (new.state ≡ outcome.state)
     × AppendsAll old.out new.out outcome.writes
     × (new.unread ≡ nothing_read)
-LeavesServer outcome old (Err errors.Memory) new = new ≡ old
+LeavesServer outcome old (Err errors.Memory) new = NeedsMemory outcome old.state × (new ≡ old)
 LeavesServer outcome old (Err cause) new = (outcome.refusal ≡ Some cause) × (new ≡ old)
 
 -- the accepted publications are taken

@@ -8,8 +8,10 @@
 // lists are sent: `released` in the order of the PUBRECs, then `sent` and `queued` in the order of
 // the calls. Publications and requests take their identifiers from one pool, so none is used twice.
 // An identifier enters `received` together with its publication in `accepted`, with memory
-// allocated for both first: this makes the delivery exactly once. After `Memory` a call has changed
-// nothing; only `on_bytes` loses the connection.
+// allocated for both first: this makes the delivery exactly once. Memory runs out only in a call
+// that is not refused and writes, queues or accepts something. It has then changed nothing; only
+// `on_bytes` loses the connection. Bytes that are no packet are dropped as soon as they are found,
+// so the cutter never holds a stream with a fault.
 
 ghost use Rattle.std.specs.Prelude.{◌≡◌};
 ghost use Rattle.client.specs.Core.{new_core, gone};
@@ -75,6 +77,7 @@ impl Drop for ClientCore {
 }
 
 impl Model for ClientCore {
+    ghost use Rattle.std.specs.Prelude.{◌≡◌, false};
     ghost use Rattle.client.specs.Core.{Core};
 
     ghost Value = { Core };
@@ -96,6 +99,8 @@ impl Model for ClientCore {
       unread = core.cutter;
       out = core.out.items;
     } };
+
+    ghost invariant = { λ core. core.cutter.failed ≡ false };
 }
 
 impl ClientCore {

@@ -1,8 +1,8 @@
 // The beginning and the end of a client's connections (MQTT 3.1, 3.2, 3.14).
 
-ghost use Rattle.std.specs.Prelude.{◌≡◌, [], false, true, if◌then◌else◌, IfOk, OnOk};
+ghost use Rattle.std.specs.Prelude.{◌≡◌, ◌<◌, [], false, true, if◌then◌else◌, IfOk, OnOk};
 ghost use Rattle.std.specs.Prelude.{OnErr, IsErrOf};
-ghost use Rattle.client_base.specs.State.{resent, is_online};
+ghost use Rattle.client_base.specs.State.{resent, is_online, kept_count};
 ghost use Rattle.client_base.specs.Calls.{opened, on_connack, discarded, numbered};
 ghost use Rattle.client_base.specs.Steps.{Call, keeper_step};
 ghost use Rattle.client.specs.Core.{OpensConnection, LeavesServer, AppendsAll};
@@ -30,7 +30,8 @@ impl ClientCore {
     }
 
     /// Ends the connection: writes DISCONNECT if the server had accepted it, then handles its loss.
-    /// `NotActive` exactly if there is no connection; after `Memory` nothing has changed.
+    /// `NotActive` exactly if there is no connection. After `Memory`, which comes only where
+    /// DISCONNECT is written, nothing has changed.
     pub fn disconnect(&mut self) -> Result<(), ClientError>
         ensures { LeavesServer
             (keeper_step Call.Disconnects self.old.state) self.old result self.new }
@@ -47,6 +48,7 @@ impl ClientCore {
     /// Handles CONNACK 0: retransmits what is kept. If the server lost the session, what is kept is
     /// dropped and [`ClientError::SessionLost`] returned. After [`ClientError::Memory`] nothing has
     /// changed.
+    #[tactic(auto, using(crate::proofs::Growing::some_resent))]
     pub(crate) fn on_connack(&mut self, session_present: bool) -> Result<(), ClientError>
         ensures { Tries (on_connack session_present self.old.state) self.old result self.new }
     {
@@ -65,12 +67,14 @@ impl ClientCore {
         Ok(())
     }
 
-    // Writes what is kept, in order; queued publications become sent. After `Memory` nothing has
-    // changed.
+    // Writes what is kept, in order; queued publications become sent. After `Memory`, which comes
+    // only if something is kept, nothing has changed.
+    #[tactic(auto, using(crate::proofs::Growing::some_kept))]
     fn resend(&mut self) -> Result<(), ClientError>
         ensures ok { OnOk result (self.new ≡ all_sent self.new.out self.old) }
         ensures bytes { OnOk result (AppendsAll self.old.out self.new.out (resent self.old.state)) }
         ensures memory { OnErr result (IsErrOf result ClientError.Memory) }
+        ensures some { OnErr result (0 < kept_count self.old.state) }
         ensures same { OnErr result (self.new ≡ self.old) }
     {
         let bytes = self.resent()?;
@@ -96,6 +100,7 @@ impl ClientCore {
     fn resent(&self) -> Result<Vec<u8>, ClientError>
         ensures ok { IfOk result (λ bytes. AppendsAll [] bytes.items (resent self.now.state)) }
         ensures memory { OnErr result (IsErrOf result ClientError.Memory) }
+        ensures some { OnErr result (0 < kept_count self.now.state) }
     {
         let mut bytes = Vec::new(self.alloc);
         write_pubrels(&self.released, &mut bytes)?;

@@ -4,21 +4,22 @@ ghost use Rattle.std.specs.Prelude.{◌≡◌, ◌<◌, length, true, Ok};
 ghost use Rattle.client_base.specs.Calls.{on_first, on_later};
 ghost use Rattle.client.specs.Input.{outcome_of_packet, cause_of, OnBytes};
 ghost use Rattle.client.specs.Inside.PacketSteps.{Tries, ReadsOne, FeedsAndReads, TakesNext, Feeds, HandlesPackets};
-ghost use Rattle.client.specs.Inside.PacketSteps.{cut_cause, is_fatal};
+ghost use Rattle.client.specs.Inside.PacketSteps.{is_fatal};
 
 use crate::client_core::ClientCore;
 use client_base::{ClientError, Stage};
-use cutter::CutError;
+use cutter::{CutError, Cutter};
 use packet::{Connack, DecodeFault, Packet};
 
 impl ClientCore {
     /// Reads the next bytes from the server, in chunks of any size, and handles each whole packet.
     /// `NotActive` if there is no connection, and then nothing changes, or if the server refused
     /// the connection; `Protocol` for a packet that is not allowed there; `Malformed` for bytes
-    /// that are no packet; `Memory`. After these the client is as after `lost`, and the
-    /// effects of earlier packets remain. `SessionLost` if the server lost the session: what was
-    /// kept is dropped, the connection stays open, and the bytes after that packet are handled by
-    /// the next call.
+    /// that are no packet; `Memory` if memory runs out for the chunk, which is not empty then, for
+    /// the texts or the list of a packet, or for what a packet makes the client write or accept.
+    /// After these the client is as after `lost`, and the effects of earlier packets remain.
+    /// `SessionLost` if the server lost the session: what was kept is dropped, the connection stays
+    /// open, and the bytes after that packet are handled by the next call.
     pub fn on_bytes(&mut self, piece: &[u8]) -> Result<(), ClientError>
         ensures { OnBytes piece.now self.old.state.stage self.old result self.new }
     {
@@ -76,14 +77,18 @@ impl ClientCore {
         }
     }
 
-    // Takes the next whole packet, if there is one.
+    // Takes the next whole packet, if there is one. A stream with a fault is dropped.
     fn next_packet(&mut self) -> Result<Option<Packet>, ClientError>
         ensures { TakesNext self.old result self.new }
     {
         match self.cutter.next() {
             Ok(Some(packet)) => Ok(Some(packet)),
             Ok(None) => Ok(None),
-            Err(error) => Err(cut_cause(error)),
+            Err(CutError::Decode(fault)) => {
+                self.cutter = Cutter::new(self.alloc);
+                Err(cause_of(fault))
+            }
+            Err(CutError::Memory | CutError::Failed) => Err(ClientError::Memory),
         }
     }
 
@@ -130,16 +135,6 @@ impl ClientCore {
             | Packet::Disconnect => return Err(ClientError::Protocol),
         }
         Ok(())
-    }
-}
-
-// Returns the error for bytes that are no packet.
-fn cut_cause(error: CutError) -> ClientError
-    ensures { result ≡ cut_cause error }
-{
-    match error {
-        CutError::Decode(fault) => cause_of(fault),
-        CutError::Memory | CutError::Failed => ClientError::Memory,
     }
 }
 

@@ -1,6 +1,6 @@
 // Writing packets to the server.
 
-ghost use Rattle.std.specs.Prelude.{◌≡◌, false, map, IfOk, OnOk, OnErr, IsErrOf};
+ghost use Rattle.std.specs.Prelude.{◌≡◌, ◌<◌, false, length, map, IfOk, OnOk, OnErr, IsErrOf};
 ghost use Rattle.packet.specs.Spelling.{IsListed, AppendsSpelling};
 ghost use Rattle.packet.specs.declared.packet.Packet.TheVariants as packets;
 ghost use Rattle.client_base.specs.State.{publish_kept};
@@ -102,6 +102,7 @@ pub(crate) fn write_pubcomp(id: PacketId, out: &mut Vec<u8>) -> Result<(), Clien
 pub(crate) fn write_pubrels(ids: &[PacketId], out: &mut Vec<u8>) -> Result<(), ClientError>
     ensures ok { OnOk result (AppendsAll out.old.items out.new.items (map packets.Pubrel ids.now)) }
     ensures memory { OnErr result (IsErrOf result ClientError.Memory) }
+    ensures some { OnErr result (0 < length ids.now) }
 {
     for id in ids {
         write_pubrel(*id, out)?;
@@ -135,6 +136,7 @@ pub(crate) fn write_publishes(
     ensures ok { OnOk result
         (AppendsAll out.old.items out.new.items (map (publish_kept dup) kept.now)) }
     ensures memory { OnErr result (IsErrOf result ClientError.Memory) }
+    ensures some { OnErr result (0 < length kept.now) }
 {
     for one in kept {
         write_publish(one, dup, out)?;

@@ -1,24 +1,22 @@
 // Publications of a client (MQTT 3.3, 4.3).
 
-ghost use Rattle.std.specs.Prelude.{◌≡◌, false, true, IfOk};
+ghost use Rattle.std.specs.Prelude.{◌≡◌, true};
 ghost use Rattle.packet.specs.declared.delivery.Delivery.TheVariants as deliveries;
 ghost use Rattle.packet.specs.declared.packet.Packet.TheVariants as packets;
 ghost use Rattle.packet_base.specs.declared.qos.QoS.TheVariants as qos_levels;
 ghost use Rattle.session_base.specs.Publication.{is_answered};
-ghost use Rattle.client_base.specs.State.{publish_kept};
-ghost use Rattle.client_base.specs.Publications.{is_over_limit};
 ghost use Rattle.client_base.specs.Steps.{Call, keeper_step};
 ghost use Rattle.client.specs.Core.{AnswersCall, publication_with};
 ghost use Rattle.client.specs.Inside.Ids.{PublicationId};
 ghost use Rattle.client.specs.Inside.PacketSteps.{kept_publication, sent_publication};
 
 use crate::client_core::ClientCore;
-use crate::output::{publish_again, write, write_publish};
+use crate::output::{write, write_publish};
+use crate::refusals::is_long;
 use client_base::{ClientError, MAX_KEPT, Stage, UnacknowledgedPublication};
 use packet::{Delivery, Packet, Publish};
 use packet_base::{PacketId, Payload, QoS};
 use session_base::Publication;
-use std::alloc::AllocError;
 use topics::TopicName;
 
 impl ClientCore {
@@ -26,7 +24,8 @@ impl ClientCore {
     /// at once if the client is online, otherwise after the next CONNACK 0. Errors, in this order:
     /// `WindowFull` exactly if at QoS 1 or 2 sixty-four publications are kept or no identifier is
     /// free; `NotActive` if the client is offline at QoS 0; `TooLarge` if the packet would be over
-    /// the size limit; `Memory` if memory runs out. After an error nothing has changed.
+    /// the size limit; `Memory` if memory runs out for a publication that none of these refuses.
+    /// After an error nothing has changed.
     pub fn publish(
         &mut self,
         topic: TopicName,
@@ -80,7 +79,7 @@ impl ClientCore {
     fn keep(&mut self, kept: UnacknowledgedPublication) -> Result<(), ClientError>
         ensures { AnswersCall (kept_publication kept self.old.state) self.old result self.new }
     {
-        if is_too_large(&kept)? {
+        if is_long(&kept.publication) {
             return Err(ClientError::TooLarge);
         }
         if self.stage == Stage::Online {
@@ -127,12 +126,4 @@ fn packet_once(publication: Publication) -> Packet
         retain: publication.retain,
         payload: publication.payload,
     })
-}
-
-// Returns true if the PUBLISH of a publication would be over the size limit.
-fn is_too_large(kept: &UnacknowledgedPublication) -> Result<bool, AllocError>
-    ensures { IfOk result (λ large. large ≡ is_over_limit (publish_kept false kept.now)) }
-{
-    let packet = publish_again(kept, false)?;
-    Ok(packet.is_too_large())
 }

@@ -1,6 +1,7 @@
 // Reading a client's state and its output.
 
-ghost use Rattle.std.specs.Prelude.{◌≡◌, ◌++◌, [], OnOk, OnErr, IsErrOf, length, min};
+ghost use Rattle.std.specs.Prelude.{◌≡◌, ◌<◌, ◌+◌, ◌++◌, [], OnOk, OnErr, IsErrOf, length, min};
+ghost use Rattle.std.specs.Prelude.{vec_len, vec_capacity};
 ghost use Rattle.client_base.specs.State.{is_online, kept_count};
 ghost use Rattle.client.specs.Core.{without_accepted};
 
@@ -18,13 +19,20 @@ impl ClientCore {
     }
 
     /// Appends the bytes that were written and not yet taken. If `out` is empty no byte is copied,
-    /// which no clause says. After `Memory` nothing has changed.
+    /// which no clause says. `Memory` only if there are such bytes, and `out` is not empty and has
+    /// too little capacity for them. After `Memory` nothing has changed.
     pub fn outgoing(&mut self, out: &mut Vec<u8>) -> Result<(), ClientError>
         ensures bytes { OnOk result (out.new.items ≡ out.old.items ++ self.old.out) }
         ensures ok { OnOk result (self.new ≡ record self.old { out = [] }) }
 
-        // The only error is that memory ran out.
+        // The only error is that memory ran out, as `out` had to grow.
         ensures memory { OnErr result (IsErrOf result ClientError.Memory) }
+        ensures some { OnErr result (0 < length self.old.out) }
+        ensures filled { OnErr result (0 < vec_len out.old) }
+        ensures grows { OnErr result
+            (vec_capacity out.old < vec_len out.old + length self.old.out) }
+
+        // What stays.
         ensures same { OnErr result (self.new ≡ self.old) }
         ensures untouched { OnErr result (out.new.items ≡ out.old.items) }
     {

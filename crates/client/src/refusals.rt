@@ -33,8 +33,8 @@ impl ClientCore {
     }
 }
 
-// Returns true if the PUBLISH that carries a publication is over the size limit.
-fn is_long(publication: &Publication) -> bool
+/// Returns true if the PUBLISH that carries a publication is over the size limit. Takes no memory.
+pub(crate) fn is_long(publication: &Publication) -> bool
     ensures { (id : ℕ) → result
         ≡ is_over_limit (packets.Publish (publish_for false id publication.now)) }
 {

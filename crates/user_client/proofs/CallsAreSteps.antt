@@ -44,7 +44,7 @@ pub left : (core : Core) (was : Bool) {seen : CallerView} (new : Core) (result :
     → parts core was ≡ seen → LeavesServer (keeper_step Call.Disconnects core.state) core result new
     → Trace seen [] (parts new was)
 left core was new (Ok tt) is leaves = step_of core was (parts new was) is (Step.leaves new leaves)
-left core was new (Err errors.Memory) is same = no_step core was new is same
+left core was new (Err errors.Memory) is lacks = no_step core was new is lacks.1
 left core was new (Err (errors.Malformed kind)) is refused = no_step core was new is refused.1
 left core was new (Err errors.Protocol) is refused = no_step core was new is refused.1
 left core was new (Err errors.NotActive) is refused = no_step core was new is refused.1
@@ -71,7 +71,7 @@ pub left_keeps : (core : Core) (new : Core) (result : Result (Unit {0}) ClientEr
     → LeavesServer (keeper_step Call.Disconnects core.state) core result new
     → kept_count new.state ≡ kept_count core.state
 left_keeps core new (Ok tt) leaves = ap kept_count leaves.1 ∙ disconnected_keeps core.state.stage core.state
-left_keeps core new (Err errors.Memory) same = ap (λ (c : Core). kept_count c.state) same
+left_keeps core new (Err errors.Memory) lacks = ap (λ (c : Core). kept_count c.state) lacks.1
 left_keeps core new (Err (errors.Malformed kind)) refused = ap (λ (c : Core). kept_count c.state) refused.1
 left_keeps core new (Err errors.Protocol) refused = ap (λ (c : Core). kept_count c.state) refused.1
 left_keeps core new (Err errors.NotActive) refused = ap (λ (c : Core). kept_count c.state) refused.1

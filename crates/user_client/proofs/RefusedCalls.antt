@@ -19,7 +19,7 @@ caused outcome cause it is refused = inl (ap (option_map error_of_call) refused 
 -- the error says why
 refused_for : (outcome : ClientOutcome) (old new : Core) (cause : ClientError) (it : UserClientError) → it ≡ error_of_call cause
     → AnswersCall outcome old (Err cause) new → IsRefusedFor outcome.refusal it
-refused_for outcome old new errors.Memory it is same = inr is
+refused_for outcome old new errors.Memory it is lacks = inr is
 refused_for outcome old new (errors.Malformed kind) it is refused = caused outcome (errors.Malformed kind) it is refused.0
 refused_for outcome old new errors.Protocol it is refused = caused outcome errors.Protocol it is refused.0
 refused_for outcome old new errors.NotActive it is refused = caused outcome errors.NotActive it is refused.0
@@ -29,7 +29,7 @@ refused_for outcome old new errors.SessionLost it is refused = caused outcome er
 
 -- nothing changed
 unchanged : (outcome : ClientOutcome) (old new : Core) (cause : ClientError) → AnswersCall outcome old (Err cause) new → new ≡ old
-unchanged outcome old new errors.Memory same = same
+unchanged outcome old new errors.Memory lacks = lacks.1
 unchanged outcome old new (errors.Malformed kind) refused = refused.1
 unchanged outcome old new errors.Protocol refused = refused.1
 unchanged outcome old new errors.NotActive refused = refused.1

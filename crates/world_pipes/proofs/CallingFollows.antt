@@ -28,7 +28,7 @@ use Rattle.world_pipes.proofs.StaysOpen.{publishing_stays, subscribing_stays, un
 -- ---- a refusal changes nothing
 
 same_core : (outcome : ClientOutcome) (old new : Core) (cause : ClientError) → AnswersCall outcome old (Err cause) new → new ≡ old
-same_core outcome old new errors.Memory does = does
+same_core outcome old new errors.Memory does = does.1
 same_core outcome old new errors.NotActive does = does.1
 same_core outcome old new errors.WindowFull does = does.1
 same_core outcome old new errors.TooLarge does = does.1
@@ -40,7 +40,7 @@ pub call_refused : (outcome : ClientOutcome) (old new : Piped) (cause : ClientEr
 call_refused outcome old new cause calls = ap₂ piped (same_core outcome old.core new.core cause calls.0) calls.1
 
 same_left : (outcome : ClientOutcome) (old new : Core) (cause : ClientError) → LeavesServer outcome old (Err cause) new → new ≡ old
-same_left outcome old new errors.Memory leaves = leaves
+same_left outcome old new errors.Memory leaves = leaves.1
 same_left outcome old new errors.NotActive leaves = leaves.1
 same_left outcome old new errors.WindowFull leaves = leaves.1
 same_left outcome old new errors.TooLarge leaves = leaves.1

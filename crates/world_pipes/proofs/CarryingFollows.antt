@@ -11,7 +11,7 @@ use Rattle.client_base.specs.State.{ClientState, is_open}
 use Rattle.client_base.specs.History as history
 use Rattle.client_base.proofs.FollowsHandled.{lost_stands}
 use Rattle.client.specs.Core.{Core, gone}
-use Rattle.client.specs.Input.{EndsWith, Handles, OnBytes, fed}
+use Rattle.client.specs.Input.{EndsWith, Handles, LacksRoom, OnBytes, fed}
 use Rattle.exactly_once.specs.Sides.{ClientConnection}
 use Rattle.headline.specs.byte_world.World.{ClientPipes, Pipe, with_pipe}
 use Rattle.world_pipes.specs.declared.pair.PipePair.{PipePair}
@@ -89,8 +89,8 @@ lose before core new m others p₀ further is l =
     }
 
 ends : (before : List ℕ) (last new : Core) (m : ClientPipes) (others : List ClientConnection) (p₀ : Pipe) (further : List Pipe) (read : Result (Unit {0}) ClientError) →
-    is_open last.state.stage ≡ true → GoFar before last m others p₀ further → EndsWith last read new → Leaves before new m others p₀ further
-ends before last new m others p₀ further read up far end = by read end
+    is_open last.state.stage ≡ true → GoFar before last m others p₀ further → EndsWith last read new ⊎ (new ≡ gone last) → Leaves before new m others p₀ further
+ends before last new m others p₀ further read up far end = in_either end
   where
     kept : Leaves before last m others p₀ further
     kept = record { last = far.last; steps = far.steps; silent = far.silent; left = left_so before last far.last others p₀ further far.stands }
@@ -100,24 +100,34 @@ ends before last new m others p₀ further read up far end = by read end
     by (Err errors.SessionLost) end =
         let one = one_goes before last end.1 new far.last others p₀ further end.0 up far.stands end.2 end.4 in
         record { last = one.next; steps = ClientTrace.goes_on far.steps one.step; silent = ap₂ (λ a b. a ++ b) far.silent one.silent; left = left_so before new one.next others p₀ further one.stands }
-    by (Err errors.Memory) end = lose before last new m others p₀ further end kept
+    by (Err errors.Memory) end = lose before last new m others p₀ further end.1 kept
     by (Err errors.NotActive) end = lose before last new m others p₀ further end.1 kept
     by (Err errors.WindowFull) end = lose before last new m others p₀ further end.1 kept
     by (Err errors.TooLarge) end = lose before last new m others p₀ further end.1 kept
     by (Err errors.Protocol) end = lose before last new m others p₀ further end.1 kept
     by (Err (errors.Malformed kind)) end = lose before last new m others p₀ further end.1 kept
 
--- what a piece does to an open client
+    in_either : EndsWith last read new ⊎ (new ≡ gone last) → Leaves before new m others p₀ further
+    in_either (inl end) = by read end
+    in_either (inr lost) = lose before last new m others p₀ further lost kept
+
+-- what a piece does to an open client: packets are handled, and then it ends, or the connection is
+-- lost at once
 record HasRead (piece : List ℕ) (old : Core) (read : Result (Unit {0}) ClientError) (new : Core) : Type 0 where
   pub last : Core
   pub handled : Handles (fed piece old) last
-  pub ends : EndsWith last read new
+  pub ends : EndsWith last read new ⊎ (new ≡ gone last)
+
+unread : (piece : List ℕ) (old new : Core) (read : Result (Unit {0}) ClientError) → LacksRoom piece old read new → HasRead piece old read new
+unread piece old new read lacks = record { last = fed piece old; handled = Handles.none; ends = inr lacks.2 }
 
 has_read : (piece : List ℕ) (stage : Stage) (old new : Core) (read : Result (Unit {0}) ClientError) → is_open stage ≡ true → OnBytes piece stage old read new →
     HasRead piece old read new
 has_read piece stages.Closed old new read up heard = absurd (both_ways false refl up)
-has_read piece stages.Opened old new read up heard = record { last = heard.0; handled = heard.1; ends = heard.2 }
-has_read piece stages.Online old new read up heard = record { last = heard.0; handled = heard.1; ends = heard.2 }
+has_read piece stages.Opened old new read up (inl lacks) = unread piece old new read lacks
+has_read piece stages.Opened old new read up (inr heard) = record { last = heard.0; handled = heard.1; ends = inl heard.2 }
+has_read piece stages.Online old new read up (inl lacks) = unread piece old new read lacks
+has_read piece stages.Online old new read up (inr heard) = record { last = heard.0; handled = heard.1; ends = inl heard.2 }
 
 -- ---- after the call
 

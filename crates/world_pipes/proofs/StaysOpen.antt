@@ -1,5 +1,5 @@
 -- StaysOpen.antt: no call that is done, and no packet that is not refused, ends a connection.
-use Rattle.std.proofs.Common.{◌≡◌, ℕ, Bool, true, false, if◌then◌else◌, List, Option, Some, None, Result, Ok, Err, refl, ap, sym, ◌∙◌}
+use Rattle.std.proofs.Common.{◌≡◌, ℕ, Bool, true, false, if◌then◌else◌, List, Option, Some, None, Result, Ok, Err, refl, ap, sym, ◌∙◌, inl, inr}
 use Rattle.std.specs.List.{list_any}
 use Rattle.std.proofs.lemmas.Bool.{both_ways}
 use Rattle.packet.specs.declared.packet.Packet.{Packet}
@@ -21,7 +21,7 @@ use Rattle.client_base.specs.Calls.{on_first, on_later, client_receives}
 use Rattle.client_base.specs.Publications.{publish_refusal, published}
 use Rattle.client_base.specs.Steps.{Call, keeper_step, request_refusal, subscribed, unsubscribed, unless_refused}
 use Rattle.client.specs.Core.{Core}
-use Rattle.client.specs.Input.{Handles, OnBytes, EndsWith}
+use Rattle.client.specs.Input.{Handles, LacksRoom, OnBytes, EndsWith}
 use Rattle.lists.specs.Lists.{has_id}
 use Rattle.world_pipes.specs.Inside.{stays_open}
 
@@ -108,16 +108,22 @@ ends_open last new (Err errors.SessionLost) up ends =
     let next = ends.1 in
     sym (outcome_stays packet next.state.stage next.state refl (ap goes_on ends.3))
     ∙ ap (λ (state : ClientState). is_open state.stage) (sym ends.4.0)
-ends_open last new (Err errors.Memory) up ends = ap (λ (core : Core). is_open core.state.stage) (sym ends)
+ends_open last new (Err errors.Memory) up ends = ap (λ (core : Core). is_open core.state.stage) (sym ends.1)
 ends_open last new (Err errors.NotActive) up ends = ap (λ (core : Core). is_open core.state.stage) (sym ends.1)
 ends_open last new (Err errors.WindowFull) up ends = ap (λ (core : Core). is_open core.state.stage) (sym ends.1)
 ends_open last new (Err errors.TooLarge) up ends = ap (λ (core : Core). is_open core.state.stage) (sym ends.1)
 ends_open last new (Err errors.Protocol) up ends = ap (λ (core : Core). is_open core.state.stage) (sym ends.1)
 ends_open last new (Err (errors.Malformed kind)) up ends = ap (λ (core : Core). is_open core.state.stage) (sym ends.1)
 
+-- without memory for a piece the connection ends
+lacks_open : (piece : List ℕ) (old new : Core) (read : Result (Unit {0}) ClientError) → LacksRoom piece old read new → stays_open read ≡ is_open new.state.stage
+lacks_open piece old new read lacks = ap stays_open lacks.1 ∙ ap (λ (core : Core). is_open core.state.stage) (sym lacks.2)
+
 -- so the answer to a piece says whether the connection continues
 pub heard_stays : (piece : List ℕ) (stage : Stage) (old new : Core) (read : Result (Unit {0}) ClientError) → old.state.stage ≡ stage → is_open stage ≡ true
     → OnBytes piece stage old read new → stays_open read ≡ is_open new.state.stage
 heard_stays piece stages.Closed old new read is up heard = absurd (both_ways false refl up)
-heard_stays piece stages.Opened old new read is up heard = ends_open heard.0 new read (handled_stays _ heard.0 heard.1 (ap is_open is)) heard.2
-heard_stays piece stages.Online old new read is up heard = ends_open heard.0 new read (handled_stays _ heard.0 heard.1 (ap is_open is)) heard.2
+heard_stays piece stages.Opened old new read is up (inl lacks) = lacks_open piece old new read lacks
+heard_stays piece stages.Opened old new read is up (inr heard) = ends_open heard.0 new read (handled_stays _ heard.0 heard.1 (ap is_open is)) heard.2
+heard_stays piece stages.Online old new read is up (inl lacks) = lacks_open piece old new read lacks
+heard_stays piece stages.Online old new read is up (inr heard) = ends_open heard.0 new read (handled_stays _ heard.0 heard.1 (ap is_open is)) heard.2

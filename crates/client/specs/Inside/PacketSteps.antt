@@ -1,9 +1,8 @@
 -- The effect of handling one packet, before the connection is dropped.
-use Rattle.std.specs.Prelude.{◌≡◌, ℕ, Bool, true, false, if◌then◌else◌, List, [], ◌∷◌, ◌++◌, Option}
-use Rattle.std.specs.Prelude.{Some, None, Result, Ok, Err}
+use Rattle.std.specs.Prelude.{◌≡◌, ℕ, ◌<◌, ◌⊎◌, Bool, true, false, if◌then◌else◌, List, [], ◌∷◌, ◌++◌}
+use Rattle.std.specs.Prelude.{length, Option, Some, None, Result, Ok, Err}
 use Rattle.packet.specs.declared.packet.Packet.{Packet}
 use Rattle.packet.specs.declared.error.DecodeFault.{DecodeFault}
-use Rattle.cutter.specs.declared.error.CutError.{CutError}
 use Rattle.cutter.specs.declared.error.CutError.TheVariants as cuts
 use Rattle.cutter.specs.Stream.{Stream, Takes}
 use Rattle.client_base.specs.declared.error.ClientError.{ClientError}
@@ -13,13 +12,14 @@ use Rattle.client_base.specs.State.{ClientState, is_online, publish_kept}
 use Rattle.client_base.specs.Answered.{ClientOutcome, going_on}
 use Rattle.client_base.specs.Calls.{refused_call}
 use Rattle.client_base.specs.Publications.{is_over_limit}
-use Rattle.client.specs.Core.{Core, IsDone}
-use Rattle.client.specs.Input.{ReadsPacket, outcome_of_packet, StopsFor, Handles, cause_of, fed}
+use Rattle.client.specs.Core.{Core, IsDone, NeedsMemory}
+use Rattle.client.specs.Input.{ReadsPacket, outcome_of_packet, StopsFor, RunsOut, Handles, cause_of}
+use Rattle.client.specs.Input.{fed}
 
 -- the whole outcome takes effect; one that ends the connection changes nothing here
 abbrev pub Tries : ClientOutcome → Core → Result (Unit {0}) ClientError → Core → Type 0
 Tries outcome old (Ok done) new = (outcome.refusal ≡ None) × IsDone outcome old new
-Tries outcome old (Err errors.Memory) new = new ≡ old
+Tries outcome old (Err errors.Memory) new = NeedsMemory outcome old.state × (new ≡ old)
 Tries outcome old (Err errors.SessionLost) new =
     (outcome.refusal ≡ Some errors.SessionLost) × IsDone outcome old new
 Tries outcome old (Err cause) new = (outcome.refusal ≡ Some cause) × (new ≡ old)
@@ -31,7 +31,8 @@ ReadsOne old (Ok true) new =
     (packet : Packet) × (next : Core) × ReadsPacket old packet next
     × ((outcome_of_packet packet next).refusal ≡ None)
     × IsDone (outcome_of_packet packet next) next new
-ReadsOne old (Err errors.Memory) new = (new.state ≡ old.state) × (new.out ≡ old.out)
+ReadsOne old (Err errors.Memory) new =
+    RunsOut old × (new.state ≡ old.state) × (new.out ≡ old.out)
 ReadsOne old (Err errors.SessionLost) new =
     (packet : Packet) × (next : Core) × ReadsPacket old packet next
     × ((outcome_of_packet packet next).refusal ≡ Some errors.SessionLost)
@@ -54,17 +55,11 @@ all_sent bytes core =
       out = bytes;
     }
 
--- the error with which reading stops; a stream with a fault is dropped at once, so it is never read
--- again
-abbrev pub cut_cause : CutError → ClientError
-cut_cause (cuts.Decode fault) = cause_of fault
-cut_cause cuts.Memory = errors.Memory
-cut_cause cuts.Failed = errors.Memory
-
 -- how the reading of a chunk ends, before the connection is dropped
 abbrev pub StopsAt : Core → Result (Unit {0}) ClientError → Core → Type 0
 StopsAt core (Ok done) new = Takes core.unread (Ok None) core.unread × (new ≡ core)
-StopsAt core (Err errors.Memory) new = (new.state ≡ core.state) × (new.out ≡ core.out)
+StopsAt core (Err errors.Memory) new =
+    RunsOut core × (new.state ≡ core.state) × (new.out ≡ core.out)
 StopsAt core (Err errors.SessionLost) new =
     (packet : Packet) × (next : Core) × ReadsPacket core packet next
     × ((outcome_of_packet packet next).refusal ≡ Some errors.SessionLost)
@@ -75,14 +70,16 @@ StopsAt core (Err cause) new = StopsFor cause core × (new.state ≡ core.state)
 abbrev pub HandlesPackets : Core → Result (Unit {0}) ClientError → Core → Type 0
 HandlesPackets old result new = (last : Core) × Handles old last × StopsAt last result new
 
--- a chunk is appended to the unread bytes
+-- a chunk is appended to the unread bytes; memory may run out unless it is empty
 abbrev pub Feeds : List ℕ → Core → Result (Unit {0}) ClientError → Core → Type 0
 Feeds piece old (Ok done) new = new ≡ fed piece old
-Feeds piece old (Err cause) new = (cause ≡ errors.Memory) × (new ≡ old)
+Feeds piece old (Err cause) new = (0 < length piece) × (cause ≡ errors.Memory) × (new ≡ old)
 
 -- a chunk is appended, and its packets are handled
 abbrev pub FeedsAndReads : List ℕ → Core → Result (Unit {0}) ClientError → Core → Type 0
-FeedsAndReads piece old result new = HandlesPackets (fed piece old) result new
+FeedsAndReads piece old result new =
+    ((0 < length piece) × (result ≡ Err errors.Memory) × (new ≡ old))
+    ⊎ HandlesPackets (fed piece old) result new
 
 -- whether the connection is lost after this result of a chunk
 abbrev pub is_fatal : Result (Unit {0}) ClientError → Bool
@@ -94,7 +91,8 @@ is_fatal (Err cause) = true
 abbrev pub TakesNext : Core → Result (Option Packet) ClientError → Core → Type 0
 TakesNext old (Ok (Some packet)) new = ReadsPacket old packet new
 TakesNext old (Ok None) new = Takes old.unread (Ok None) old.unread × (new ≡ old)
-TakesNext old (Err errors.Memory) new = (new.state ≡ old.state) × (new.out ≡ old.out)
+TakesNext old (Err errors.Memory) new =
+    Takes old.unread (Err cuts.Memory) old.unread × (new ≡ old)
 TakesNext old (Err cause) new =
     ((fault : DecodeFault) × (rest : Stream) × Takes old.unread (Err (cuts.Decode fault)) rest
     × (cause ≡ cause_of fault))

@@ -121,7 +121,8 @@ module _ (piece : List ℕ) (old : Core) (whole : verdict piece ≡ Ok (connack,
   ends last new (Err cause) memory (inr after) z = absurd (none_stops_after cause last after.read z.0)
 
   pub serves : (new : Core) (result : Result (Unit {0}) ClientError) → (result ≡ Err errors.Memory → ⊥) → OnBytes piece stages.Opened old result new → (result ≡ Ok tt) × IsServed new
-  serves new result memory (last, handles, ends_with) = ends last new result memory (handled last handles) ends_with
+  serves new result memory (inl lacks) = absurd (memory lacks.1)
+  serves new result memory (inr (last, handles, ends_with)) = ends last new result memory (handled last handles) ends_with
 
 pub connack_serves : ConnackServes
 connack_serves piece old new result whole opened fresh memory on_bytes =
