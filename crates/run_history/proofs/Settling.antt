@@ -15,6 +15,7 @@ use Rattle.run_history.specs.declared.event.RunEvent.TheVariants.{Opens, ByNode,
 use Rattle.run_history.specs.Ends.{AllEnded, IsEnd, IsMasterSettled, IsSettled}
 use Rattle.run_history.specs.History.{IsHistory, IsMasterOf, IsNodeOf}
 use Rattle.run_history.specs.Log.{events_by, nodes_after, nodes_in}
+use Rattle.run_history.specs.Masters.{MasterView}
 use Rattle.run_history.specs.Parties.{NodeView}
 use Rattle.run_history.proofs.LongerLogs.{events_grow, master_stays, stays}
 use Rattle.run_history.proofs.Openings.{opening_length}
@@ -78,10 +79,12 @@ nodes_length_by nodes (Opens group ∷ log) = nodes_length_by nodes log
 nodes_length_by nodes (ByMaster event ∷ log) = nodes_length_by nodes log
 nodes_length_by nodes (ByNode event ∷ log) = nodes_length_by (slice_set nodes event.node event.after.core) log ∙ length-set nodes event.node event.after.core
 
--- a log by which each of all nodes is settled is their end
-pub ended : (nodes : ℕ) (config : Config) (log : List RunEvent) (parties : List NodeView) → IsHistory nodes config log → length parties ≡ nodes → AllEnded nodes config log parties nodes → IsEnd nodes config log parties
-ended nodes config log parties history count all = record {
+-- a log by which the master and each of all nodes are settled is their end
+pub ended : (nodes : ℕ) (config : Config) (log : List RunEvent) (party : MasterView) (parties : List NodeView) → IsHistory nodes config log → IsMasterSettled config log party → length parties ≡ nodes
+    → AllEnded nodes config log parties nodes → IsEnd nodes config log party parties
+ended nodes config log party parties history of_master count all = record {
   history = history;
+  master_is = of_master;
   cores =
       sym (same_places (λ (node : NodeView). node.node.core) parties (nodes_in nodes config log) (count ∙ sym (nodes_length_by (opening_cores nodes config) log ∙ opening_length nodes config))
       (λ k node at.

@@ -1,4 +1,4 @@
--- How a run ends: one log by which every node has the state that it has.
+-- How a run ends: one log by which the master and every node have the states that they have.
 use Rattle.std.specs.Prelude.{◌≡◌, ℕ, ◌<◌, ◌+◌, List, map, slice_get, Some}
 use mathlib.Core.List.{IsPrefix}
 use Rattle.ballot_base.specs.StepOutcome.{master}
@@ -44,10 +44,11 @@ AllEnded nodes config log parties count =
 abbrev pub cores_of : List NodeView → List CoreState
 cores_of parties = map (λ (node : NodeView). node.node.core) parties
 
--- The log is a run of the model from the opening on, at whose end the nodes of the group are just
--- these, with all the events that they have.
+-- The log is a run of the model from the opening on, at whose end the master and the nodes of the
+-- group are just these, with all the events that they have.
 pub record IsEnd (nodes : ℕ) (config : Config) (log : List RunEvent)
-    (parties : List NodeView) : Type 0 where
+    (party : MasterView) (parties : List NodeView) : Type 0 where
   pub history : IsHistory nodes config log
+  pub master_is : IsMasterSettled config log party
   pub cores : nodes_in nodes config log ≡ cores_of parties
   pub settled : AllEnded nodes config log parties nodes

@@ -8,28 +8,41 @@ ghost use Rattle.std.specs.Prelude.{◌≡◌, length};
 ghost use mathlib.Core.List.{IsPrefix};
 ghost use Rattle.run_history.specs.Ends.{AllEnded, AllKnown, IsEnd, IsEnded};
 
+use crate::master_on_record::MasterOnRecord;
 use crate::naming::RunNaming;
 use crate::node_on_record::NodeOnRecord;
 use crate::seen_run::SeenRun;
 use crate::waiting::wait_unless_equal;
 use std::sync::Wait;
 
-/// Returns a log by which all nodes have the states that they have, when no call of theirs runs
-/// any more; `seen` is any prefix of it. The nodes are all those of the run, in order. Waits for
-/// ever if a node has further events, or is not at its index.
+/// Returns a log by which the master and all nodes have the states that they have, when no call of
+/// theirs runs any more; `seen` is any prefix of it. The nodes are all those of the run, in order.
+/// Waits for ever if one of them has further events, or a node is not at its index.
 pub fn settle_all<H: RunNaming, R: Wait>(
     rt: &R,
     seen: &SeenRun<H>,
+    master: &MasterOnRecord<H>,
     nodes: &[NodeOnRecord<H>],
 ) -> SeenRun<H>
     requires { length nodes.now ≡ H.nodes }
     ensures seen { IsPrefix seen.now result }
-    ensures end { IsEnd H.nodes H.config result nodes.now }
+    ensures end { IsEnd H.nodes H.config result master.now nodes.now }
 {
-    let mut mark = seen.again();
+    let mut mark = mark_of(seen, master);
     learn_all(&mut mark, nodes);
+    master.settle(rt, &mark);
     settle_each(rt, &mark, nodes);
     mark.is_history();
+    mark
+}
+
+fn mark_of<H: RunNaming>(seen: &SeenRun<H>, master: &MasterOnRecord<H>) -> SeenRun<H>
+    ensures seen { IsPrefix seen.now result }
+    ensures known { IsPrefix master.now.log result }
+{
+    let mut mark = seen.again();
+    let known = master.seen();
+    mark.learn(&known);
     mark
 }
 
