@@ -58,6 +58,18 @@ impl Meeting {
             && heard.asks == asks)
     }
 
+    // Holds a node inside until both are there, ten thousand turns at most, and returns true if they
+    // are. A lock that the other node needs on its way would keep them apart.
+    fn holds_until_both<R: Wait>(&self, rt: &R) -> bool {
+        for _ in 0..10_000 {
+            if self.heard.lock(rt).iter().all(|heard| heard.is_there) {
+                return true;
+            }
+            thread::yield_now();
+        }
+        false
+    }
+
     // Returns how many times a node asks for its second taking: once if the gate is open, since
     // both nodes are there by then, and else ten thousand times.
     fn asks(&self) -> u64 {
@@ -90,9 +102,8 @@ impl Gate for Meeting {
     ghost hears = { λ _ _ _. Unit {0} };
 
     fn open<R: Wait>(&self, rt: &R, node: u8, taking: u64) -> bool {
-        let mut heard = self.heard.lock(rt);
-        note(heard.as_mut_slice(), node, taking, false);
-        taking <= self.shut_after && heard.iter().all(|heard| heard.is_there)
+        note(self.heard.lock(rt).as_mut_slice(), node, taking, false);
+        taking <= self.shut_after && self.holds_until_both(rt)
     }
 
     fn answered<R: Wait>(&self, rt: &R, node: u8, taking: u64) {

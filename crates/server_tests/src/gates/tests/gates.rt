@@ -125,6 +125,18 @@ impl Meeting {
         there.iter().take(self.nodes).all(|node| *node)
     }
 
+    // Holds a node inside until all are there, ten thousand turns at most, and returns true if they
+    // are. A lock that another node needs on its way would keep them apart.
+    fn holds_until_met<R: Wait>(&self, rt: &R) -> bool {
+        for _ in 0..10_000 {
+            if self.has_met(rt) {
+                return true;
+            }
+            thread::yield_now();
+        }
+        false
+    }
+
     // Returns true if all were there at one time.
     fn has_met<R: Wait>(&self, rt: &R) -> bool {
         *self.met.lock(rt)
@@ -142,7 +154,7 @@ impl Gate for Meeting {
         if self.see(rt, node, true) {
             *self.met.lock(rt) = true;
         }
-        self.has_met(rt)
+        self.holds_until_met(rt)
     }
 
     fn answered<R: Wait>(&self, rt: &R, node: u8, taking: u64) {
