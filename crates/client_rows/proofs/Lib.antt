@@ -1,0 +1,3 @@
+pub mod CallAnswers
+pub mod StepAnswers
+pub mod KindAnswers
