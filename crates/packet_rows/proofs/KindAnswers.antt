@@ -7,7 +7,7 @@ use Rattle.rows.specs.declared.line.Line.{Line}
 use Rattle.packet_rows.specs.Kinds.{KindAgrees}
 use Rattle.packet_rows.specs.TopicSteps.{TopicDoes}
 use Rattle.packet_rows.specs.PacketSteps.{PacketStep}
-use Rattle.packet_rows.specs.StreamRuns.{StreamAgrees}
+use Rattle.packet_rows.specs.StreamRuns.{BringSame, StreamAgrees, pieces_of}
 use Rattle.packet_rows.specs.declared.topic_steps.Texts.{Texts}
 use Rattle.packet_rows.specs.declared.packet_steps.Packets.{Packets}
 
@@ -24,5 +24,5 @@ pub packet_kind : (kind : Text) (steps : List Line) (packets : Packets) → byte
 packet_kind kind steps packets is agrees = of_kind kind (codes "packet") steps is (KindAgrees.packet steps packets agrees)
 
 pub stream_kind : (kind : Text) (steps : List Line) → bytes_eq kind (codes "stream") ≡ true → StreamAgrees steps
-    → KindAgrees kind steps
-stream_kind kind steps is agrees = of_kind kind (codes "stream") steps is (KindAgrees.stream steps agrees)
+    → BringSame (pieces_of steps) → KindAgrees kind steps
+stream_kind kind steps is agrees same = of_kind kind (codes "stream") steps is (KindAgrees.stream steps agrees same)

@@ -11,7 +11,7 @@ use Rattle.packet_base.specs.Readers.{length_at}
 use Rattle.packet.specs.Spelling.{IsPacket, IsTooLarge, AppendsSpelling, Spells, body, max_body, spelling}
 use Rattle.packet.specs.Verdict.{verdict}
 use Rattle.packet.specs.Theorems.{SpellingSpells}
-use Rattle.packet_rows.specs.AnswerFields.{counted, word}
+use Rattle.rows.specs.Answers.{counted, word}
 use Rattle.packet_rows.specs.TopicSteps.{unless}
 use Rattle.packet_rows.specs.PacketSteps.{LengthAnswer, PacketStep, digits_of, publish_of, read_answers, read_back, spelled}
 

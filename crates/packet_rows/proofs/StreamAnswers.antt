@@ -7,7 +7,7 @@ use Rattle.packet.specs.declared.packet.Packet.{Packet}
 use Rattle.packet.specs.declared.error.DecodeFault.{DecodeFault}
 use Rattle.cutter.specs.Stream.{Stream, Takes}
 use Rattle.cutter.specs.declared.error.CutError.TheVariants as errors
-use Rattle.packet_rows.specs.AnswerFields.{counted}
+use Rattle.rows.specs.Answers.{counted}
 use Rattle.packet_rows.specs.PacketFields.{packet_fields}
 use Rattle.packet_rows.specs.StreamSteps.{Adds, Feeds, StreamDoes, TakesAll, fault_answer}
 

@@ -5,7 +5,8 @@ use Rattle.rows.specs.Fields.{Text}
 use Rattle.topics.specs.Text.{topic_fault, filter_fault, named_topic}
 use Rattle.topics.specs.Matching.{is_match}
 use Rattle.packet_base.specs.ClientId.{client_fault}
-use Rattle.packet_rows.specs.TopicSteps.{TopicStep, named, taken, unless, yes_or_no}
+use Rattle.rows.specs.Answers.{yes_or_no}
+use Rattle.packet_rows.specs.TopicSteps.{TopicStep, named, taken, unless}
 
 -- a step with this word, and another text that is the same
 of_word : (word text asked answer other : Text) (answers : List Text) → bytes_eq word other ≡ true → asked ≡ text

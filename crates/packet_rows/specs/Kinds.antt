@@ -5,7 +5,7 @@ use Rattle.rows.specs.Playing.{Agrees}
 use Rattle.rows.specs.declared.line.Line.{Line}
 use Rattle.packet_rows.specs.TopicSteps.{TopicDoes}
 use Rattle.packet_rows.specs.PacketSteps.{PacketStep}
-use Rattle.packet_rows.specs.StreamRuns.{StreamAgrees}
+use Rattle.packet_rows.specs.StreamRuns.{BringSame, StreamAgrees, pieces_of}
 use Rattle.packet_rows.specs.declared.topic_steps.Texts.{Texts}
 use Rattle.packet_rows.specs.declared.packet_steps.Packets.{Packets}
 
@@ -19,8 +19,9 @@ pub data KindAgrees : Text → List Line → Type 0 where
   packet : (steps : List Line) (packets : Packets)
       → Agrees (λ old step answers new. PacketStep step answers) packets steps
       → KindAgrees (codes "packet") steps
-  -- steps of one stream
-  stream : (steps : List Line) → StreamAgrees steps → KindAgrees (codes "stream") steps
+  -- steps of one stream, whose bytes get the same answers in other pieces
+  stream : (steps : List Line) → StreamAgrees steps → BringSame (pieces_of steps)
+      → KindAgrees (codes "stream") steps
 
 -- the first line of a row has its kind and its name
 abbrev pub NamedAgrees : List Text → List Line → Type 0

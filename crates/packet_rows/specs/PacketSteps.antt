@@ -15,7 +15,8 @@ use Rattle.packet.specs.Verdict.{verdict}
 use Rattle.packet.specs.declared.packet.Packet.{Packet}
 use Rattle.packet.specs.declared.packet.Packet.TheVariants as packets
 use Rattle.packet.specs.declared.delivery.Delivery.TheVariants as deliveries
-use Rattle.packet_rows.specs.AnswerFields.{word, counted, refused}
+use Rattle.rows.specs.Answers.{word, counted}
+use Rattle.packet_rows.specs.AnswerFields.{refused}
 use Rattle.packet_rows.specs.PacketFields.{packet_fields}
 use Rattle.packet_rows.specs.TopicSteps.{unless}
 

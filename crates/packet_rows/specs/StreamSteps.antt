@@ -7,7 +7,8 @@ use Rattle.packet.specs.declared.error.DecodeFault.{DecodeFault}
 use Rattle.packet.specs.declared.error.DecodeFault.TheVariants as faults
 use Rattle.cutter.specs.Stream.{Stream, Takes}
 use Rattle.cutter.specs.declared.error.CutError.TheVariants as errors
-use Rattle.packet_rows.specs.AnswerFields.{counted, refused}
+use Rattle.rows.specs.Answers.{counted}
+use Rattle.packet_rows.specs.AnswerFields.{refused}
 use Rattle.packet_rows.specs.PacketFields.{packet_fields}
 use Rattle.packet_rows.specs.PacketSteps.{code_answer}
 

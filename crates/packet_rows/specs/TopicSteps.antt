@@ -1,21 +1,18 @@
 -- Steps about texts, and their answers (MQTT 1.5.3, 3.1.3.1, 4.7).
-use Rattle.std.specs.Prelude.{◌≡◌, Bool, List, [], ◌∷◌, codes, Option, Some, None, if◌then◌else◌}
+use Rattle.std.specs.Prelude.{◌≡◌, List, [], ◌∷◌, codes, Option, Some, None}
 use Rattle.rows.specs.Fields.{Text}
 use Rattle.rows.specs.Playing.{Answers}
 use Rattle.topics.specs.declared.malformed.MalformedKind.{MalformedKind}
 use Rattle.topics.specs.Text.{topic_fault, filter_fault, named_topic}
 use Rattle.topics.specs.Matching.{is_match}
 use Rattle.packet_base.specs.ClientId.{client_fault}
-use Rattle.packet_rows.specs.AnswerFields.{word, refused}
+use Rattle.rows.specs.Answers.{word, yes_or_no}
+use Rattle.packet_rows.specs.AnswerFields.{refused}
 
 -- a text without a fault is taken, and another refused by its first one
 abbrev pub taken : Option MalformedKind → List Text
 taken None = word (codes "taken")
 taken (Some kind) = refused kind
-
--- whether it is so
-abbrev pub yes_or_no : Bool → List Text
-yes_or_no is_so = word (if is_so then codes "yes" else codes "no")
 
 -- the name that a filter is, if it is one
 abbrev pub named : Option Text → List Text

@@ -6,6 +6,7 @@ mod answers;
 mod kinds;
 mod packet_fields;
 mod packet_steps;
+mod stream_pieces;
 mod stream_steps;
 mod topic_steps;
 

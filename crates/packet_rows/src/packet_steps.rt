@@ -13,14 +13,14 @@ ghost use Rattle.packet_rows.specs.PacketSteps.{read_answers, spelled, publish_o
 ghost use Rattle.packet_rows.specs.StreamSteps.{fault_answer};
 ghost use Rattle.packet_rows.specs.TopicSteps.{unless};
 
-use crate::answers::{counted, only, refused, word};
+use crate::answers::refused;
 use crate::packet_fields::packet_fields;
 use packet::{
     DecodeFault, Delivery, EncodeFault, Packet, Payload, Publish, Step, decode, encode,
     spelling_spells,
 };
 use packet_base::{length_size, put_length, take_length};
-use rows::{Field, Fields, StepFault, Tested};
+use rows::{Field, Fields, StepFault, Tested, counted, only, word};
 use std::alloc::Global;
 use topics::{MalformedKind, TopicName};
 

@@ -4,14 +4,14 @@ ghost use Rattle.std.specs.Prelude.{◌≡◌, ◌++◌, ◌∷◌, [], not, IfO
 ghost use Rattle.rows.specs.Playing.{Agrees};
 ghost use Rattle.packet_rows.specs.PacketFields.{packet_fields};
 ghost use Rattle.packet_rows.specs.StreamSteps.{Adds, Feeds, StreamDoes, TakesAll, fault_answer};
-ghost use Rattle.packet_rows.specs.StreamRuns.{StepDoes, StreamAgrees, fresh};
+ghost use Rattle.packet_rows.specs.StreamRuns.{BringSame, StepDoes, StreamAgrees, fresh, pieces_of};
 
-use crate::answers::counted;
 use crate::packet_fields::packet_fields;
 use crate::packet_steps::fault_fields;
+use crate::stream_pieces::play_in_other_pieces;
 use cutter::{CutError, Cutter};
 use packet::{DecodeFault, Packet};
-use rows::{Cut, Field, Fields, Line, Outcome, StepFault, Tested, are_equal, play_steps};
+use rows::{Field, Fields, Line, Outcome, StepFault, Tested, counted, play_steps};
 use std::alloc::Global;
 
 /// A stream of bytes.
@@ -57,10 +57,10 @@ fn asked(
     Ok(answers)
 }
 
-// Feeds a piece, and appends the packets that come, and the fault after them, if there is one.
-// Returns true if there is none.
+/// Feeds a piece, and appends the packets that come, and the fault after them, if there is one.
+/// Returns true if there is none.
 #[tactic(auto, using(crate::proofs::StreamAnswers::feed_piece, crate::proofs::StreamAnswers::feed_failed))]
-fn feed(
+pub(crate) fn feed(
     alloc: Global,
     cutter: &mut Cutter,
     piece: &[u8],
@@ -130,13 +130,15 @@ fn put_fault(alloc: Global, fault: DecodeFault, answers: &mut Vec<Fields>) -> Re
 
 /// Plays the steps of a stream: as they are written, and with their bytes in other pieces.
 pub(crate) fn play_stream(alloc: Global, steps: &[Line]) -> Outcome
-    ensures { result ≡ Outcome.Agrees → StreamAgrees steps.now }
+    ensures written { result ≡ Outcome.Agrees → StreamAgrees steps.now }
+    ensures pieces { result ≡ Outcome.Agrees → BringSame (pieces_of steps.now) }
 {
     let outcome = play_as_written(alloc, steps);
     if !outcome.is_agreement() {
         return outcome;
     }
     drop(outcome);
+    // All steps were done before, so none is malformed.
     match play_in_other_pieces(alloc, steps) {
         Ok(outcome) => outcome,
         Err(_) => Outcome::Memory,
@@ -152,118 +154,4 @@ fn play_as_written(alloc: Global, steps: &[Line]) -> Outcome
     let outcome = play_steps(alloc, &mut pieces, steps);
     drop(pieces);
     outcome
-}
-
-// Feeds the bytes of a row cut in two at every byte, and byte by byte. The answers, up to the first
-// fault, have to be those that they get in the pieces of the row.
-fn play_in_other_pieces(alloc: Global, steps: &[Line]) -> Result<Outcome, StepFault> {
-    let wanted = answers_of_steps(alloc, steps)?;
-    let mut bytes = Vec::new(alloc);
-    append_bytes(steps, &mut bytes)?;
-    let outcome = play_cut(alloc, bytes.as_slice(), wanted.as_slice())?;
-    if !outcome.is_agreement() {
-        return Ok(outcome);
-    }
-    drop(outcome);
-    play_bytes(alloc, bytes.as_slice(), wanted.as_slice())
-}
-
-// Returns the answers that the pieces of the steps get, up to the first fault.
-fn answers_of_steps(alloc: Global, steps: &[Line]) -> Result<Vec<Fields>, StepFault> {
-    let mut cutter = Cutter::new(alloc);
-    let mut answers = Vec::new(alloc);
-    feed_steps(alloc, &mut cutter, steps, &mut answers)?;
-    Ok(answers)
-}
-
-// Feeds the pieces of the steps up to the first fault, and appends the answers.
-fn feed_steps(
-    alloc: Global,
-    cutter: &mut Cutter,
-    steps: &[Line],
-    answers: &mut Vec<Fields>,
-) -> Result<(), StepFault> {
-    let [step, rest @ ..] = steps else {
-        return Ok(());
-    };
-    if let Some(piece) = piece_in(step) {
-        if !feed(alloc, cutter, piece, answers)? {
-            return Ok(());
-        }
-    }
-    feed_steps(alloc, cutter, rest, answers)
-}
-
-// Returns the piece that a step feeds.
-fn piece_in(step: &Line) -> Option<&[u8]> {
-    match step.fields.as_slice() {
-        [word, piece] if word.is(b"feed") => Some(piece.as_slice()),
-        _ => None,
-    }
-}
-
-// Appends the bytes of the pieces of the steps.
-fn append_bytes(steps: &[Line], bytes: &mut Vec<u8>) -> Result<(), StepFault> {
-    let [step, rest @ ..] = steps else {
-        return Ok(());
-    };
-    if let Some(piece) = piece_in(step) {
-        bytes.extend_from_slice(piece)?;
-    }
-    append_bytes(rest, bytes)
-}
-
-// Feeds the bytes cut in two at every byte.
-fn play_cut(alloc: Global, bytes: &[u8], wanted: &[Fields]) -> Result<Outcome, StepFault> {
-    for at in 0..=bytes.len() {
-        let (front, back) = bytes.split_at(at);
-        let answers = answers_of_two(alloc, front, back)?;
-        if !are_equal(answers.as_slice(), wanted) {
-            return Ok(Outcome::DiffersCut(Cut::At(at), answers));
-        }
-    }
-    Ok(Outcome::Agrees)
-}
-
-// Returns the answers that two pieces get, up to the first fault.
-fn answers_of_two(alloc: Global, front: &[u8], back: &[u8]) -> Result<Vec<Fields>, StepFault> {
-    let mut cutter = Cutter::new(alloc);
-    let mut answers = Vec::new(alloc);
-    if feed(alloc, &mut cutter, front, &mut answers)? {
-        feed(alloc, &mut cutter, back, &mut answers)?;
-    }
-    Ok(answers)
-}
-
-// Feeds the bytes one by one.
-fn play_bytes(alloc: Global, bytes: &[u8], wanted: &[Fields]) -> Result<Outcome, StepFault> {
-    let answers = answers_of_bytes(alloc, bytes)?;
-    if !are_equal(answers.as_slice(), wanted) {
-        return Ok(Outcome::DiffersCut(Cut::EachByte, answers));
-    }
-    Ok(Outcome::Agrees)
-}
-
-// Returns the answers that bytes get one by one, up to the first fault.
-fn answers_of_bytes(alloc: Global, bytes: &[u8]) -> Result<Vec<Fields>, StepFault> {
-    let mut cutter = Cutter::new(alloc);
-    let mut answers = Vec::new(alloc);
-    feed_bytes(alloc, &mut cutter, bytes, &mut answers)?;
-    Ok(answers)
-}
-
-// Feeds bytes one by one up to the first fault, and appends the answers.
-fn feed_bytes(
-    alloc: Global,
-    cutter: &mut Cutter,
-    bytes: &[u8],
-    answers: &mut Vec<Fields>,
-) -> Result<(), StepFault> {
-    let [byte, rest @ ..] = bytes else {
-        return Ok(());
-    };
-    if feed(alloc, cutter, &[*byte], answers)? {
-        feed_bytes(alloc, cutter, rest, answers)?;
-    }
-    Ok(())
 }

@@ -4,11 +4,12 @@ ghost use Rattle.std.specs.Prelude.{◌≡◌, ◌≢◌, ◌∷◌, [], IfOk};
 ghost use Rattle.topics.specs.Text.{topic_fault, filter_fault, named_topic};
 ghost use Rattle.topics.specs.Matching.{is_match};
 ghost use Rattle.packet_base.specs.ClientId.{client_fault};
-ghost use Rattle.packet_rows.specs.TopicSteps.{TopicStep, named, taken, unless, yes_or_no};
+ghost use Rattle.rows.specs.Answers.{yes_or_no};
+ghost use Rattle.packet_rows.specs.TopicSteps.{TopicStep, named, taken, unless};
 
-use crate::answers::{only, refused, word};
+use crate::answers::refused;
 use packet_base::ClientId;
-use rows::{Field, Fields, StepFault, Tested};
+use rows::{Field, Fields, StepFault, Tested, only, word, yes_or_no};
 use std::alloc::Global;
 use topics::{Filter, TopicName, matches};
 
@@ -143,13 +144,7 @@ fn matched_by(alloc: Global, filter: &Filter, name: &str) -> Result<Fields, Step
         answer ≡ unless (topic_fault name.now) (yes_or_no (is_match filter.now name.now))) }
 {
     match &TopicName::new(alloc, name) {
-        Ok(name) => yes_or_no(alloc, matches(filter, name)),
+        Ok(name) => Ok(yes_or_no(alloc, matches(filter, name))?),
         Err(kind) => refused(alloc, *kind),
     }
-}
-
-fn yes_or_no(alloc: Global, is_so: bool) -> Result<Fields, StepFault>
-    ensures { IfOk result (λ answer. answer ≡ yes_or_no is_so) }
-{
-    Ok(word(alloc, if is_so { "yes" } else { "no" })?)
 }

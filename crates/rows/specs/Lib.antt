@@ -1,3 +1,4 @@
 pub mod Fields
 pub mod Rows
 pub mod Playing
+pub mod Answers

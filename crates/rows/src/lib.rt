@@ -1,6 +1,7 @@
 //! Rows of tests in text files: reads them, plays them, and says where one differs.
 #![tactic(auto)]
 
+mod answers;
 mod error;
 mod field;
 mod fields;
@@ -11,6 +12,7 @@ mod line_reader;
 mod playing;
 mod reader;
 
+pub use answers::{counted, only, word, yes_or_no};
 pub use error::{RowsFault, StepFault};
 pub use field::Field;
 pub use fields::Fields;
