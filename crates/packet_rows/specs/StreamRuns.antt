@@ -40,14 +40,14 @@ abbrev pub BringsSame : Answers → List (List ℕ) → Type 0
 BringsSame wanted pieces =
     (answers : Answers) × Brings pieces answers × (are_equal answers wanted ≡ true)
 
--- the piece that a step feeds
+-- the piece that a line feeds; an answer feeds none
 abbrev pub piece_of : List Text → List (List ℕ)
 piece_of [] = []
 piece_of (word ∷ []) = []
 piece_of (word ∷ piece ∷ []) = if bytes_eq word (codes "feed") then piece ∷ [] else []
 piece_of (word ∷ piece ∷ other ∷ others) = []
 
--- the pieces that steps feed
+-- the pieces that lines feed
 abbrev pub pieces_of : List Line → List (List ℕ)
 pieces_of [] = []
 pieces_of (line ∷ lines) = piece_of line.fields ++ pieces_of lines

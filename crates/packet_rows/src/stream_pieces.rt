@@ -1,7 +1,7 @@
 // The bytes of a stream in other pieces than those of its row: cut in two at every byte, and byte by
 // byte.
 
-ghost use Rattle.std.specs.Prelude.{◌≡◌, ◌++◌, Ok, IfOk, OnOk};
+ghost use Rattle.std.specs.Prelude.{◌≡◌, ◌++◌, ◌∷◌, [], Ok, IfOk, OnOk};
 ghost use Rattle.rows.specs.Fields.{texts};
 ghost use Rattle.packet_rows.specs.StreamSteps.{Adds};
 ghost use Rattle.packet_rows.specs.StreamRuns.{BringSame, BringSameCut, Brings, BringsSame};
@@ -9,7 +9,7 @@ ghost use Rattle.packet_rows.specs.StreamRuns.{FeedsAll, bytewise, joined, piece
 
 use crate::stream_steps::feed;
 use cutter::Cutter;
-use rows::{Cut, Fields, Line, Outcome, StepFault, are_equal};
+use rows::{Cut, Field, Fields, Line, Outcome, StepFault, are_equal};
 use std::alloc::{AllocError, Global};
 
 /// Feeds the bytes of the steps in other pieces. The answers, up to the first fault, have to be
@@ -43,15 +43,30 @@ fn append_pieces<'a>(steps: &'a [Line], pieces: &mut Vec<&'a [u8]>) -> Result<()
     Ok(())
 }
 
-// Appends the piece that a step feeds. Fails with `Form` if it feeds none.
-fn append_piece<'a>(step: &'a Line, pieces: &mut Vec<&'a [u8]>) -> Result<(), StepFault>
+// Appends the piece that a line feeds, if it feeds one: an answer does not.
+fn append_piece<'a>(line: &'a Line, pieces: &mut Vec<&'a [u8]>) -> Result<(), StepFault>
     ensures { OnOk result
-        (texts pieces.new.items ≡ texts pieces.old.items ++ piece_of step.now.fields) }
+        (texts pieces.new.items ≡ texts pieces.old.items ++ piece_of line.now.fields) }
 {
-    match step.fields.as_slice() {
-        [word, piece] if word.is(b"feed") => Ok(pieces.push(piece.as_slice())?),
-        _ => Err(StepFault::Form),
+    match line.fields.as_slice() {
+        [word, piece] => append_fed(word, piece, pieces),
+        _ => Ok(()),
     }
+}
+
+// Appends a piece, if the word feeds it.
+fn append_fed<'a>(
+    word: &Field,
+    piece: &'a Field,
+    pieces: &mut Vec<&'a [u8]>,
+) -> Result<(), StepFault>
+    ensures { OnOk result (texts pieces.new.items
+        ≡ texts pieces.old.items ++ piece_of (word.now ∷ piece.now ∷ [])) }
+{
+    if word.is(b"feed") {
+        pieces.push(piece.as_slice())?;
+    }
+    Ok(())
 }
 
 // Appends the bytes of the pieces.
