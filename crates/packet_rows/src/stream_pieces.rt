@@ -1,5 +1,5 @@
-// The bytes of a stream in other pieces than those of its row: cut in two at every byte, and byte by
-// byte.
+// The bytes of a stream in other pieces than those of its row: cut in two at every byte, and byte
+// by byte.
 
 ghost use Rattle.std.specs.Prelude.{◌≡◌, ◌++◌, ◌∷◌, [], Ok, IfOk, OnOk};
 ghost use Rattle.rows.specs.Fields.{texts};
@@ -14,21 +14,35 @@ use std::alloc::{AllocError, Global};
 
 /// Feeds the bytes of the steps in other pieces. The answers, up to the first fault, have to be
 /// those that they get in the pieces of the steps.
-#[tactic(auto, using(crate::proofs::PieceAnswers::same_in_pieces))]
 pub(crate) fn play_in_other_pieces(alloc: Global, steps: &[Line]) -> Result<Outcome, StepFault>
     ensures { result ≡ Ok Outcome.Agrees → BringSame (pieces_of steps.now) }
 {
     let mut pieces = Vec::new(alloc);
     append_pieces(steps, &mut pieces)?;
-    let wanted = answers_of(alloc, pieces.as_slice())?;
+    play_joined(alloc, pieces.as_slice())
+}
+
+// Feeds the bytes of these pieces in others.
+fn play_joined(alloc: Global, pieces: &[&[u8]]) -> Result<Outcome, StepFault>
+    ensures { result ≡ Ok Outcome.Agrees → BringSame (texts pieces.now) }
+{
+    let wanted = answers_of(alloc, pieces)?;
     let mut bytes = Vec::new(alloc);
-    append_joined(pieces.as_slice(), &mut bytes)?;
-    let outcome = play_cut(alloc, bytes.as_slice(), wanted.as_slice())?;
+    append_joined(pieces, &mut bytes)?;
+    play_bytes(alloc, bytes.as_slice(), wanted.as_slice())
+}
+
+// Feeds bytes cut in two at every byte, and byte by byte.
+fn play_bytes(alloc: Global, bytes: &[u8], wanted: &[Fields]) -> Result<Outcome, StepFault>
+    ensures cut { result ≡ Ok Outcome.Agrees → BringSameCut wanted.now bytes.now }
+    ensures each { result ≡ Ok Outcome.Agrees → BringsSame wanted.now (bytewise bytes.now) }
+{
+    let outcome = play_cut(alloc, bytes, wanted)?;
     if !outcome.is_agreement() {
         return Ok(outcome);
     }
     drop(outcome);
-    play_bytewise(alloc, bytes.as_slice(), wanted.as_slice())
+    play_bytewise(alloc, bytes, wanted)
 }
 
 // Appends the pieces that the steps feed.
@@ -118,14 +132,15 @@ fn feed_all(
     if !feed(alloc, cutter, piece, answers)? {
         return Ok(());
     }
-    feed_all(alloc, cutter, rest, answers)
+    feed_all(alloc, cutter, rest, answers)?;
+    Ok(())
 }
 
 // Feeds the bytes cut in two at every byte.
 fn play_cut(alloc: Global, bytes: &[u8], wanted: &[Fields]) -> Result<Outcome, StepFault>
     ensures { result ≡ Ok Outcome.Agrees → BringSameCut wanted.now bytes.now }
 {
-    for at in 0..=bytes.len() {
+    for at in 0..bytes.len() + 1 {
         let (front, back) = bytes.split_at(at);
         let answers = answers_of(alloc, &[front, back])?;
         if !are_equal(answers.as_slice(), wanted) {
