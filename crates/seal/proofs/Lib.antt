@@ -1,0 +1,3 @@
+pub mod HelloWritten
+pub mod HelloRead
+pub mod SealedFrames

@@ -3,6 +3,8 @@
 use Rattle.std.specs.Prelude.{ℕ, List, [], ◌∷◌, ◌++◌}
 use Rattle.seal.specs.declared.keys.Purpose.{Purpose}
 use Rattle.seal.specs.declared.keys.Purpose.TheVariants.{ProvesDialler, ProvesListener, SealsDialler, SealsListener}
+use Rattle.seal.specs.declared.keys.Side.{Side}
+use Rattle.seal.specs.declared.keys.Side.TheVariants.{Dialler, Listener}
 use Rattle.seal.specs.Hmac.{hmac}
 
 -- the byte of each purpose
@@ -16,3 +18,22 @@ purpose_byte SealsListener = 3
 abbrev pub derived : List ℕ → Purpose → List ℕ → List ℕ → List ℕ
 derived key purpose dialler listener =
     hmac key ((purpose_byte purpose ∷ []) ++ dialler ++ listener)
+
+-- the purposes of each end
+abbrev pub proves : Side → Purpose
+proves Dialler = ProvesDialler
+proves Listener = ProvesListener
+
+abbrev pub seals : Side → Purpose
+seals Dialler = SealsDialler
+seals Listener = SealsListener
+
+-- the other end
+abbrev pub other_side : Side → Side
+other_side Dialler = Listener
+other_side Listener = Dialler
+
+-- the 32 bytes for a purpose, from the own hello and that of the other end
+abbrev pub derived_at : Side → List ℕ → Purpose → List ℕ → List ℕ → List ℕ
+derived_at Dialler key purpose own other = derived key purpose own other
+derived_at Listener key purpose own other = derived key purpose other own

@@ -1,3 +1,6 @@
 pub mod Hmac
 pub mod Keys
+pub mod Hellos
 pub mod Frames
+pub mod FrameStreams
+pub mod Theorems

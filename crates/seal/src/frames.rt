@@ -1,15 +1,21 @@
 // Sealing frames, and opening them.
 
-ghost use Rattle.std.specs.Prelude.{◌≡◌, ◌≢◌, ◌⊎◌, ◌<◌, ◌↔◌, true, false, take, IfSome, IfNone, IsOk, IsErrOf, OnErr, OnOk};
+ghost use Rattle.std.specs.Prelude.{◌≡◌, ◌≢◌, ◌⊎◌, ◌+◌, ◌<◌, ◌≤◌, ◌^◌, ◌↔◌, ◌++◌, true, false, length, take, vec_len, vec_capacity, IfSome, IfNone, IsOk, IsErrOf, OnErr, OnOk};
 ghost use Rattle.seal.specs.Frames.{frame_tag, moved_on, spent};
+ghost use Rattle.seal.specs.FrameStreams.{sealed};
 
 use crate::keyed_hash::hmac;
+use machine::MEMORY_TEXT;
+use std::alloc::AllocError;
 use std::error::Error;
 use std::fmt;
 use std::marker::Model;
 
 /// Bytes of a tag.
 pub const TAG_BYTES: usize = 16;
+
+/// Bytes of a frame's length, before it.
+pub(crate) const LENGTH_BYTES: usize = 4;
 
 /// The tag of a frame.
 pub type Tag = [u8; TAG_BYTES];
@@ -51,6 +57,71 @@ impl Sealer {
         self.next += 1;
         Some(tag)
     }
+
+    /// Appends the next frame, with its length before it and its tag behind it. `Spent` comes
+    /// exactly once 2^64 - 1 frames were sealed; `Memory` only if the vector had too little
+    /// capacity and could not grow. After an error nothing has changed.
+    pub fn write(&mut self, frame: &[u8], out: &mut Vec<u8>) -> Result<(), SealError>
+        requires { length frame.now < 2 ^ 32 }
+        ensures ok { OnOk result (out.new.items ≡ out.old.items ++ sealed self.old frame.now) }
+        ensures next { OnOk result (self.new ≡ moved_on self.old) }
+        ensures spent { IsErrOf result SealError.Spent ↔ (self.old.next ≡ spent) }
+        ensures full { IsErrOf result SealError.Memory
+            → vec_capacity out.old < vec_len out.old + (length frame.now + 20) }
+        ensures same { OnErr result ((out.new.items ≡ out.old.items) × (self.new ≡ self.old)) }
+    {
+        if self.next == u64::MAX {
+            return Err(SealError::Spent);
+        }
+        out.reserve(frame.len() + (LENGTH_BYTES + TAG_BYTES))?;
+        let tag = tag_of(&self.key, self.next, frame);
+        self.next += 1;
+        put_bytes(&(frame.len() as u32).to_be_bytes(), out);
+        put_bytes(frame, out);
+        put_bytes(&tag, out);
+        Ok(())
+    }
+}
+
+/// Why a frame was not written.
+#[derive(Clone, Copy, Debug, PartialEq, Eq)]
+pub enum SealError {
+    /// Memory ran out.
+    Memory,
+    /// 2^64 - 1 frames were sealed in this direction.
+    Spent,
+}
+
+impl fmt::Display for SealError {
+    fn fmt<W: fmt::Write>(&self, f: &mut fmt::Formatter<W>) -> fmt::Result {
+        let text = match self {
+            SealError::Memory => MEMORY_TEXT,
+            SealError::Spent => "the connection has no number left for a frame",
+        };
+        write!(f, "{text}")
+    }
+}
+
+impl Error for SealError {}
+
+impl From<AllocError> for SealError {
+    ghost use Rattle.seal.specs.declared.frames.SealError.TheVariants.{Memory};
+
+    ghost from_gives = { λ _ error. error ≡ Memory };
+
+    fn from(_error: AllocError) -> SealError {
+        SealError::Memory
+    }
+}
+
+// Appends bytes.
+fn put_bytes(bytes: &[u8], out: &mut Vec<u8>)
+    requires { vec_len out.old + length bytes.now ≤ vec_capacity out.old }
+    ensures items { out.new.items ≡ out.old.items ++ bytes.now }
+    ensures len { vec_len out.new ≡ vec_len out.old + length bytes.now }
+    ensures capacity { vec_capacity out.old ≤ vec_capacity out.new }
+{
+    out.extend_from_slice(bytes).unwrap();
 }
 
 /// Why a frame was not accepted.
@@ -104,6 +175,46 @@ impl Opener {
             next: 0,
             failed: false,
         }
+    }
+
+    /// Returns true once a frame was refused.
+    pub(crate) fn has_failed(&self) -> bool
+        ensures { result ≡ self.now.failed }
+    {
+        self.failed
+    }
+
+    /// Returns true if no frame is accepted any more.
+    pub(crate) fn is_shut(&self) -> bool
+        ensures shut { result ≡ true
+            → (self.now.failed ≡ true) ⊎ (self.now.place.next ≡ spent) }
+        ensures may_pass { result ≡ false
+            → (self.now.failed ≡ false) × (self.now.place.next < spent) }
+    {
+        self.failed || self.next == u64::MAX
+    }
+
+    /// Returns true if a frame bears the tag of the next place.
+    pub(crate) fn bears(&self, frame: &[u8], tag: &Tag) -> bool
+        ensures { (result ≡ true)
+            ↔ (tag.now ≡ frame_tag self.now.place.key self.now.place.next frame.now) }
+    {
+        are_equal(tag, &tag_of(&self.key, self.next, frame))
+    }
+
+    /// Goes on to the next place, which is there.
+    pub(crate) fn pass(&mut self)
+        requires { self.old.place.next < spent }
+        ensures { self.new ≡ record self.old { place = moved_on self.old.place } }
+    {
+        self.next += 1;
+    }
+
+    /// Accepts nothing from now on.
+    pub(crate) fn fail(&mut self)
+        ensures { self.new ≡ record self.old { failed = true } }
+    {
+        self.failed = true;
     }
 
     /// Accepts the next frame if it bears its tag. After one that does not, nothing is accepted.

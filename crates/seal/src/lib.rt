@@ -3,12 +3,20 @@
 //! moved, or is of another connection, is refused. What is sealed can be read by anybody.
 #![tactic(auto)]
 
+mod frame_reader;
 mod frames;
+mod hello;
 mod keyed_hash;
 mod keys;
 #[cfg(test)]
 mod tests;
+mod theorems;
 
-pub use frames::{Opener, SealFault, Sealer, TAG_BYTES, Tag};
+pub use frame_reader::{FrameError, FrameReader};
+pub use frames::{Opener, SealError, SealFault, Sealer, TAG_BYTES, Tag};
+pub use hello::{CLUSTER_BYTES, HELLO_BYTES, Hello, HelloFault, RANDOM_BYTES, VERSION};
 pub use keyed_hash::hmac;
-pub use keys::{Purpose, derived};
+pub use keys::{Purpose, Side, derived, is_proof, proof, session};
+pub use theorems::{
+    ends_have_one_key, frames_are_those_sealed, hellos_have_one_spelling, inputs_are_told_apart,
+};

@@ -1,7 +1,10 @@
 // Rows of digests, from RFC 4231, section 4, and of frames, whose tags another implementation of
 // HMAC computed.
 
-use crate::{Opener, SealFault, Sealer, Tag, hmac};
+use crate::{
+    FrameError, FrameReader, Hello, HelloFault, Opener, SealFault, Sealer, Side, Tag, hmac,
+    is_proof, proof, session,
+};
 
 // A key, a message, and the HMAC with SHA-256: cases 1, 2, 3 and 6.
 const DIGESTS: &[(&[u8], &[u8], [u8; 32])] = &[
@@ -155,4 +158,71 @@ fn a_repeated_frame_is_refused(rt: HostRuntime) {
         assert!(rt; opener.accept(frame, tag) == Ok(()));
         assert!(rt; opener.accept(frame, tag) == Err(SealFault::Tag));
     }
+}
+
+// The proof of the end that dialled, for the hellos below.
+const PROOF: [u8; 32] = [
+    0x49, 0x0A, 0x5B, 0xE5, 0x53, 0x73, 0x38, 0x66, 0x20, 0xB2, 0xC4, 0x88, 0xAD, 0x41, 0xEC, 0x25,
+    0x51, 0xA4, 0xA7, 0x61, 0x88, 0xD0, 0xDF, 0xC6, 0x5A, 0x73, 0xE7, 0x7B, 0x48, 0x40, 0xF4, 0x61,
+];
+
+// Its first frame, `hello`.
+const FRAME: [u8; 25] = [
+    0x00, 0x00, 0x00, 0x05, 0x68, 0x65, 0x6C, 0x6C, 0x6F, 0x13, 0x1A, 0x72, 0x06, 0x09, 0xC5, 0x7E,
+    0x1F, 0x64, 0x9A, 0x8B, 0x61, 0x66, 0x80, 0x3E, 0x2C,
+];
+
+// Returns the hello of a node whose random bytes rise from this one on.
+fn hello_of(number: u8, first: u8) -> Hello {
+    let mut random = [0; 32];
+    let mut byte = first;
+    'bytes: for index in 0..32 {
+        random[index] = byte;
+        byte = byte.wrapping_add(1);
+    }
+    Hello {
+        rules: 7,
+        cluster: [0xC1; 32],
+        number,
+        random,
+    }
+}
+
+#[test]
+fn hellos_are_read(rt: HostRuntime) {
+    let hello = hello_of(2, 100);
+    let bytes = hello.bytes();
+    assert!(rt; Hello::read(&bytes, 7, &[0xC1; 32]) == Ok(hello));
+    assert!(rt; Hello::read(&bytes, 8, &[0xC1; 32]) == Err(HelloFault::Rules(7)));
+    assert!(rt; Hello::read(&bytes, 7, &[0xC2; 32]) == Err(HelloFault::Cluster));
+    assert!(rt; Hello::read(&[0, 2], 7, &[0xC1; 32]) == Err(HelloFault::Version(2)));
+    assert!(rt; Hello::read(&bytes[..70], 7, &[0xC1; 32]) == Err(HelloFault::Unfinished));
+}
+
+#[test]
+fn a_frame_goes_from_end_to_end(rt: HostRuntime) -> Result<(), FrameError> {
+    let dialler = hello_of(2, 100).bytes();
+    let listener = hello_of(3, 200).bytes();
+    assert!(rt; proof(Side::Dialler, &KEY, &dialler, &listener) == PROOF);
+    assert!(rt; is_proof(Side::Listener, &KEY, &listener, &dialler, &PROOF));
+    assert!(rt; !is_proof(Side::Dialler, &KEY, &dialler, &listener, &PROOF));
+    let (mut sealer, _) = session(Side::Dialler, &KEY, &dialler, &listener);
+    let mut out = Vec::new(rt.alloc());
+    assert!(rt; sealer.write(b"hello", &mut out).is_ok());
+    assert!(rt; out.as_slice() == FRAME.as_slice());
+    let (_, opener) = session(Side::Listener, &KEY, &listener, &dialler);
+    let mut reader = FrameReader::new(rt.alloc(), opener, 5);
+    for byte in out.as_slice() {
+        assert!(rt; reader.next()?.is_none());
+        reader.feed(&[*byte])?;
+    }
+    assert!(rt;
+        reader
+            .next()?
+            .is_some_and(|frame| frame.as_slice() == b"hello".as_slice())
+    );
+    reader.feed(&FRAME)?;
+    assert!(rt; reader.next().err() == Some(FrameError::Tag));
+    assert!(rt; reader.next().err() == Some(FrameError::Failed));
+    Ok(())
 }

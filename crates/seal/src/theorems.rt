@@ -1,0 +1,29 @@
+// Theorems about hellos, keys and frames. The functions do nothing; their contracts are the
+// theorems.
+
+ghost use Rattle.seal.specs.Theorems.{EndsHaveOneKey, FramesAreThoseSealed, HelloIsRead};
+ghost use Rattle.seal.specs.Theorems.{HelloIsWritten, KeyInputsDiffer, TagInputsDiffer};
+
+/// States that a hello that was written is read, and that only its bytes are read as this hello.
+pub fn hellos_have_one_spelling()
+    ensures read { HelloIsRead }
+    ensures written { HelloIsWritten }
+{}
+
+/// States that one end seals with the key with which the other opens.
+pub fn ends_have_one_key()
+    ensures { EndsHaveOneKey }
+{}
+
+/// States that, after any sequence of calls, the bytes that a reader was fed are the frames that it
+/// returned, each with the tag of its place, and what it has not taken.
+pub fn frames_are_those_sealed()
+    ensures { FramesAreThoseSealed }
+{}
+
+/// States that another frame, number, purpose or hello is another input of the hash. So a frame
+/// that is accepted in place of another bears a tag that two inputs have.
+pub fn inputs_are_told_apart()
+    ensures tags { TagInputsDiffer }
+    ensures keys { KeyInputsDiffer }
+{}
