@@ -6,8 +6,8 @@ use Rattle.frames.specs.declared.joiner.Found.TheVariants as found
 use Rattle.frames.specs.Fronts.{Front, Begins, behind}
 use Rattle.frames.specs.Fronts.Front.{whole, unfinished, broken}
 
--- The walk ends where a part begins: whatever comes later, the stream begins with what stands there,
--- behind the bytes of the message that were passed.
+-- The walk ends where a part begins: whatever comes later, the stream begins with what stands
+-- there, behind the bytes of the message that were passed.
 pub record HasWalked (limit : ℕ) (stream : List ℕ) (walk : Walk) : Type 0 where
   pub message : List ℕ
   pub counts : walk.joined ≡ length message

@@ -41,7 +41,8 @@ checked count is_right fault bytes =
     if nat_lt (length bytes) count then Err Unfinished else
     if is_right then Ok tt else Err fault
 
-abbrev pub and_then : Result (Unit {0}) HelloFault → Result Hello HelloFault → Result Hello HelloFault
+abbrev pub and_then :
+    Result (Unit {0}) HelloFault → Result Hello HelloFault → Result Hello HelloFault
 and_then (Ok _) next = next
 and_then (Err fault) next = Err fault
 

@@ -1,0 +1,141 @@
+-- Kept.antt: what still waits when a message is queued.
+use Rattle.std.proofs.Common.{◌≡◌, ℕ, zero, suc, ◌+◌, ◌-◌, ◌<◌, ◌≤◌, Bool, true, false, if◌then◌else◌, List, [], ◌∷◌, ◌++◌, length, take, drop, map, Option, Some, None, refl, sym, ap, ap₂, ◌∙◌, subst, arith, append_assoc, length-append, get_or, set, nat_lt, nat_le, ◌&&◌, ltb-true, leb-true}
+use Rattle.std.proofs.lemmas.List.{get_or_at, take_all, take_more_set, length-set}
+use Rattle.std.specs.Prelude.{slice_get}
+use Rattle.ballot_base.specs.declared.message.Message.{Message}
+use Rattle.link_queue.specs.declared.queue.Waiting.{Waiting}
+use Rattle.link_queue.specs.declared.logs.LogName.{LogName}
+use Rattle.link_queue.specs.Covering.{covers}
+use Rattle.link_queue.specs.Queues.{IsBounded, QueueView, bytes_of, covers_newest, covers_one, fits, still_waiting}
+
+-- a list is what stands before its last element, and that
+pub last_apart : {X : Type 0} (xs : List X) (x : X) → slice_get xs (length xs - 1) ≡ Some x → xs ≡ take (length xs - 1) xs ++ x ∷ []
+last_apart [] x e = cc
+last_apart (y ∷ []) x e = cc
+last_apart (y ∷ z ∷ xs) x e =
+    let n : length (y ∷ z ∷ xs) - 1 ≡ suc (length (z ∷ xs) - 1) = omega arith in
+    let e' : slice_get (z ∷ xs) (length (z ∷ xs) - 1) ≡ Some x = subst (λ (k : ℕ). slice_get (y ∷ z ∷ xs) k ≡ Some x) n e in
+    ap (λ (l : List _). y ∷ l) (last_apart (z ∷ xs) x e') ∙ ap (λ (k : ℕ). take k (y ∷ z ∷ xs) ++ x ∷ []) (sym n)
+
+pub bytes_last : {C : Type 0} (ws : List (Waiting C)) (w : Waiting C) → bytes_of (ws ++ w ∷ []) ≡ bytes_of ws + w.size
+bytes_last [] w = omega arith
+bytes_last (first ∷ ws) w = let e = bytes_last ws w in omega (arith, e)
+
+-- the newest is covered: it stands at the end
+pub record Covered {C : Type 0} (message : Message C) (waiting : List (Waiting C)) : Type 0 where
+  pub newest : Waiting C
+  pub covered : covers message newest.message ≡ true
+  pub is : waiting ≡ take (length waiting - 1) waiting ++ newest ∷ []
+
+pub covered_last : {C : Type 0} (message : Message C) (waiting : List (Waiting C)) → covers_newest message waiting ≡ true → Covered message waiting
+covered_last {C} message waiting e = by (slice_get waiting (length waiting - 1)) refl e
+  where
+    by : (o : Option (Waiting C)) → slice_get waiting (length waiting - 1) ≡ o → covers_one message o ≡ true → Covered message waiting
+    by None is c = cc
+    by (Some newest) is c = record { newest = newest; covered = c; is = last_apart waiting newest is }
+
+-- a list that is not empty has its last element at its last place
+end_of : {X : Type 0} (xs front : List X) (x d : X) → xs ≡ front ++ x ∷ [] → get_or xs (length xs - 1) d ≡ x
+end_of xs front x d is =
+    let size : length xs - 1 ≡ length front = omega (arith, ap (λ (l : List _). length l) is, length-append front (x ∷ [])) in
+    ap (λ (l : List _). get_or l (length xs - 1) d) is ∙ get_or_at front x [] d (length xs - 1) (sym size)
+
+-- a Held or Commit has one to replace
+pub covered_some : {C : Type 0} (message : Message C) (waiting : List (Waiting C)) → covers_newest message waiting ≡ true → 1 ≤ length waiting
+covered_some message waiting e =
+    let c = covered_last message waiting e in
+    omega (arith, ap (λ (l : List _). length l) c.is, length-append (take (length waiting - 1) waiting) (c.newest ∷ []))
+
+pub covered_bytes : {C : Type 0} (message : Message C) (waiting : List (Waiting C)) (newest : Waiting C) → covers_newest message waiting ≡ true
+    → newest ≡ get_or waiting (length waiting - 1) newest → bytes_of (take (length waiting - 1) waiting) + newest.size ≡ bytes_of waiting
+covered_bytes message waiting newest e at =
+    let c = covered_last message waiting e in
+    let same : newest ≡ c.newest = at ∙ end_of waiting (take (length waiting - 1) waiting) c.newest newest c.is in
+    let sum = bytes_last (take (length waiting - 1) waiting) c.newest in
+    let size : newest.size ≡ c.newest.size = ap (λ (w : Waiting _). w.size) same in
+    omega (arith, ap (λ (l : List (Waiting _)). bytes_of l) c.is, sum, size)
+
+pub still_covered : {C : Type 0} (message : Message C) (waiting : List (Waiting C)) → covers_newest message waiting ≡ true
+    → still_waiting message waiting ≡ take (length waiting - 1) waiting
+still_covered message waiting e = ap (λ (b : Bool). if b then take (length waiting - 1) waiting else waiting) e
+
+pub still_all : {C : Type 0} (message : Message C) (waiting : List (Waiting C)) → covers_newest message waiting ≡ false → still_waiting message waiting ≡ waiting
+still_all message waiting e = ap (λ (b : Bool). if b then take (length waiting - 1) waiting else waiting) e
+
+-- what replaces the last element
+set_last : {X : Type 0} (xs : List X) (x : X) → 1 ≤ length xs → set xs (length xs - 1) x ≡ take (length xs - 1) xs ++ x ∷ []
+set_last xs x some =
+    let n : length xs - 1 + 1 ≡ length xs = omega (arith, some) in
+    let more = take_more_set xs (length xs - 1) x (omega (arith, some)) in
+    let whole : take (length xs - 1 + 1) (set xs (length xs - 1) x) ≡ set xs (length xs - 1) x =
+    take_all (length xs - 1 + 1) (set xs (length xs - 1) x) (omega (arith, some, length-set xs (length xs - 1) x)) in
+    sym whole ∙ more
+
+pub replaced : {C : Type 0} (waiting : List (Waiting C)) (added : Waiting C) → covers_newest added.message waiting ≡ true
+    → set waiting (length waiting - 1) added ≡ still_waiting added.message waiting ++ added ∷ []
+replaced waiting added e =
+    set_last waiting added (covered_some added.message waiting e)
+    ∙ ap (λ (l : List (Waiting _)). l ++ added ∷ []) (sym (still_covered added.message waiting e))
+
+-- ---- the bounds
+
+pub bytes_more : {C : Type 0} (kept : List (Waiting C)) (message : Message C) (size bytes : ℕ) → bytes ≡ bytes_of kept
+    → bytes + size ≡ bytes_of (kept ++ (record { message = message; size = size }) ∷ [])
+bytes_more kept message size bytes is = let sum = bytes_last kept (record { message = message; size = size }) in omega (arith, is, sum)
+
+fits_so : {C : Type 0} (kept : List (Waiting C)) (size : ℕ) → fits kept size ≡ true → (length kept + 1 ≤ 524288) × (bytes_of kept + size ≤ 134217728)
+fits_so kept size e = by (nat_lt (length kept) 524288) (nat_le (bytes_of kept + size) 134217728) refl refl e
+  where
+    by : (a b : Bool) → nat_lt (length kept) 524288 ≡ a → nat_le (bytes_of kept + size) 134217728 ≡ b → (a && b) ≡ true → (length kept + 1 ≤ 524288) × (bytes_of kept + size ≤ 134217728)
+    by true true x y t = (let lt = ltb-true (length kept) 524288 x in omega (arith, lt), leb-true (bytes_of kept + size) 134217728 y)
+    by true false x y t = cc
+    by false b x y t = cc
+
+pub bounded_more : {C : Type 0} (kept : List (Waiting C)) (message : Message C) (size : ℕ) → fits kept size ≡ true
+    → IsBounded (kept ++ (record { message = message; size = size }) ∷ [])
+bounded_more kept message size e =
+    let both = fits_so kept size e in
+    let sum = bytes_last kept (record { message = message; size = size }) in
+    record {
+      messages = omega (arith, both.0, length-append kept ((record { message = message; size = size }) ∷ []));
+      bytes = omega (arith, both.1, sum);
+    }
+
+pub fits_is : (count bytes size : ℕ) → (nat_lt count 524288 && (nat_le bytes 134217728 && nat_le size (134217728 - bytes))) ≡ (nat_lt count 524288 && nat_le (bytes + size) 134217728)
+fits_is count bytes size = grind arith
+
+-- the invariant of a queue, after a message was queued
+pub pushed : {C : Type 0} (message : Message C) (size bytes : ℕ) (waiting new : List (Waiting C))
+    → new ≡ still_waiting message waiting ++ (record { message = message; size = size }) ∷ []
+    → bytes ≡ bytes_of (still_waiting message waiting) → fits (still_waiting message waiting) size ≡ true
+    → (bytes + size ≡ bytes_of new) × IsBounded new
+pushed message size bytes waiting new is sum room =
+    subst (λ (l : List (Waiting _)). (bytes + size ≡ bytes_of l) × IsBounded l) (sym is)
+    (bytes_more (still_waiting message waiting) message size bytes sum, bounded_more (still_waiting message waiting) message size room)
+
+pub size_below : {C : Type 0} (message : Message C) (waiting : List (Waiting C)) (newest : Waiting C) (bytes : ℕ) → covers_newest message waiting ≡ true
+    → newest ≡ get_or waiting (length waiting - 1) newest → bytes ≡ bytes_of waiting → newest.size ≤ bytes
+size_below message waiting newest bytes e at is = let sum = covered_bytes message waiting newest e at in omega (arith, sum, is)
+
+pub kept_bytes : {C : Type 0} (message : Message C) (waiting : List (Waiting C)) (newest : Waiting C) (bytes : ℕ) → covers_newest message waiting ≡ true
+    → newest ≡ get_or waiting (length waiting - 1) newest → bytes ≡ bytes_of waiting → bytes - newest.size ≡ bytes_of (still_waiting message waiting)
+kept_bytes message waiting newest bytes e at is =
+    let sum = covered_bytes message waiting newest e at in
+    let less : bytes - newest.size ≡ bytes_of (take (length waiting - 1) waiting) = omega (arith, sum, is) in
+    less ∙ ap (λ (l : List (Waiting _)). bytes_of l) (sym (still_covered message waiting e))
+
+pub replaced_at : {C : Type 0} (waiting seen : List (Waiting C)) (added : Waiting C) (count : ℕ) → seen ≡ waiting → count ≡ length waiting
+    → covers_newest added.message seen ≡ true → set waiting (count - 1) added ≡ still_waiting added.message waiting ++ added ∷ []
+replaced_at waiting seen added count same counts e =
+    ap (λ (n : ℕ). set waiting (n - 1) added) counts
+    ∙ replaced waiting added (subst (λ (l : List (Waiting _)). covers_newest added.message l ≡ true) same e)
+
+pub pushed_now : {C : Type 0} (message : Message C) (size bytes : ℕ) (waiting seen new : List (Waiting C)) (logs : List LogName) (dropped : ℕ) (queue : QueueView C)
+    → record { waiting = waiting; logs = logs; dropped = dropped } ≡ queue → seen ≡ waiting
+    → new ≡ still_waiting message waiting ++ (record { message = message; size = size }) ∷ []
+    → bytes ≡ bytes_of (still_waiting message seen) → fits (still_waiting message queue.waiting) size ≡ true
+    → (bytes + size ≡ bytes_of new) × IsBounded new
+pushed_now message size bytes waiting seen new logs dropped queue view same is sum room =
+    pushed message size bytes waiting new is
+    (sum ∙ ap (λ (l : List (Waiting _)). bytes_of (still_waiting message l)) same)
+    (ap (λ (q : QueueView _). fits (still_waiting message q.waiting) size) view ∙ room)

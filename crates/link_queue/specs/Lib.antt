@@ -1,0 +1,4 @@
+pub mod Covering
+pub mod Logs
+pub mod Queues
+pub mod Theorems

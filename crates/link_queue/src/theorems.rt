@@ -1,0 +1,15 @@
+// Theorems about queues of links. The functions do nothing; their contracts are the theorems.
+
+ghost use Rattle.link_queue.specs.Theorems.{ComesOutInOrder, NothingElseIsLost};
+
+/// States that what comes out of a queue is in the order in which it was queued, each message at
+/// most once.
+pub fn what_comes_out_is_in_order<C>()
+    ensures { ComesOutInOrder C }
+{}
+
+/// States that each message comes out, or is covered by the one that was queued in its place, or
+/// was dropped and counted.
+pub fn nothing_else_is_lost<C>()
+    ensures { NothingElseIsLost C }
+{}
