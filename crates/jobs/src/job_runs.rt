@@ -45,14 +45,24 @@ where
 {
     match do_job(rt, job, input, output, faults) {
         Ok(()) => 0,
-        Err(error) => {
-            let status = print_fault(faults, &error);
-            if let (JobError::Table, Job::Serve(serve)) = (&error, job) {
-                print_cause(rt, serve.config, faults);
-            }
-            status
-        }
+        Err(error) => fail(rt, job, &error, faults),
     }
+}
+
+// Prints why a job failed, and what is wrong with its table of nodes, and returns the exit status.
+fn fail<R: Files + AllocGlobal, E: Write>(
+    rt: &R,
+    job: &Job<'_>,
+    error: &JobError,
+    faults: &mut E,
+) -> u8
+    ensures { result ≡ exit_status error.now }
+{
+    let status = print_fault(faults, error);
+    if let (JobError::Table, Job::Serve(serve)) = (error, job) {
+        print_cause(rt, serve.config, faults);
+    }
+    status
 }
 
 // Runs a job over one reader and two writers.

@@ -9,7 +9,7 @@ pub returns-in-Ok-clause-failed : goal.returns-in-Ok-clause-failed
 returns-in-Ok-clause-failed g c = λ differs. absurd (differs refl)
 
 pub returns-in-Err-clause-done : goal.returns-in-Err-clause-done
-returns-in-Err-clause-done g c = λ is. absurd (not_0 c.in-Err.error (sym c.print_fault.ensures ∙ is))
+returns-in-Err-clause-done g c = λ is. absurd (not_0 c.in-Err.error (sym c.fail.ensures ∙ is))
 
 pub returns-in-Err-clause-failed : goal.returns-in-Err-clause-failed
-returns-in-Err-clause-failed g c = λ _. (c.in-Err.error, c.in-Err.ensures.failed, c.print_fault.ensures)
+returns-in-Err-clause-failed g c = λ _. (c.in-Err.error, c.in-Err.ensures.failed, c.fail.ensures)
