@@ -1,0 +1,10 @@
+use Rattle.message_form.specs.Numbers.{wide_number}
+use Rattle.message_form.specs.Messages.{log_bytes}
+use Rattle.message_form.proofs.Appended.{on_ok, two}
+use Rattle.message_form.proofs.message_writers.write_ballot_log.Goals as goal
+
+pub returns-clause-ok : goal.returns-clause-ok
+returns-clause-ok c =
+    on_ok c.write_log.result _ _ (λ h.
+    two c.args.bytes.now.items (wide_number c.args.ballot) (log_bytes c.args.log.now) c.write_wide_number.new.bytes.items _
+    c.in_ok-write_wide_number.ensures.ok h) c.write_log.ensures.ok

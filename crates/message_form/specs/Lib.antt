@@ -1,0 +1,13 @@
+pub mod Numbers
+pub mod Commands
+pub mod CommandReading
+pub mod Messages
+pub mod LogReading
+pub mod MessageReading
+pub mod Growth
+pub mod Outcome
+pub mod Theorems
+pub mod Refusals
+pub mod Rows
+pub mod LogRows
+pub mod FaultRows

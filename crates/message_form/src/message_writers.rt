@@ -1,0 +1,194 @@
+// Writing a message.
+//
+// A message is appended whole or not at all. An empty vector is written to in place, and emptied
+// again if memory runs out; any other gets the bytes in one call, once all of them are made.
+
+ghost use Rattle.std.specs.Prelude.{◌≡◌, ◌↔◌, ◌++◌, OnErr, OnOk, IsErrOf, false};
+ghost use Rattle.message_form.specs.Messages.{are_too_many, body_bytes, has_too_many, kind_of};
+ghost use Rattle.message_form.specs.Messages.{members_bytes, written, IsBody};
+ghost use Rattle.message_form.specs.Commands.{command_bytes, IsCommand};
+ghost use Rattle.message_form.specs.Messages.{log_bytes, AreCounted, IsLog, IsMessage, IsTooLarge};
+ghost use Rattle.message_form.specs.Numbers.{wide_number, IsWide};
+
+use crate::command_writers::write_command;
+use crate::log_writers::write_log;
+use crate::numbers::write_wide_number;
+use crate::write_fault::WriteFault;
+use ballot_base::{Body, Log, Members, Message};
+use broker_spec::Command;
+use std::alloc::AllocError;
+
+/// The most members that the one byte of their count can say.
+const MAX_COUNTED: usize = 255;
+
+/// Appends the bytes of a message. `TooLarge` comes exactly if a list of it has more than 255
+/// members, and before memory is needed; any other error is that memory ran out. After an error the
+/// vector has what it had.
+pub fn write_message(message: &Message<Command>, out: &mut Vec<u8>) -> Result<(), WriteFault>
+    ensures ok { OnOk result (out.new.items ≡ out.old.items ++ written message.now) }
+    ensures fits { OnOk result (IsMessage message.now) }
+    ensures large { IsErrOf result WriteFault.TooLarge ↔ IsTooLarge message.now }
+    ensures err { OnErr result (out.new.items ≡ out.old.items) }
+{
+    if has_too_many(&message.body) {
+        return Err(WriteFault::TooLarge);
+    }
+    append_whole(message, out)?;
+    Ok(())
+}
+
+// Returns true if a list of the body has too many members.
+fn has_too_many(body: &Body<Command>) -> bool
+    ensures { result ≡ has_too_many body.now }
+{
+    match body {
+        Body::NewBallot(_, members, _, previous_members) => {
+            are_too_many(members) || are_too_many(previous_members)
+        }
+        _ => false,
+    }
+}
+
+fn are_too_many(members: &Members) -> bool
+    ensures { result ≡ are_too_many members.now }
+{
+    members.as_slice().len() > MAX_COUNTED
+}
+
+// Appends a message. If memory runs out nothing is appended.
+fn append_whole(message: &Message<Command>, out: &mut Vec<u8>) -> Result<(), AllocError>
+    requires { has_too_many message.now.body ≡ false }
+    ensures ok { OnOk result (out.new.items ≡ out.old.items ++ written message.now) }
+    ensures fits { OnOk result (IsMessage message.now) }
+    ensures err { OnErr result (out.new.items ≡ out.old.items) }
+{
+    if !out.is_empty() {
+        let mut bytes = Vec::new(*out.allocator());
+        append(message, &mut bytes)?;
+        return out.extend_from_slice(&bytes);
+    }
+    let appended = append(message, out);
+    if appended.is_err() {
+        out.clear();
+    }
+    appended
+}
+
+// Appends a message. If memory runs out, some of its bytes may have been appended, here and in the
+// functions below.
+fn append(message: &Message<Command>, bytes: &mut Vec<u8>) -> Result<(), AllocError>
+    requires { has_too_many message.now.body ≡ false }
+    ensures ok { OnOk result (bytes.new.items ≡ bytes.old.items ++ written message.now) }
+    ensures fits { OnOk result (IsMessage message.now) }
+{
+    bytes.push(kind_of(&message.body))?;
+    bytes.push(message.from)?;
+    write_body(&message.body, bytes)
+}
+
+// Returns the number of the kind.
+fn kind_of(body: &Body<Command>) -> u8
+    ensures { result ≡ kind_of body.now }
+{
+    match body {
+        Body::NewBallot(_, _, _, _) => 1,
+        Body::Join(_, _) => 2,
+        Body::State(_, _) => 3,
+        Body::Install(_, _) => 4,
+        Body::Installed(_, _) => 5,
+        Body::Activate(_) => 6,
+        Body::Activated(_) => 7,
+        Body::Superseded(_) => 8,
+        Body::Append(_, _, _) => 9,
+        Body::Held(_, _) => 10,
+        Body::Commit(_, _) => 11,
+    }
+}
+
+// Appends the parts of a body.
+fn write_body(body: &Body<Command>, bytes: &mut Vec<u8>) -> Result<(), AllocError>
+    requires { has_too_many body.now ≡ false }
+    ensures ok { OnOk result (bytes.new.items ≡ bytes.old.items ++ body_bytes body.now) }
+    ensures fits { OnOk result (IsBody body.now) }
+{
+    match body {
+        Body::NewBallot(ballot, members, previous, previous_members) => {
+            write_configuration(*ballot, members, bytes)?;
+            write_configuration(*previous, previous_members, bytes)
+        }
+        Body::State(ballot, log) | Body::Install(ballot, log) => {
+            write_ballot_log(*ballot, log, bytes)
+        }
+        Body::Append(ballot, place, command) => write_append(*ballot, *place, command, bytes),
+        Body::Join(ballot, number)
+        | Body::Installed(ballot, number)
+        | Body::Held(ballot, number)
+        | Body::Commit(ballot, number) => write_pair(*ballot, *number, bytes),
+        Body::Activate(ballot) | Body::Activated(ballot) | Body::Superseded(ballot) => {
+            write_wide_number(*ballot, bytes)
+        }
+    }
+}
+
+// Appends a ballot and its members.
+fn write_configuration(
+    ballot: u64,
+    members: &Members,
+    bytes: &mut Vec<u8>,
+) -> Result<(), AllocError>
+    requires { are_too_many members.now ≡ false }
+    ensures ok { OnOk result
+        (bytes.new.items ≡ bytes.old.items ++ (wide_number ballot ++ members_bytes members.now)) }
+    ensures fits { OnOk result (IsWide ballot × AreCounted members.now) }
+{
+    write_wide_number(ballot, bytes)?;
+    write_members(members.as_slice(), bytes)
+}
+
+// Appends the numbers of members, their count in one byte before them.
+fn write_members(members: &[u8], bytes: &mut Vec<u8>) -> Result<(), AllocError>
+    requires { are_too_many members.now ≡ false }
+    ensures ok { OnOk result (bytes.new.items ≡ bytes.old.items ++ members_bytes members.now) }
+    ensures fits { OnOk result (AreCounted members.now) }
+{
+    bytes.push(members.len() as u8)?;
+    bytes.extend_from_slice(members)?;
+    Ok(())
+}
+
+// Appends a ballot and a log.
+fn write_ballot_log(ballot: u64, log: &Log<Command>, bytes: &mut Vec<u8>) -> Result<(), AllocError>
+    ensures ok { OnOk result
+        (bytes.new.items ≡ bytes.old.items ++ (wide_number ballot ++ log_bytes log.now)) }
+    ensures fits { OnOk result (IsWide ballot × IsLog log.now) }
+{
+    write_wide_number(ballot, bytes)?;
+    write_log(log, bytes)
+}
+
+// Appends a ballot, a place and the command at it.
+fn write_append(
+    ballot: u64,
+    place: u64,
+    command: &Command,
+    bytes: &mut Vec<u8>,
+) -> Result<(), AllocError>
+    ensures ok { OnOk result
+        (bytes.new.items
+        ≡ bytes.old.items
+        ++ (wide_number ballot ++ (wide_number place ++ command_bytes command.now))) }
+    ensures fits { OnOk result (IsWide ballot × IsWide place × IsCommand command.now) }
+{
+    write_pair(ballot, place, bytes)?;
+    write_command(command, bytes)
+}
+
+// Appends two numbers.
+fn write_pair(first: u64, second: u64, bytes: &mut Vec<u8>) -> Result<(), AllocError>
+    ensures ok { OnOk result
+        (bytes.new.items ≡ bytes.old.items ++ (wide_number first ++ wide_number second)) }
+    ensures fits { OnOk result (IsWide first × IsWide second) }
+{
+    write_wide_number(first, bytes)?;
+    write_wide_number(second, bytes)
+}
