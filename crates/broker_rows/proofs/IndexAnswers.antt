@@ -2,7 +2,7 @@
 use Rattle.std.proofs.Common.{◌≡◌, ◌++◌, Bool, true, List, [], ◌∷◌, ◌↔◌, map, is_some, codes, bytes_eq, refl, sym, ap, subst, ◌∙◌}
 use Rattle.rows.specs.Fields.{Text}
 use Rattle.rows.specs.Playing.{Answers}
-use Rattle.broker_rows.specs.AnswerFields.{yes_or_no}
+use Rattle.rows.specs.Answers.{yes_or_no}
 use Rattle.packet_base.specs.declared.qos.QoS.{QoS}
 use Rattle.subs_base.specs.Content.{Content, with_row, without_row, without_client}
 use Rattle.subs_base.specs.Granted.{Row, AppendsGranted}

@@ -4,6 +4,8 @@ use Rattle.rows.specs.Fields.{Text}
 use Rattle.rows.specs.declared.line.Line.{Line}
 use Rattle.broker_rows.specs.IndexSteps.{ListAgrees, TreeAgrees}
 use Rattle.broker_rows.specs.StoreSteps.{StoreAgrees}
+use Rattle.broker_rows.specs.SessionSteps.{SessionAgrees}
+use Rattle.broker_rows.specs.BrokerSteps.{BrokerAgrees}
 use Rattle.broker_rows.specs.Kinds.{KindAgrees}
 use Rattle.broker_rows.proofs.Words.{same_text}
 
@@ -17,3 +19,11 @@ index_kind kind steps is list tree = of_kind kind (codes "index") steps is (Kind
 pub store_kind : (kind : Text) (steps : List Line) → bytes_eq kind (codes "store") ≡ true → StoreAgrees steps
     → KindAgrees kind steps
 store_kind kind steps is agrees = of_kind kind (codes "store") steps is (KindAgrees.store steps agrees)
+
+pub session_kind : (kind : Text) (steps : List Line) → bytes_eq kind (codes "session") ≡ true → SessionAgrees steps
+    → KindAgrees kind steps
+session_kind kind steps is agrees = of_kind kind (codes "session") steps is (KindAgrees.session steps agrees)
+
+pub broker_kind : (kind : Text) (steps : List Line) → bytes_eq kind (codes "broker") ≡ true → BrokerAgrees steps
+    → KindAgrees kind steps
+broker_kind kind steps is agrees = of_kind kind (codes "broker") steps is (KindAgrees.broker steps agrees)

@@ -2,7 +2,7 @@
 use Rattle.std.proofs.Common.{◌≡◌, ◌++◌, true, List, [], ◌∷◌, map, length, codes, bytes_eq, refl, sym, ap, subst, ◌∙◌}
 use Rattle.rows.specs.Fields.{Text}
 use Rattle.rows.specs.Playing.{Answers}
-use Rattle.broker_rows.specs.AnswerFields.{counted}
+use Rattle.rows.specs.Answers.{counted}
 use Rattle.packet_base.specs.declared.qos.QoS.{QoS}
 use Rattle.retained.specs.Retained.{RetainedTopics, after_put, matching_entries}
 use Rattle.broker_rows.specs.Values.{qos_text}

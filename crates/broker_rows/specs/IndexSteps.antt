@@ -2,7 +2,7 @@
 use Rattle.std.specs.Prelude.{◌≡◌, List, [], ◌∷◌, map, codes, is_some}
 use Rattle.rows.specs.Fields.{Text}
 use Rattle.rows.specs.Playing.{Answers, Agrees}
-use Rattle.broker_rows.specs.AnswerFields.{yes_or_no}
+use Rattle.rows.specs.Answers.{yes_or_no}
 use Rattle.rows.specs.declared.line.Line.{Line}
 use Rattle.packet_base.specs.declared.qos.QoS.{QoS}
 use Rattle.subs_base.specs.Content.{Content, no_subscriptions, with_row, without_row, without_client}

@@ -1,5 +1,7 @@
-pub mod AnswerFields
 pub mod Values
 pub mod IndexSteps
 pub mod StoreSteps
+pub mod SessionValues
+pub mod SessionSteps
+pub mod BrokerSteps
 pub mod Kinds

@@ -2,7 +2,7 @@
 use Rattle.std.specs.Prelude.{◌≡◌, ℕ, List, [], ◌∷◌, length, map, codes}
 use Rattle.rows.specs.Fields.{Text}
 use Rattle.rows.specs.Playing.{Answers, Agrees}
-use Rattle.broker_rows.specs.AnswerFields.{counted}
+use Rattle.rows.specs.Answers.{counted}
 use Rattle.rows.specs.declared.line.Line.{Line}
 use Rattle.packet_base.specs.declared.qos.QoS.{QoS}
 use Rattle.retained.specs.Retained.{RetainedTopics, after_put, matching_entries}

@@ -6,10 +6,9 @@ ghost use Rattle.std.specs.Prelude.{◌≡◌, ◌++◌, ◌∷◌, [], map, cod
 ghost use Rattle.subs_base.specs.ListIndex.{content_of};
 ghost use Rattle.broker_rows.specs.IndexSteps.{IndexStep, ListAgrees, TreeAgrees, grant_fields};
 
-use crate::answers::{only, yes_or_no};
 use crate::values::{client_of, filter_of, qos_of, qos_text, topic_of};
 use packet_base::{ClientId, QoS};
-use rows::{Field, Fields, Line, Outcome, StepFault, Tested, play_steps};
+use rows::{Field, Fields, Line, Outcome, StepFault, Tested, only, play_steps, yes_or_no};
 use std::alloc::{AllocError, Global};
 use subs::TreeIndex;
 use subs_base::{ListIndex, SubIndex};

@@ -2,9 +2,15 @@
 //! played with too.
 #![tactic(auto)]
 
-mod answers;
+mod broker_commands;
+mod broker_outputs;
+mod broker_steps;
 mod index_steps;
 mod kinds;
+mod packets;
+mod session_handshakes;
+mod session_queue;
+mod session_steps;
 mod store_steps;
 mod values;
 
@@ -13,7 +19,7 @@ use anyhow::{Context, Result, bail};
 use rows::play_file;
 
 // The files whose rows have to agree.
-const FILES: &[&str] = &["index.rows", "store.rows"];
+const FILES: &[&str] = &["index.rows", "store.rows", "session.rows", "broker.rows"];
 
 // The file whose rows have to differ.
 const TURNED: &str = "must_differ.rows";

@@ -4,10 +4,9 @@ ghost use Rattle.std.specs.Prelude.{◌≡◌, ◌++◌, ◌∷◌, [], map, cod
 ghost use Rattle.retained.specs.Retained.{matching_entries};
 ghost use Rattle.broker_rows.specs.StoreSteps.{StoreAgrees, StoreStep, retained_fields};
 
-use crate::answers::{counted, only};
 use crate::values::{filter_of, payload_of, qos_of, qos_text, topic_of};
 use retained::{RetainedError, RetainedPublication, RetainedStore};
-use rows::{Field, Fields, Line, Outcome, StepFault, Tested, play_steps};
+use rows::{Field, Fields, Line, Outcome, StepFault, Tested, counted, only, play_steps};
 use std::alloc::{AllocError, Global};
 use topics::{Filter, TopicName};
 

@@ -1,9 +1,10 @@
 // The values that fields stand for.
 
-ghost use Rattle.std.specs.Prelude.{◌≡◌, IfOk};
+ghost use Rattle.std.specs.Prelude.{◌≡◌, Some, IfOk};
+ghost use Rattle.rows.specs.Fields.{number_of};
 ghost use Rattle.broker_rows.specs.Values.{qos_text};
 
-use packet_base::{ClientId, Payload, QoS};
+use packet_base::{ClientId, PacketId, Payload, QoS};
 use rows::{Field, StepFault};
 use std::alloc::{AllocError, Global};
 use topics::{Filter, MalformedKind, TopicName};
@@ -85,5 +86,15 @@ pub(crate) fn qos_text(qos: QoS) -> &'static str
         QoS::AtMostOnce => "0",
         QoS::AtLeastOnce => "1",
         QoS::ExactlyOnce => "2",
+    }
+}
+
+/// Returns the Packet Identifier whose digits a field is.
+pub(crate) fn id_of(field: &Field) -> Result<PacketId, StepFault>
+    ensures { IfOk result (λ id. number_of field.now ≡ Some id) }
+{
+    match field.number() {
+        Some(number) if number > 0 && number < 65_536 => Ok(PacketId::new(number as u16)),
+        _ => Err(StepFault::Form),
     }
 }
