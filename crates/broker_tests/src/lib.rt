@@ -1,6 +1,6 @@
-//! Tests of the broker: conversations, commands in and packets out, both as the bytes of MQTT 3.1.1
-//! (`tests`, `forms`), and of what it stores: subscriptions, retained publications and sessions
-//! (`storage`).
+//! Tests of the broker that are no rows of text: rows that come many times, frozen bytes that are
+//! made (`tests`, `forms`), and of what it stores: subscriptions, retained publications and
+//! sessions (`storage`).
 #![tactic(auto)]
 
 #[cfg(test)]
@@ -8,7 +8,5 @@ mod forms;
 #[cfg(test)]
 mod row;
 pub mod storage;
-#[cfg(test)]
-mod story;
 #[cfg(test)]
 mod tests;

@@ -16,10 +16,6 @@ pub(crate) enum Event<'a> {
     Bytes(u64, &'a [u8]),
     /// A connection is lost.
     Lost(u64),
-    /// A ballot begins.
-    Start(u64),
-    /// An administrator ends the session of a client.
-    Expel(&'a str),
 }
 
 /// The bytes that are sent on a connection; none if it is closed.
@@ -75,8 +71,8 @@ pub(crate) fn first_fault_of_rows<'a>(
     None
 }
 
-/// Returns what came for an event, if a broker does not answer it as expected.
-pub(crate) fn came_instead(
+// Returns what came for an event, if a broker does not answer it as expected.
+fn came_instead(
     alloc: Global,
     broker: &mut BrokerMachine,
     event: Event<'_>,
@@ -108,8 +104,8 @@ fn is_done(broker: &mut BrokerMachine, command: &Command, given: &mut Vec<Output
     broker.apply(command, given).is_ok()
 }
 
-/// Returns the command of an event.
-pub(crate) fn command_of(alloc: Global, event: Event<'_>) -> Option<Command> {
+// Returns the command of an event.
+fn command_of(alloc: Global, event: Event<'_>) -> Option<Command> {
     match event {
         Event::Connect(count, client, clean) => {
             let name = ConnectionName::new(1, count)?;
@@ -122,8 +118,6 @@ pub(crate) fn command_of(alloc: Global, event: Event<'_>) -> Option<Command> {
             Some(Command::Packet(name, packet))
         }
         Event::Lost(count) => Some(Command::Lost(ConnectionName::new(1, count)?)),
-        Event::Start(ballot) => Some(Command::Start(ballot)),
-        Event::Expel(client) => Some(Command::Expel(ClientId::new(alloc, client).ok()?)),
     }
 }
 

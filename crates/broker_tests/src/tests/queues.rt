@@ -1,20 +1,31 @@
-// What a session keeps for its client (MQTT 4.4, 4.6).
+// What a session keeps for its client, where rows come many times (MQTT 4.4, 4.6).
 
-use super::handshakes::{AGAIN, BEGINS, PUBLISH, SUBSCRIBE};
-use crate::row::{CLOSED, Event, NOTHING, Row, first_fault_of_rows};
-use crate::story::{Fault, Run, Start, first_fault};
+use crate::row::{CLOSED, Event, NOTHING, Row, RowFault, first_fault_of_rows};
 use broker::BrokerMachine;
+use machine::Machine;
 use std::alloc::Global;
 use std::test::*;
 
+/// PUBLISH of `x` on `t/1` at QoS 2 with identifier 1.
+const PUBLISH: &[u8] = &[0x34, 8, 0, 3, 0x74, 0x2F, 0x31, 0, 1, 0x78];
+
+/// PUBLISH of `x` on `t/1` at QoS 2 with identifier 1 and DUP 1.
+const AGAIN: &[u8] = &[0x3C, 8, 0, 3, 0x74, 0x2F, 0x31, 0, 1, 0x78];
+
+/// SUBSCRIBE of `t/#` at QoS 2 with identifier 1.
+const SUBSCRIBE: &[u8] = &[0x82, 8, 0, 1, 0, 3, 0x74, 0x2F, 0x23, 2];
+
+/// CONNACK of a session that begins.
+const BEGINS: &[u8] = &[0x20, 2, 0, 0];
+
 /// CONNACK of a session that continues.
-pub(crate) const GOES_ON: &[u8] = &[0x20, 2, 1, 0];
+const GOES_ON: &[u8] = &[0x20, 2, 1, 0];
 
 /// Rows, and how many times they come.
-pub(crate) type Part<'a> = (u32, &'a [Row<'a>]);
+type Part<'a> = (u32, &'a [Row<'a>]);
 
 /// The publisher `a` and the subscriber `b` come, and `b` goes.
-pub(crate) const BEFORE: &[Row<'static>] = &[
+const BEFORE: &[Row<'static>] = &[
     (Event::Connect(1, "a", false), &[(1, BEGINS)]),
     (Event::Connect(2, "b", false), &[(2, BEGINS)]),
     (Event::Bytes(2, SUBSCRIBE), &[(2, &[0x90, 3, 0, 1, 2])]),
@@ -22,7 +33,7 @@ pub(crate) const BEFORE: &[Row<'static>] = &[
 ];
 
 /// `a` publishes `x` at QoS 1 with identifier 9, which `b` is not sent yet.
-pub(crate) const WAITS: &[Row<'static>] = &[(
+const WAITS: &[Row<'static>] = &[(
     Event::Bytes(1, &[0x32, 8, 0, 3, 0x74, 0x2F, 0x31, 0, 9, 0x78]),
     &[(1, &[0x40, 2, 0, 9])],
 )];
@@ -41,7 +52,7 @@ const REFUSED: &[Row<'static>] = &[
 ];
 
 /// The subscriber comes back, and the first sixty-four entries are sent.
-pub(crate) const COMES_BACK: &[Row<'static>] = &[(
+const COMES_BACK: &[Row<'static>] = &[(
     Event::Connect(3, "b", false),
     &[
         (3, GOES_ON),
@@ -113,7 +124,7 @@ pub(crate) const COMES_BACK: &[Row<'static>] = &[(
 )];
 
 /// It finishes an entry of QoS 1, and is sent the next one of QoS 1.
-pub(crate) const FINISHES: &[Row<'static>] = &[(
+const FINISHES: &[Row<'static>] = &[(
     Event::Bytes(3, &[0x40, 2, 0, 1]),
     &[(3, &[0x32, 8, 0, 3, 0x74, 0x2F, 0x31, 0, 1, 0x78])],
 )];
@@ -159,6 +170,20 @@ const FULL: &[Part<'static>] = &[
     (1, LAST),
 ];
 
+/// 70 publications of QoS 1 wait for a subscriber that is away. It comes back and is sent 64 of
+/// them; it answers the first, and is sent the next one with the identifier 1.
+const SEVENTY: &[Part<'static>] = &[(1, BEFORE), (70, WAITS), (1, COMES_BACK), (1, FINISHES)];
+
+// Why parts fail.
+#[derive(Clone, Copy, Debug, PartialEq, Eq)]
+enum Fault<'a> {
+    // There was no memory for a broker.
+    Start,
+    // When the part of this index came once more, after this many times, this row had another
+    // answer.
+    Part(usize, u32, RowFault<'a>),
+}
+
 // Returns the first row of the part at an index whose answer differs from the wanted one, and after
 // how many times it does.
 fn first_fault_of_part<'a>(
@@ -176,8 +201,8 @@ fn first_fault_of_part<'a>(
     None
 }
 
-/// Returns the first part that has a row whose answer differs from the wanted one.
-pub(crate) fn first_fault_of_parts<'a>(
+// Returns the first part that has a row whose answer differs from the wanted one.
+fn first_fault_of_parts<'a>(
     alloc: Global,
     broker: &mut BrokerMachine,
     parts: &[Part<'a>],
@@ -191,11 +216,23 @@ pub(crate) fn first_fault_of_parts<'a>(
     None
 }
 
+// Returns the first part that has a row that a broker that begins answers otherwise.
+fn first_fault<'a>(alloc: Global, parts: &[Part<'a>]) -> Option<Fault<'a>> {
+    match BrokerMachine::fresh(alloc) {
+        Ok(mut broker) => first_fault_of_parts(alloc, &mut broker, parts),
+        Err(_) => Some(Fault::Start),
+    }
+}
+
 // A queue of 4,096 entries is full. The publication for which there is no room closes its
 // publisher's connection and is not taken; tried again once there is room, each is there once, in
 // order.
 #[test]
 fn a_full_queue_keeps_the_order(rt: HostRuntime) {
-    let fault = first_fault(rt.alloc(), Start::Fresh, Run::Parts(FULL));
-    assert_eq!(rt; fault, None);
+    assert_eq!(rt; first_fault(rt.alloc(), FULL), None);
+}
+
+#[test]
+fn sixty_four_of_seventy_entries_are_sent(rt: HostRuntime) {
+    assert_eq!(rt; first_fault(rt.alloc(), SEVENTY), None);
 }

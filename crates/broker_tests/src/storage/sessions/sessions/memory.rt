@@ -2,8 +2,8 @@
 // the gate none fails. A call that runs out of memory leaves the session, and what was to be sent,
 // as they were, and does its work when it is made again.
 
-use crate::storage::sessions::sessions::row::Sent::{Again, New, Pubrel};
-use crate::storage::sessions::sessions::row::{Sent, are_sent, publication};
+use crate::storage::sessions::sessions::sent::Sent::{Again, New, Pubrel};
+use crate::storage::sessions::sessions::sent::{Sent, are_sent, publication};
 use packet::Packet;
 use packet_base::{PacketId, QoS};
 use session::{Arrival, EnqueueError, Session};
