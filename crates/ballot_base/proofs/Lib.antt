@@ -7,4 +7,5 @@ pub mod MessageRows
 pub mod PlacesApplied
 pub mod SendsJoin
 pub mod StepRows
+pub mod Strangers
 pub mod ThinnedEffects

@@ -12,4 +12,5 @@ pub mod StepOutcome
 pub mod Sends
 pub mod Service
 pub mod TakenLog
+pub mod Theorems
 pub mod Unread

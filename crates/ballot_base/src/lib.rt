@@ -14,10 +14,11 @@ mod message;
 mod messages_sent;
 mod rows;
 mod status;
+mod theorems;
 
 pub use additions::{append_next, counted};
 pub use application::{apply_dropping, apply_places};
-pub use config::{Config, MAX_MEMBERS, MAX_NODE, Members};
+pub use config::{Config, MAX_MEMBERS, MAX_NODE, MAX_NUMBER, Members};
 pub use copies::copy_log;
 pub use limits::MAX_PLACES;
 pub use log::Log;
@@ -26,5 +27,6 @@ pub use message::{Body, Effect, Message};
 pub use messages_sent::{
     MASTER, send, send_after, send_appends, send_commits, send_installs, send_joins, send_state,
 };
-pub use rows::a_log_ends_at_its_limit;
+pub use rows::{a_log_ends_at_its_limit, numbers_end_at_their_bounds};
 pub use status::{Progress, Role, Status};
+pub use theorems::strangers_open_alike;

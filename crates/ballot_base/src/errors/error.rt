@@ -11,8 +11,8 @@ use std::fmt;
 /// Why no replica was opened.
 #[derive(Clone, Copy, Debug, PartialEq, Eq)]
 pub enum OpeningError {
-    /// No member, more than 7, not strictly rising, one outside 1 to 15, or a primary that is no
-    /// member.
+    /// No member, more than 7, not strictly rising, one below 1 or above the greatest number (15
+    /// unless the call takes it), or a primary that is no member.
     BadMembers,
     /// Memory ran out.
     Memory,

@@ -1,6 +1,0 @@
-use Rattle.std.proofs.Common.{◌≡◌, drop}
-use Rattle.ballot_base.specs.LawfulConfig.{are_rising}
-use Rattle.ballot_base.proofs.config.Config.is_lawful.Given as goal
-
-abbrev pub invariant-loop-member : goal.invariant-loop-member
-invariant-loop-member l = are_rising l.last (drop l.member-index l.members) ≡ are_rising 0 l.members
