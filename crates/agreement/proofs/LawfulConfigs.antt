@@ -9,15 +9,15 @@ use Rattle.lists.specs.Lists.{In}
 use Rattle.lists.specs.Lists.In.{here, there}
 
 -- each member is above what comes before it
-rising_above : (last : ℕ) (members : List ℕ) (m : ℕ) → are_rising last members ≡ true → In m members → last < m
-rising_above last [] m rising i = elim i [ ]
-rising_above last (x ∷ members) m rising here =
-    let a = and_parts (nat_lt last m && nat_le m 15) (are_rising m members) rising in
-    let b = and_parts (nat_lt last m) (nat_le m 15) a.0 in ltb-true last m b.0
-rising_above last (x ∷ members) m rising (there i) =
-    let a = and_parts (nat_lt last x && nat_le x 15) (are_rising x members) rising in
-    let b = and_parts (nat_lt last x) (nat_le x 15) a.0 in
-    let c = ltb-true last x b.0 in let d = rising_above x members m a.1 i in omega (arith, c, d)
+rising_above : (greatest last : ℕ) (members : List ℕ) (m : ℕ) → are_rising greatest last members ≡ true → In m members → last < m
+rising_above greatest last [] m rising i = elim i [ ]
+rising_above greatest last (x ∷ members) m rising here =
+    let a = and_parts (nat_lt last m && nat_le m greatest) (are_rising greatest m members) rising in
+    let b = and_parts (nat_lt last m) (nat_le m greatest) a.0 in ltb-true last m b.0
+rising_above greatest last (x ∷ members) m rising (there i) =
+    let a = and_parts (nat_lt last x && nat_le x greatest) (are_rising greatest x members) rising in
+    let b = and_parts (nat_lt last x) (nat_le x greatest) a.0 in
+    let c = ltb-true last x b.0 in let d = rising_above greatest x members m a.1 i in omega (arith, c, d)
 
 -- a test that finds a number finds a member
 pub any_in : (k : ℕ) (members : List ℕ) → list_any (λ member. member == k) members ≡ true → In k members
@@ -37,15 +37,15 @@ pub record Lawful (config : Config) (p : ℕ) : Type 0 where
   pub positive : (m : ℕ) → In m config.members → 0 < m
 
 -- and it gives that
-pub lawful_config : (config : Config) → is_lawful config.members config.primary ≡ true → Lawful config (config.primary - 1)
-lawful_config config lawful =
-    let a = and_parts (are_rising 0 config.members)
+pub lawful_config : (greatest : ℕ) (config : Config) → is_lawful greatest config.members config.primary ≡ true → Lawful config (config.primary - 1)
+lawful_config greatest config lawful =
+    let a = and_parts (are_rising greatest 0 config.members)
     (nat_le 1 (length config.members) && (nat_le (length config.members) 7 && list_any (λ member. member == config.primary) config.members)) lawful in
     let b = and_parts (nat_le 1 (length config.members)) (nat_le (length config.members) 7 && list_any (λ member. member == config.primary) config.members) a.1 in
     let c = and_parts (nat_le (length config.members) 7) (list_any (λ member. member == config.primary) config.members) b.1 in
-    let positive = rising_above 0 config.members config.primary a.0 (any_in config.primary config.members c.1) in
+    let positive = rising_above greatest 0 config.members config.primary a.0 (any_in config.primary config.members c.1) in
     record {
       primary = omega (arith, positive);
       member = c.1;
-      positive = λ m i. rising_above 0 config.members m a.0 i;
+      positive = λ m i. rising_above greatest 0 config.members m a.0 i;
     }

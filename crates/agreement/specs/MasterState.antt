@@ -1,22 +1,31 @@
 -- What the master keeps, and what it does on Assign and Activate.
 pub use Rattle.machine.specs.Ballots.{max_ballot}
 use Rattle.std.specs.Prelude.{ℕ, Bool, true, ◌+◌, ◌==◌, List, Option, Some, None, if◌then◌else◌}
-use Rattle.std.specs.Prelude.{◌^◌, nat_le}
+use Rattle.std.specs.Prelude.{nat_le}
 use Rattle.ballot_base.specs.declared.config.Config.{Config}
 use Rattle.ballot_base.specs.LawfulConfig.{is_lawful}
 use Rattle.agreement.specs.whole_logs.Messages.{Body}
 use Rattle.agreement.specs.whole_logs.Messages.Body.{NewBallot, Activated, Superseded}
 
--- the active ballot and its members, the ballot that waits to be activated, and how many were given
+-- the greatest number that a member may have, the active ballot and its members, the ballot that
+-- waits to be activated, and how many were given
 pub record MasterState : Type 0 where
+  pub greatest : ℕ
   pub active : ℕ
   pub members : List ℕ
   pub waiting : Option (ℕ × Config)
   pub given : ℕ
 
 -- as a group opens: ballot 1 is active, and none waits
-abbrev pub opening_master : Config → MasterState
-opening_master config = record { active = 1; members = config.members; waiting = None; given = 1 }
+abbrev pub opening_master : ℕ → Config → MasterState
+opening_master greatest config =
+    record {
+      greatest = greatest;
+      active = 1;
+      members = config.members;
+      waiting = None;
+      given = 1;
+    }
 
 -- what the master is after a step, and the message that it sends with its receiver
 pub record MasterOutcome (C : Type 0) : Type 0 where
@@ -72,7 +81,7 @@ pub data AssignRefusal : Type 0 where
 -- members are tested first. Which nodes there are the master does not know.
 abbrev pub refusal : MasterState → Config → Option AssignRefusal
 refusal master config =
-    if is_lawful config.members config.primary
+    if is_lawful master.greatest config.members config.primary
     then if nat_le max_ballot master.given then Some ballots_spent else None
     else Some bad_members
 

@@ -17,9 +17,9 @@ pub record Moment (S C O : Type 0) : Type 0 where
   pub world : GroupWorld S C O
 
 -- the moment at which a group opens
-abbrev pub opening_moment : {S C O : Type 0} → Rules S C O → ℕ → Config → Moment S C O
-opening_moment rules nodes config =
-    record { master = opening_master config; world = opening_world rules nodes config }
+abbrev pub opening_moment : {S C O : Type 0} → Rules S C O → ℕ → ℕ → Config → Moment S C O
+opening_moment rules greatest nodes config =
+    record { master = opening_master greatest config; world = opening_world rules nodes config }
 
 -- A node that is no active primary applies places of its log that some node had applied at an
 -- earlier moment, without an output. At that moment the other node was in no higher ballot than
@@ -50,9 +50,9 @@ pub record Learns {S C O : Type 0} (rules : Rules S C O) (moments : List (Moment
 -- the moments that were, the present one first -- history: no field keeps it
 pub data Moments {S C O : Type 0} (rules : Rules S C O) (config : Config) :
     List (Moment S C O) → Type 0 where
-  -- the group opens with a configuration
-  began : {moment : Moment S C O} (nodes : ℕ) → can_open nodes config ≡ true →
-      moment ≡ opening_moment rules nodes config → Moments rules config (moment ∷ [])
+  -- the group opens with a configuration; its nodes have numbers up to any greatest one
+  began : {moment : Moment S C O} (greatest nodes : ℕ) → can_open greatest nodes config ≡ true →
+      moment ≡ opening_moment rules greatest nodes config → Moments rules config (moment ∷ [])
   -- one more step
   went_on : {moment next : Moment S C O} {moments : List (Moment S C O)} →
       Moments rules config (moment ∷ moments) →

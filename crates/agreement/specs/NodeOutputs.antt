@@ -30,7 +30,7 @@ given_in node (answer_lost from ballot sent) = []
 -- all that it output up to the last of some moments, in order
 abbrev pub given_of : {S C O : Type 0} {rules : Rules S C O} {config : Config}
     {moments : List (Moment S C O)} → ℕ → Moments rules config moments → List (ℕ × O)
-given_of node (began nodes lawful is) = []
+given_of node (began greatest nodes lawful is) = []
 given_of node (went_on came step) = given_of node came ++ given_in node step
 given_of node (learned came learns) = given_of node came
 

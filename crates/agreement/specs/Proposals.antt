@@ -36,7 +36,7 @@ proposal_of (answer_lost from ballot sent) = []
 -- all proposals between moments, in order
 abbrev pub proposals_of : {S C O : Type 0} {rules : Rules S C O} {config : Config}
     {moments : List (Moment S C O)} → Moments rules config moments → List (ℕ × C)
-proposals_of (began nodes lawful is) = []
+proposals_of (began greatest nodes lawful is) = []
 proposals_of (went_on came step) = proposals_of came ++ proposal_of step
 proposals_of (learned came learns) = proposals_of came
 
@@ -60,7 +60,7 @@ taken_in (answer_lost from ballot sent) = []
 -- all that was taken between moments, in order
 abbrev pub taken_of : {S C O : Type 0} {rules : Rules S C O} {config : Config}
     {moments : List (Moment S C O)} → Moments rules config moments → List (ℕ × C)
-taken_of (began nodes lawful is) = []
+taken_of (began greatest nodes lawful is) = []
 taken_of (went_on came step) = taken_of came ++ taken_in step
 taken_of (learned came learns) = taken_of came
 
@@ -79,7 +79,7 @@ takes_at node (answer_lost from ballot sent) = []
 -- what the node at this index took between moments
 abbrev pub taken_at : {S C O : Type 0} {rules : Rules S C O} {config : Config}
     {moments : List (Moment S C O)} → ℕ → Moments rules config moments → List (ℕ × C)
-taken_at node (began nodes lawful is) = []
+taken_at node (began greatest nodes lawful is) = []
 taken_at node (went_on came step) = taken_at node came ++ takes_at node step
 taken_at node (learned came learns) = taken_at node came
 

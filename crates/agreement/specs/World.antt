@@ -3,7 +3,7 @@ use Rattle.std.specs.Prelude.{Option, Some, None, ℕ, zero, suc, Bool, ◌+◌,
 use Rattle.std.specs.Prelude.{slice_set, ◌&&◌, nat_le}
 use Rattle.std.specs.List.{list_all}
 use Rattle.machine.specs.Machine.{Rules}
-use Rattle.ballot_base.specs.LawfulConfig.{is_lawful, max_node}
+use Rattle.ballot_base.specs.LawfulConfig.{is_lawful}
 use Rattle.ballot_base.specs.declared.config.Config.{Config}
 use Rattle.agreement.specs.whole_logs.Messages.{Message, Effect}
 use Rattle.agreement.specs.whole_logs.Messages.Effect.{To, Out}
@@ -16,12 +16,12 @@ pub record GroupWorld (S C O : Type 0) : Type 0 where
   pub sent : List (ℕ × Message C)
   pub left : List (ℕ × O)
 
--- nodes open, no more than there are numbers, in a lawful configuration whose members are among
+-- nodes open, with numbers up to a greatest one, in a lawful configuration whose members are among
 -- them
-abbrev pub can_open : ℕ → Config → Bool
-can_open nodes config =
-    nat_le nodes max_node
-    && (is_lawful config.members config.primary
+abbrev pub can_open : ℕ → ℕ → Config → Bool
+can_open greatest nodes config =
+    nat_le nodes greatest
+    && (is_lawful greatest config.members config.primary
     && list_all (λ member. nat_le member nodes) config.members)
 
 -- the nodes as they open

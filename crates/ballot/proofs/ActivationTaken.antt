@@ -12,7 +12,7 @@ use Rattle.ballot_base.specs.declared.status.Role.TheVariants.{Backup, Fetching,
 use Rattle.ballot_base.specs.Replica.{ReplicaState, CountedReplica, is_installing, others, progress_at}
 use Rattle.ballot_base.specs.Logs.{Log, places, popped, pushed}
 use Rattle.ballot_base.proofs.LongerLogs.{last_pushed, part_pushed, places_pushed, popped_pushed}
-use Rattle.ballot_base.specs.Losses.{SendsAndAddsNothing, halted, one_more}
+use Rattle.ballot_base.specs.Losses.{SendsAndAddsNothing, halted}
 use Rattle.ballot_base.specs.StepOutcome.{Outcome, message_to_followed}
 use Rattle.ballot_base.specs.Application.{applied_to}
 use Rattle.ballot_base.specs.Service.{commit, commit_at, least, max_places, added}

@@ -2,7 +2,6 @@
 use Rattle.std.proofs.Common.{◌≡◌, ℕ, ◌<◌, ◌⊎◌, inl, inr, Some, None, Bool, true, false, cond, List, [], ◌∷◌, length, refl, ap, sym, ◌∙◌, subst, arith}
 use Rattle.std.specs.Prelude.{nat_lt, nat_le, ◌&&◌, ◌==◌}
 use Rattle.std.specs.List.{list_any}
-use Rattle.std.proofs.lemmas.List.{append-nil}
 use Rattle.std.proofs.lemmas.Bool.{and_from, and_parts, eq-eqb, eqb-true}
 use Rattle.machine.specs.Machine.{Rules}
 use Rattle.ballot_base.specs.declared.message.Body.TheVariants.{Join, State, Installed, Activate}
@@ -11,7 +10,7 @@ use Rattle.ballot_base.specs.declared.status.Progress.{Progress}
 use Rattle.ballot_base.specs.declared.status.Role.TheVariants.{Backup, Fetching, Installing}
 use Rattle.ballot_base.specs.Replica.{ReplicaState, CountedReplica, is_installing, others}
 use Rattle.ballot_base.specs.Logs.{Log, places}
-use Rattle.ballot_base.specs.Losses.{SendsAndAddsNothing, one_more}
+use Rattle.ballot_base.specs.Losses.{SendsAndAddsNothing}
 use Rattle.ballot_base.specs.TakenLog.{taken}
 use Rattle.ballot_base.specs.Unread.{reads_none}
 use Rattle.ballot.proofs.Heeding.{read_or_none}

@@ -1,5 +1,5 @@
 -- TicksTaken.antt: what a replica says at a tick is the row of the protocol.
-use Rattle.std.proofs.Common.{◌≡◌, ℕ, Bool, true, ◌&&◌, cond, List, ◌++◌, ap, sym, ◌∙◌, refl, subst}
+use Rattle.std.proofs.Common.{◌≡◌, ℕ, Bool, true, ◌&&◌, List, ◌++◌, ap, sym, ◌∙◌, refl, subst}
 use Rattle.machine.specs.Machine.{Rules}
 use Rattle.ballot_base.specs.declared.message.Body.TheVariants.{Commit}
 use Rattle.ballot_base.specs.declared.message.Effect.{Effect}

@@ -6,8 +6,8 @@ mod replica;
 
 pub use ballot_base::errors::{OpeningError, ProposeError};
 pub use ballot_base::{
-    Body, Config, Effect, Log, MASTER, MAX_MEMBERS, MAX_NODE, MAX_PLACES, Members, Message, Role,
-    Status, copy_log,
+    Body, Config, Effect, Log, MASTER, MAX_MEMBERS, MAX_NODE, MAX_NUMBER, MAX_PLACES, Members,
+    Message, Role, Status, copy_log,
 };
 pub use machine::{Halted, Machine, Memory, ThawFault};
 pub use replica::Replica;

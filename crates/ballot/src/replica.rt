@@ -16,7 +16,7 @@
 ghost use Rattle.std.specs.Prelude.{◌≡◌, ◌≤◌, ◌<◌, ◌↔◌, false, IfOk, IsErrOf, OnOk, OnErr};
 ghost use Rattle.ballot_base.specs.Sends.{Sends};
 ghost use Rattle.lists.specs.Lists.{IsPrefixOf};
-ghost use Rattle.ballot_base.specs.LawfulConfig.{is_lawful};
+ghost use Rattle.ballot_base.specs.LawfulConfig.{is_lawful, max_node};
 ghost use Rattle.ballot_base.specs.Logs.{places};
 ghost use Rattle.ballot_base.specs.Losses.{halted};
 ghost use Rattle.ballot_base.specs.Replica.{opening, opening_member, others};
@@ -25,7 +25,7 @@ ghost use Rattle.ballot_base.specs.Service.{commit_at};
 
 use ballot_base::errors::OpeningError;
 use ballot_base::{
-    Config, Effect, Log, MAX_NODE, Members, Progress, Role, Status, apply_places,
+    Config, Effect, Log, MAX_NODE, MAX_NUMBER, Members, Progress, Role, Status, apply_places,
     progress_of_others, send_commits,
 };
 use machine::{Halted, Machine, Memory};
@@ -45,7 +45,7 @@ mod transfer;
 /// messages that its calls return, beside the machine's outputs and their places.
 pub struct Replica<M: Machine> {
     alloc: Global,
-    // The number of the node, from 1 to `MAX_NODE`.
+    // The number of the node, from 1 to `MAX_NUMBER`.
     id: u8,
     // The ballot that it joined; 0 before the first.
     joined: u64,
@@ -139,9 +139,30 @@ impl<M: Machine> Replica<M> {
               losses = 0;
             }) }
         ensures bad { IsErrOf result OpeningError.BadMembers
-            ↔ (is_lawful config.now.members config.now.primary ≡ false) }
+            ↔ (is_lawful max_node config.now.members config.now.primary ≡ false) }
     {
-        if !config.is_lawful() {
+        Replica::up_to(alloc, MAX_NODE, id, config)
+    }
+
+    /// Opens node `id` in ballot 1, as [`Replica::new`], where numbers of nodes go up to `greatest`.
+    pub fn up_to(
+        alloc: Global,
+        greatest: u8,
+        id: u8,
+        config: &Config,
+    ) -> Result<Replica<M>, OpeningError>
+        requires low { 1 ≤ id }
+        requires high { id ≤ greatest }
+        requires bound { greatest ≤ MAX_NUMBER }
+        ensures ok { IfOk result (λ replica.
+            replica ≡ record {
+              state = opening M.rules id config.now;
+              losses = 0;
+            }) }
+        ensures bad { IsErrOf result OpeningError.BadMembers
+            ↔ (is_lawful greatest config.now.members config.now.primary ≡ false) }
+    {
+        if !config.is_lawful_up_to(greatest) {
             return Err(OpeningError::BadMembers);
         }
         let machine = M::fresh(alloc)?;

@@ -27,11 +27,11 @@ use Rattle.agreement.proofs.Agreed.MomentsAreKnown.{IsKnown}
 use Rattle.agreement.proofs.Agreed.KnownSteps.{serves_then, known_step, known_same}
 
 -- an opening
-known_opening : {S C O : Type 0} (rules : Rules S C O) (config : Config) (nodes : ℕ) → can_open nodes config ≡ true →
-    IsKnown rules config (opening_moment rules nodes config) []
-known_opening {S = S} {C = C} {O = O} rules config nodes lawful =
-    let z = opening_is_serving rules nodes config lawful in
-    let opens = lawful_is config (can_open_is nodes config lawful).0 in
+known_opening : {S C O : Type 0} (rules : Rules S C O) (config : Config) (greatest nodes : ℕ) → can_open greatest nodes config ≡ true →
+    IsKnown rules config (opening_moment rules greatest nodes config) []
+known_opening {S = S} {C = C} {O = O} rules config greatest nodes lawful =
+    let z = opening_is_serving rules greatest nodes config lawful in
+    let opens = lawful_is greatest config (can_open_is greatest nodes config lawful).0 in
     record {
       history = opening_history C config;
       serves = z;
@@ -44,16 +44,16 @@ known_opening {S = S} {C = C} {O = O} rules config nodes lawful =
       tells = λ n b k t. inl (told_opens rules nodes config opens.0 (n + 1) b k t).1;
     }
   where
-    histories : (c : Moment S C O) → In c (opening_moment rules nodes config ∷ []) → (g : History C) × Serves rules c.master c.world g
-        × Extends c.world g (opening_moment rules nodes config).world (opening_history C config)
+    histories : (c : Moment S C O) → In c (opening_moment rules greatest nodes config ∷ []) → (g : History C) × Serves rules c.master c.world g
+        × Extends c.world g (opening_moment rules greatest nodes config).world (opening_history C config)
         × ((b : ℕ) → In b g.activated → In b (opening_history C config).activated)
     histories c here =
-        let z = opening_is_serving rules nodes config lawful in
-        (opening_history C config, z, (goes_same rules (opening_moment rules nodes config).world (opening_history C config) z.sound).extends, λ b j. j)
+        let z = opening_is_serving rules greatest nodes config lawful in
+        (opening_history C config, z, (goes_same rules (opening_moment rules greatest nodes config).world (opening_history C config) z.sound).extends, λ b j. j)
     histories c (there i) = elim i [ ]
 
-    active : (b : ℕ) → In b (1 ∷ []) → WasActive (opening_moment rules nodes config ∷ []) b
-    active b here = (opening_moment rules nodes config, here, refl)
+    active : (b : ℕ) → In b (1 ∷ []) → WasActive (opening_moment rules greatest nodes config ∷ []) b
+    active b here = (opening_moment rules greatest nodes config, here, refl)
     active b (there i) = elim i [ ]
 
 -- a node that learns
@@ -76,8 +76,8 @@ known_learned {S = S} {C = C} {O = O} rules config a v moments q y =
 -- all moments are known
 pub moments_known : {S C O : Type 0} (rules : Rules S C O) (config : Config) (a : Moment S C O) (moments : List (Moment S C O)) →
     Moments rules config (a ∷ moments) → IsKnown rules config a moments
-moments_known {S = S} {C = C} {O = O} rules config a moments (began nodes lawful is) =
-    subst (λ (u : Moment S C O). IsKnown rules config u []) (sym is) (known_opening rules config nodes lawful)
+moments_known {S = S} {C = C} {O = O} rules config a moments (began greatest nodes lawful is) =
+    subst (λ (u : Moment S C O). IsKnown rules config u []) (sym is) (known_opening rules config greatest nodes lawful)
 moments_known {S = S} {C = C} {O = O} rules config v (a ∷ moments) (went_on came step) =
     let q = moments_known rules config a moments came in
     by_step q (one_step rules a.master a.world v.master v.world step)

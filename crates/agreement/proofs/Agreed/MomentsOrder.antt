@@ -67,11 +67,11 @@ ordered_learned {S = S} {C = C} {O = O} rules a v moments rows y q =
 -- nothing is proposed at the opening
 ordered_moments : {S C O : Type 0} (rules : Rules S C O) (config : Config) (a : Moment S C O) (moments : List (Moment S C O)) →
     (came : Moments rules config (a ∷ moments)) → IsOrdered rules (a ∷ moments) a.master a.world (taken_of came)
-ordered_moments {S = S} {C = C} {O = O} rules config a moments (began nodes lawful is) =
+ordered_moments {S = S} {C = C} {O = O} rules config a moments (began greatest nodes lawful is) =
     subst (λ (u : Moment S C O). IsOrdered rules (u ∷ []) u.master u.world []) (sym is)
     (record {
       history = opening_history C config;
-      serves = opening_is_serving rules nodes config lawful;
+      serves = opening_is_serving rules greatest nodes config lawful;
       were = λ c i n r stands. opened c i n r stands;
       own = record {
         lined = λ row i. elim i [ ];
@@ -81,9 +81,9 @@ ordered_moments {S = S} {C = C} {O = O} rules config a moments (began nodes lawf
       };
     })
   where
-    opened : (c : Moment S C O) → In c (opening_moment rules nodes config ∷ []) → (n : ℕ) (r : ReplicaState S C) →
+    opened : (c : Moment S C O) → In c (opening_moment rules greatest nodes config ∷ []) → (n : ℕ) (r : ReplicaState S C) →
         slice_get c.world.nodes n ≡ Some r → Applied (opening_world rules nodes config) (opening_history C config) r
-    opened c here n r stands = ((opening_is_serving rules nodes config lawful).sound.nodes n r stands).applied
+    opened c here n r stands = ((opening_is_serving rules greatest nodes config lawful).sound.nodes n r stands).applied
     opened c (there i) n r stands = elim i [ ]
 ordered_moments rules config v (a ∷ moments) (went_on came step) =
     now_too rules v (a ∷ moments) (taken_of (went_on came step))

@@ -72,7 +72,7 @@ step_takes rules m w k v (answer_lost from b sent) n ballot one = refl
 moments_take : {S C O : Type 0} (rules : Rules S C O) (config : Config) (moments : List (Moment S C O)) → (came : Moments rules config moments) →
     (n ballot : ℕ) → ((c : Moment S C O) → In c moments → (i : ℕ) → IsPrimary c.world i ballot → i ≡ n) →
     rows_in ballot (taken_of came) ≡ rows_in ballot (taken_at n came)
-moments_take rules config moments (began nodes lawful is) n ballot one = refl
+moments_take rules config moments (began greatest nodes lawful is) n ballot one = refl
 moments_take {S = S} {C = C} {O = O} rules config (b ∷ (a ∷ moments)) (went_on came step) n ballot one =
     filter-append (λ (row : ℕ × C). row.0 == ballot) (taken_of came) (taken_in step)
     ∙ ap₂ (λ (xs ys : List (ℕ × C)). xs ++ ys) (moments_take rules config (a ∷ moments) came n ballot (λ c i. one c (there i)))

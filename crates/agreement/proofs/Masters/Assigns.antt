@@ -22,9 +22,10 @@ all_in nodes (x ∷ members) m all (there i) =
     all_in nodes members m (and_parts (nat_le x nodes) (list_all (λ member. nat_le member nodes) members) all).1 i
 
 -- a lawful configuration: its primary is a member, and its members have numbers of nodes
-pub lawful_is : (config : Config) → is_lawful config.members config.primary ≡ true → In config.primary config.members × AreNodes config.members
-lawful_is config e =
-    let l = lawful_config config e in
+pub lawful_is : (greatest : ℕ) (config : Config) → is_lawful greatest config.members config.primary ≡ true →
+    In config.primary config.members × AreNodes config.members
+lawful_is greatest config e =
+    let l = lawful_config greatest config e in
     (any_in config.primary config.members l.member, λ x i. by_number x (l.positive x i))
   where
     by_number : (x : ℕ) → 0 < x → (n : ℕ) × (x ≡ n + 1)
@@ -32,25 +33,25 @@ lawful_is config e =
     by_number (suc n) p = (n, omega arith)
 
 -- a configuration that a group may open with is lawful, and its members are nodes that there are
-pub can_open_is : (nodes : ℕ) (config : Config) → can_open nodes config ≡ true →
-    (is_lawful config.members config.primary ≡ true) × ((x : ℕ) → In x config.members → x ≤ nodes)
-can_open_is nodes config e =
-    let a = and_parts (nat_le nodes 15) (is_lawful config.members config.primary && list_all (λ member. nat_le member nodes) config.members) e in
-    let b = and_parts (is_lawful config.members config.primary) (list_all (λ member. nat_le member nodes) config.members) a.1 in
+pub can_open_is : (greatest nodes : ℕ) (config : Config) → can_open greatest nodes config ≡ true →
+    (is_lawful greatest config.members config.primary ≡ true) × ((x : ℕ) → In x config.members → x ≤ nodes)
+can_open_is greatest nodes config e =
+    let a = and_parts (nat_le nodes greatest) (is_lawful greatest config.members config.primary && list_all (λ member. nat_le member nodes) config.members) e in
+    let b = and_parts (is_lawful greatest config.members config.primary) (list_all (λ member. nat_le member nodes) config.members) a.1 in
     (b.0, λ x i. all_in nodes config.members x b.1 i)
 
 -- what is not refused may be, and is not the last ballot
 pub not_refused : (m : MasterState) (config : Config) → refusal m config ≡ None →
-    (is_lawful config.members config.primary ≡ true) × (m.given < max_ballot)
-not_refused m config e = by_members (is_lawful config.members config.primary) refl e
+    (is_lawful m.greatest config.members config.primary ≡ true) × (m.given < max_ballot)
+not_refused m config e = by_members (is_lawful m.greatest config.members config.primary) refl e
   where
     by_count : (b : Bool) → nat_le max_ballot m.given ≡ b → cond b (Some ballots_spent) None ≡ None → m.given < max_ballot
     by_count true f g = cc
     by_count false f g = let z = leb-false max_ballot m.given f in omega (arith, z)
 
-    by_members : (b : Bool) → is_lawful config.members config.primary ≡ b →
+    by_members : (b : Bool) → is_lawful m.greatest config.members config.primary ≡ b →
         cond b (cond (nat_le max_ballot m.given) (Some ballots_spent) None) (Some bad_members) ≡ None →
-        (is_lawful config.members config.primary ≡ true) × (m.given < max_ballot)
+        (is_lawful m.greatest config.members config.primary ≡ true) × (m.given < max_ballot)
     by_members true f g = (f, by_count (nat_le max_ballot m.given) refl g)
     by_members false f g = cc
 
@@ -66,7 +67,7 @@ serving_assigned m config None e s =
     waits b c f =
         let both : ◌≡◌ {A = ℕ × Config} (m.given + 1, config) (b, c) = cc in
         subst (λ (y : Config). AreNodes y.members) (ap (λ (y : ℕ × Config). y.1) both)
-        (lawful_is config (not_refused m config e).0).1
+        (lawful_is m.greatest config (not_refused m config e).0).1
 
 -- and so does an Activate
 pub serving_activated : (C : Type 0) (m : MasterState) (b from : ℕ) (waiting : Option (ℕ × Config)) → m.waiting ≡ waiting →

@@ -45,7 +45,7 @@ step_takes_part rules m w k v (answer_lost from b sent) = nothing_left
 
 pub taken_are_part : {S C O : Type 0} (rules : Rules S C O) (config : Config) (moments : List (Moment S C O)) → (came : Moments rules config moments) →
     IsPartOf (taken_of came) (proposals_of came)
-taken_are_part rules config moments (began nodes lawful is) = nothing_left
+taken_are_part rules config moments (began greatest nodes lawful is) = nothing_left
 taken_are_part rules config (b ∷ (a ∷ moments)) (went_on came step) =
     parts_join (taken_are_part rules config (a ∷ moments) came) (step_takes_part rules a.master a.world b.master b.world step)
 taken_are_part rules config (b ∷ (a ∷ moments)) (learned came learns) = taken_are_part rules config (a ∷ moments) came
@@ -66,7 +66,7 @@ takes_at_in rules m w k v (answer_lost from b sent) n row j = elim j [ ]
 
 pub taken_at_in : {S C O : Type 0} {rules : Rules S C O} {config : Config} {moments : List (Moment S C O)} (n : ℕ) (came : Moments rules config moments) →
     (row : ℕ × C) → In row (taken_at n came) → In row (taken_of came)
-taken_at_in n (began nodes lawful is) row j = elim j [ ]
+taken_at_in n (began greatest nodes lawful is) row j = elim j [ ]
 taken_at_in {rules = rules} {config = config} {moments = b ∷ (a ∷ moments)} n (went_on came step) row j =
     by (in_append (taken_at n came) (takes_at n step) j) (λ i. taken_at_in n came row i)
   where

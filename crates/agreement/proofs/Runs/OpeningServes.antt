@@ -27,15 +27,15 @@ nodes_open rules (suc n) config =
     let e = nodes_open rules n config in omega (arith, e, length-append (opening_nodes rules n config) (opening rules (n + 1) config ∷ []))
 
 -- a group that opens
-opening_serves : (config : Config) → IsServing (opening_master config)
-opening_serves config = record { waiting = λ b c f. cc; given = omega arith }
+opening_serves : (greatest : ℕ) (config : Config) → IsServing (opening_master greatest config)
+opening_serves greatest config = record { waiting = λ b c f. cc; given = omega arith }
 
 -- its primary is one of the nodes
-opening_led : {S C O : Type 0} (rules : Rules S C O) (nodes : ℕ) (config : Config) → can_open nodes config ≡ true →
+opening_led : {S C O : Type 0} (rules : Rules S C O) (greatest nodes : ℕ) (config : Config) → can_open greatest nodes config ≡ true →
     IsLedByNode (length (opening_world rules nodes config).nodes) (opening_history C config) 1
-opening_led {C = C} rules nodes config e =
-    let lawful = lawful_is config (can_open_is nodes config e).0 in
-    let within = (can_open_is nodes config e).1 config.primary lawful.0 in
+opening_led {C = C} rules greatest nodes config e =
+    let lawful = lawful_is greatest config (can_open_is greatest nodes config e).0 in
+    let within = (can_open_is greatest nodes config e).1 config.primary lawful.0 in
     let number = lawful.1 config.primary lawful.0 in
     let there = nodes_open rules nodes config in
     (first_ballot config, refl, (number.0, number.1, (let is = number.1 in omega (arith, is, within, there))))
@@ -63,17 +63,17 @@ opening_replays {S = S} {C = C} rules nodes config n r e runs =
         by_role false = refl
 
 -- a group serves as it opens
-pub opening_is_serving : {S C O : Type 0} (rules : Rules S C O) (nodes : ℕ) (config : Config) → can_open nodes config ≡ true →
-    Serves rules (opening_master config) (opening_world rules nodes config) (opening_history C config)
-opening_is_serving {C = C} rules nodes config e =
-    let first = opening_sound rules nodes config (lawful_is config (can_open_is nodes config e).0).0 in
+pub opening_is_serving : {S C O : Type 0} (rules : Rules S C O) (greatest nodes : ℕ) (config : Config) → can_open greatest nodes config ≡ true →
+    Serves rules (opening_master greatest config) (opening_world rules nodes config) (opening_history C config)
+opening_is_serving {C = C} rules greatest nodes config e =
+    let first = opening_sound rules nodes config (lawful_is greatest config (can_open_is greatest nodes config e).0).0 in
     record {
       sound = first;
-      master = opening_is_master C config;
+      master = opening_is_master C greatest config;
       replays = opening_replays rules nodes config;
-      serving = opening_serves config;
+      serving = opening_serves greatest config;
       senders = λ to m i. elim i [ ];
-      led = opening_led rules nodes config e;
+      led = opening_led rules greatest nodes config e;
       begun = opening_begun rules.start_of config;
       long = opening_long rules nodes config first;
     }

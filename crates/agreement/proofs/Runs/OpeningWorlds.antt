@@ -88,8 +88,8 @@ opening_sound {S = S} {C = C} {O = O} rules nodes config led =
     told b (there i) = elim i [ ]
 
 -- and so is its master
-pub opening_is_master : (C : Type 0) (config : Config) → IsMaster (opening_master config) (opening_history C config)
-opening_is_master C config =
+pub opening_is_master : (C : Type 0) (greatest : ℕ) (config : Config) → IsMaster (opening_master greatest config) (opening_history C config)
+opening_is_master C greatest config =
     record {
       older = [];
       newest = refl;

@@ -33,13 +33,13 @@ one_step {S = S} {C = C} {O = O} rules m w k v (master_assigns config) = by_refu
         ((master_after m config o ≡ m) × (world_after m w config o ≡ w))
         ⊎ ((g : MomentStep rules m w (master_after m config o) (world_after m w config o)) × (adds_of g ≡ []))
     by_refusal (Some why) e = inl (refl, refl)
-    by_refusal None e = inr (assigns config (lawful_is config (not_refused m config e).0).0, refl)
+    by_refusal None e = inr (assigns config (lawful_is m.greatest config (not_refused m config e).0).0, refl)
 one_step {S = S} {C = C} {O = O} rules m w k v (assignment_lost config) = by_refusal (refusal m config) refl
   where
     by_refusal : (o : Option AssignRefusal) → refusal m config ≡ o →
         ((master_after m config o ≡ m) × (w ≡ w)) ⊎ ((g : MomentStep rules m w (master_after m config o) w) × (adds_of g ≡ []))
     by_refusal (Some why) e = inl (refl, refl)
-    by_refusal None e = inr (assigns_unheard config (lawful_is config (not_refused m config e).0).0, refl)
+    by_refusal None e = inr (assigns_unheard config (lawful_is m.greatest config (not_refused m config e).0).0, refl)
 
 -- a step keeps that members of the ballot that waits have numbers of nodes
 pub serving_step : {S C O : Type 0} (rules : Rules S C O) (m : MasterState) (w : GroupWorld S C O) (k : MasterState) (v : GroupWorld S C O) → MayHappen rules m w k v →

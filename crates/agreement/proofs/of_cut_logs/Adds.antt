@@ -1,19 +1,18 @@
 -- Adds.antt: what a step adds to what was proposed, taken and given between moments, on whole logs and in
 -- the terms of a group that cuts its logs.
-use Rattle.std.proofs.Common.{◌≡◌, ℕ, ◌≤◌, cond, List, [], ◌∷◌, ◌++◌, length, refl, ap, ap₂, sym, ◌∙◌, subst}
+use Rattle.std.proofs.Common.{◌≡◌, ℕ, ◌≤◌, cond, List, [], ◌∷◌, ◌++◌, length, refl, ap, ap₂, sym, ◌∙◌}
 use Rattle.std.specs.Prelude.{nat_lt, ◌==◌}
 use Rattle.std.proofs.lemmas.List.{append-nil}
 use Rattle.machine.specs.Machine.{Rules}
 use Rattle.ballot_base.specs.declared.config.Config.{Config}
 use Rattle.ballot_base.specs.declared.message.Effect.{Effect}
-use Rattle.ballot_base.specs.Logs.{places}
 use Rattle.ballot_base.specs.Protocol.{Input}
 use Rattle.ballot_base.specs.Protocol.Input.{Receives, Proposes, Ticks}
 use Rattle.ballot_base.specs.Replica.{ReplicaState}
 use Rattle.agreement.specs.NodeOutputs.{given_in as whole_given_in, given_of as whole_given_of}
 use Rattle.agreement.specs.MasterState.{MasterState}
 use Rattle.agreement.specs.Moments.{Learns, Moment as WholeMoment, Moments as WholeMoments}
-use Rattle.agreement.specs.Moments.Moments.{began, went_on, learned}
+use Rattle.agreement.specs.Moments.Moments.{went_on, learned}
 use Rattle.agreement.specs.Proposals.{proposal_by as whole_proposal_by, proposal_of as whole_proposal_of, proposals_of as whole_proposals_of, taken_at as whole_taken_at, taken_by as whole_taken_by, taken_in as whole_taken_in, taken_of as whole_taken_of, takes_at as whole_takes_at}
 use Rattle.agreement.specs.Steps.{MayHappen as WholeMayHappen}
 use Rattle.agreement.specs.World.{GroupWorld as WholeWorld, outputs as whole_outputs}

@@ -14,7 +14,7 @@ use Rattle.agreement.specs.Moments.{Moment, Moments}
 use Rattle.agreement.specs.Moments.Moments.{went_on}
 use Rattle.agreement.proofs.Agreed.MomentsKnown.{moments_known}
 use Rattle.ballot_base.specs.Logs.{Log, places}
-use Rattle.agreement.specs.cut_logs.Whole.{whole, whole_effects, whole_input}
+use Rattle.agreement.specs.cut_logs.Whole.{whole, whole_effects}
 use Rattle.agreement.specs.cut_logs.Matches.{IsBased}
 use Rattle.ballot_base.specs.declared.message.Body.{Body}
 use Rattle.ballot_base.specs.declared.message.Effect.{Effect}

@@ -21,7 +21,7 @@ use Rattle.agreement.specs.cut_logs.Steps.MayHappen.{node_goes, master_assigns, 
 use Rattle.agreement.specs.cut_logs.Whole.{whole_body}
 use Rattle.agreement.specs.cut_logs.World.{CutGroupWorld, whole_sent, whole_world}
 use Rattle.agreement.proofs.of_cut_logs.Continues.{Covers, covers_first, covers_more}
-use Rattle.agreement.proofs.of_cut_logs.Adds.{Added, AddsBy, SaysNothing, StepAdds, nothing_added}
+use Rattle.agreement.proofs.of_cut_logs.Adds.{Added, SaysNothing, StepAdds, nothing_added}
 use Rattle.agreement.proofs.of_cut_logs.CutsGoOn.{node_goes_on}
 use Rattle.agreement.proofs.of_cut_logs.GoesOn.{on_by_one}
 use Rattle.agreement.proofs.of_cut_logs.Kept.{GoesOn, Kept}
@@ -104,17 +104,17 @@ pub record StandsWith {S C O : Type 0} (rules : Rules S C O) (config : Config) (
 
 pub moments_stand_with : {S C O : Type 0} (rules : Rules S C O) (config : Config) (a : Moment S C O) (moments : List (Moment S C O)) → (came : Moments rules config (a ∷ moments)) →
     StandsWith rules config a moments came
-moments_stand_with {S = S} {C = C} {O = O} rules config a moments (began nodes can is) =
+moments_stand_with {S = S} {C = C} {O = O} rules config a moments (began greatest nodes can is) =
     record { stands = z.0; says = record { proposes = z.1.proposes; takes = z.1.takes; takes_at = z.1.takes_at; gives = z.1.gives } }
   where
     z : (s : StandsFor rules config a []) × SaysNothing s.kept.came
     z = subst (λ (x : Moment S C O). (s : StandsFor rules config x []) × SaysNothing s.kept.came) (sym is) (
       record {
         earlier = [];
-        kept = opens_kept rules nodes config can;
-        covers = covers_first (moment (opening_master config) (opening_world rules nodes config));
+        kept = opens_kept rules greatest nodes config can;
+        covers = covers_first (moment (opening_master greatest config) (opening_world rules nodes config));
       },
-      opens_silent rules nodes config can,
+      opens_silent rules greatest nodes config can,
     )
 moments_stand_with {S = S} {C = C} {O = O} rules config b (a ∷ moments) (went_on came step) =
     let q = moments_stand_with rules config a moments came in

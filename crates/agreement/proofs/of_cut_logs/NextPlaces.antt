@@ -33,12 +33,12 @@ use Rattle.agreement.proofs.Given.Places.{front_between}
 use Rattle.agreement.specs.cut_logs.NodeOutputs.{given_in}
 use Rattle.agreement.specs.cut_logs.Matches.{IsBased}
 use Rattle.agreement.specs.cut_logs.Orders.{AnswersAtTheNextPlaces}
-use Rattle.agreement.specs.cut_logs.Moments.{Moment, whole_moment}
+use Rattle.agreement.specs.cut_logs.Moments.{whole_moment}
 use Rattle.agreement.specs.cut_logs.Moments.Moments.{went_on}
 use Rattle.agreement.specs.cut_logs.Steps.{MayHappen, world_after}
 use Rattle.agreement.specs.cut_logs.Steps.MayHappen.{node_goes, master_assigns, master_hears, assignment_lost, answer_lost}
 use Rattle.agreement.specs.cut_logs.Whole.{whole, whole_effects, whole_input, whole_log}
-use Rattle.agreement.specs.cut_logs.World.{CutGroupWorld, moved, outputs, whole_world}
+use Rattle.agreement.specs.cut_logs.World.{CutGroupWorld, outputs, whole_world}
 use Rattle.agreement.specs.cut_logs.World.NodeGoes.{takes, stops, cuts}
 use Rattle.agreement.proofs.of_cut_logs.CutsGoOn.{cuts_on}
 use Rattle.agreement.proofs.of_cut_logs.Kept.{Kept}

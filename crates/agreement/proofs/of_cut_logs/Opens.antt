@@ -64,11 +64,11 @@ opens_empty {S = S} {C = C} rules (suc n) config x i = by_place (λ j. opens_emp
     by_place before (inr j) = last j
 
 -- it opens so
-pub opens_kept : {S C O : Type 0} (rules : Rules S C O) (nodes : ℕ) (config : Config) → can_open nodes config ≡ true →
-    Kept rules config (opening_master config) (opening_world rules nodes config) []
-opens_kept {S = S} {C = C} {O = O} rules nodes config can =
+pub opens_kept : {S C O : Type 0} (rules : Rules S C O) (greatest nodes : ℕ) (config : Config) → can_open greatest nodes config ≡ true →
+    Kept rules config (opening_master greatest config) (opening_world rules nodes config) []
+opens_kept {S = S} {C = C} {O = O} rules greatest nodes config can =
     record {
-      came = began nodes can (ap (λ ns. let x : Moment S C O = record { master = opening_master config; world = record { nodes = ns; sent = []; left = [] } } in x) (nodes_whole rules nodes config));
+      came = began greatest nodes can (ap (λ ns. let x : Moment S C O = record { master = opening_master greatest config; world = record { nodes = ns; sent = []; left = [] } } in x) (nodes_whole rules nodes config));
       nodes = λ n r e. at r (opens_empty rules nodes config r (in_at (opening_nodes rules nodes config) n r e));
       each_sent = λ to x i. elim i [ ];
       begins = λ xs agreed. record { rest = xs; is = refl };
@@ -85,10 +85,10 @@ opens_kept {S = S} {C = C} {O = O} rules nodes config can =
     )
 
 -- .. and nothing was proposed, taken or given
-pub opens_silent : {S C O : Type 0} (rules : Rules S C O) (nodes : ℕ) (config : Config) (can : can_open nodes config ≡ true) →
-    SaysNothing (opens_kept {O = O} rules nodes config can).came
+pub opens_silent : {S C O : Type 0} (rules : Rules S C O) (greatest nodes : ℕ) (config : Config) (can : can_open greatest nodes config ≡ true) →
+    SaysNothing (opens_kept {O = O} rules greatest nodes config can).came
 unfolding opens_kept
-opens_silent rules nodes config can = record { proposes = refl; takes = refl; takes_at = λ n. refl; gives = λ n. refl }
+opens_silent rules greatest nodes config can = record { proposes = refl; takes = refl; takes_at = λ n. refl; gives = λ n. refl }
 
 -- ---- the master
 

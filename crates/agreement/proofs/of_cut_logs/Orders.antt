@@ -1,21 +1,16 @@
 -- Orders.antt: the order of proposals in groups whose nodes cut their logs, and what nodes give while they lead.
-use Rattle.std.proofs.Common.{◌≡◌, ℕ, zero, suc, ◌≤◌, ◌⊎◌, inl, inr, Bool, true, false, cond, List, [], ◌∷◌, ◌++◌, length, map, Some, None, Option, ap, sym, refl, ◌∙◌, subst, append_assoc, arith}
-use Rattle.std.specs.Prelude.{filter, slice_get, nat_lt, ◌==◌}
+use Rattle.std.proofs.Common.{◌≡◌, ℕ, zero, suc, ◌≤◌, true, List, [], ◌∷◌, ◌++◌, length, map, Some, ap, sym, refl, ◌∙◌, subst, append_assoc, arith}
+use Rattle.std.specs.Prelude.{filter, slice_get}
 use Rattle.std.proofs.lemmas.List.{append-nil, length-take-le}
 use Rattle.machine.specs.Machine.{Rules}
 use Rattle.lists.specs.Lists.{In, IsPrefixOf}
 use Rattle.lists.proofs.Prefixes.{prefix_length, take_prefix}
 use Rattle.ballot_base.specs.declared.config.Config.{Config}
-use Rattle.ballot_base.specs.declared.message.Effect.{Effect}
-use Rattle.ballot_base.specs.Losses.{Loses}
-use Rattle.ballot_base.specs.Protocol.{Input, replica_step}
-use Rattle.ballot_base.specs.Protocol.Input.{Receives, Proposes, Ticks}
 use Rattle.ballot_base.specs.Replica.{ReplicaState, is_active}
-use Rattle.agreement.specs.MasterState.{MasterState}
 use Rattle.agreement.specs.Moments.{IsAgreed}
 use Rattle.agreement.specs.Primaries.{IsPrimary}
 use Rattle.agreement.specs.Proposals.{IsOfBallot, IsPartOf, commands_of, rows_in, taken_of as whole_taken_of}
-use Rattle.agreement.specs.World.{log_of, outputs as whole_outputs}
+use Rattle.agreement.specs.World.{outputs as whole_outputs}
 use Rattle.agreement.specs.whole_logs.Application.{outputs_between}
 use Rattle.agreement.specs.whole_logs.Replica.{ReplicaState as WholeState}
 use Rattle.agreement.proofs.Agreed.OneNodeTakes as takers
@@ -33,7 +28,7 @@ use Rattle.agreement.specs.cut_logs.Orders.{AnswersWhileItLeads, KeepsTheOrder, 
 use Rattle.agreement.specs.cut_logs.Moments.{Moment, Moments, whole_moment}
 use Rattle.agreement.specs.cut_logs.Proposals.{proposals_of, taken_at, taken_of}
 use Rattle.agreement.specs.cut_logs.Whole.{whole, whole_log}
-use Rattle.agreement.specs.cut_logs.World.{CutGroupWorld, whole_world}
+use Rattle.agreement.specs.cut_logs.World.{whole_world}
 use Rattle.agreement.proofs.of_cut_logs.Continues.{agreed_in}
 use Rattle.agreement.proofs.of_cut_logs.NextPlaces.{answers_at_the_next_places}
 use Rattle.agreement.proofs.of_cut_logs.MomentsAgree.{agreed_grows, has_agreed}

@@ -22,7 +22,7 @@ use Rattle.agreement.specs.cut_logs.World.{messages, outputs, CutGroupWorld, May
 use Rattle.ballot_base.specs.declared.message.Effect.TheVariants.{To, Out}
 use Rattle.ballot_base.specs.Losses.Thinned.{none, keeps, loses}
 use Rattle.ballot_base.specs.Replica.{ReplicaState}
-use Rattle.ballot_base.specs.Protocol.{Input, replica_step}
+use Rattle.ballot_base.specs.Protocol.{Input}
 use Rattle.ballot_base.specs.Protocol.Input.{Receives, Proposes, Ticks}
 use Rattle.agreement.specs.cut_logs.Whole.{whole, whole_effects, whole_input}
 use Rattle.agreement.proofs.of_cut_logs.Adds.{StepAdds, added_whole}

@@ -30,16 +30,16 @@ opening_world rules nodes config =
     record { nodes = opening_nodes rules nodes config; sent = []; left = []; archive = [] }
 
 -- the group as it opens
-abbrev pub opening_moment : {S C O : Type 0} → Rules S C O → ℕ → Config → Moment S C O
-opening_moment rules nodes config =
-    record { master = opening_master config; world = opening_world rules nodes config }
+abbrev pub opening_moment : {S C O : Type 0} → Rules S C O → ℕ → ℕ → Config → Moment S C O
+opening_moment rules greatest nodes config =
+    record { master = opening_master greatest config; world = opening_world rules nodes config }
 
 -- the moments that were, the present one first -- history: no field keeps it
 pub data Moments {S C O : Type 0} (rules : Rules S C O) (config : Config) :
     List (Moment S C O) → Type 0 where
-  -- the group opens with a configuration
-  began : {moment : Moment S C O} (nodes : ℕ) → can_open nodes config ≡ true →
-      moment ≡ opening_moment rules nodes config → Moments rules config (moment ∷ [])
+  -- the group opens with a configuration; its nodes have numbers up to any greatest one
+  began : {moment : Moment S C O} (greatest nodes : ℕ) → can_open greatest nodes config ≡ true →
+      moment ≡ opening_moment rules greatest nodes config → Moments rules config (moment ∷ [])
   -- one more step
   went_on : {moment next : Moment S C O} {moments : List (Moment S C O)} →
       Moments rules config (moment ∷ moments) →

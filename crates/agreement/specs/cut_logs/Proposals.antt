@@ -83,17 +83,17 @@ takes_at node (answer_lost from ballot sent) = []
 -- all that was proposed between moments, in order
 abbrev pub proposals_of : {S C O : Type 0} {rules : Rules S C O} {config : Config}
     {moments : List (Moment S C O)} → Moments rules config moments → List (ℕ × C)
-proposals_of (began nodes lawful is) = []
+proposals_of (began greatest nodes lawful is) = []
 proposals_of (went_on came step) = proposals_of came ++ proposal_of step
 
 -- what was taken between moments, in order
 abbrev pub taken_of : {S C O : Type 0} {rules : Rules S C O} {config : Config}
     {moments : List (Moment S C O)} → Moments rules config moments → List (ℕ × C)
-taken_of (began nodes lawful is) = []
+taken_of (began greatest nodes lawful is) = []
 taken_of (went_on came step) = taken_of came ++ taken_in step
 
 -- what the node at this index took between moments
 abbrev pub taken_at : {S C O : Type 0} {rules : Rules S C O} {config : Config}
     {moments : List (Moment S C O)} → ℕ → Moments rules config moments → List (ℕ × C)
-taken_at node (began nodes lawful is) = []
+taken_at node (began greatest nodes lawful is) = []
 taken_at node (went_on came step) = taken_at node came ++ takes_at node step

@@ -3,7 +3,7 @@ use Rattle.ballot_base.specs.Logs.{places}
 use Rattle.ballot_base.specs.Replica.{CountedReplica, is_active}
 use Rattle.ballot_base.specs.Service.{max_places}
 use Rattle.ballot_base.proofs.StepRows.{proposed-not_active, proposed-full, added-stopped}
-use Rattle.ballot.proofs.ProposalAnswered.{stays_told, added_told, added_done, added_runs, proposed_told, lacks_told}
+use Rattle.ballot.proofs.ProposalAnswered.{stays_told, added_told, proposed_told, lacks_told}
 use Rattle.ballot.proofs.replica.Replica.append.Goals as goal
 
 pub returns-then-not-is_active-clause-step : goal.returns-then-not-is_active-clause-step

@@ -1,5 +1,4 @@
-use Rattle.std.proofs.Common.{ap, refl, ◌∙◌}
-use Rattle.ballot_base.specs.Replica.{CountedReplica}
+use Rattle.std.proofs.Common.{refl}
 use Rattle.ballot.proofs.MessagesTaken.{went_told, went_quiet}
 use Rattle.ballot.proofs.replica.Replica.deliver.Goals as goal
 

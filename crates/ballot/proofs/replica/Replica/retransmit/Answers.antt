@@ -1,5 +1,5 @@
 use Rattle.std.proofs.Common.{refl}
-use Rattle.ballot.proofs.MessagesTaken.{went_told, went_quiet}
+use Rattle.ballot.proofs.MessagesTaken.{went_told}
 use Rattle.ballot.proofs.TicksTaken.{tick_taken}
 use Rattle.ballot.proofs.replica.Replica.retransmit.Goals as goal
 

@@ -1,7 +1,7 @@
 use Rattle.std.proofs.Common.{◌∙◌}
 use Rattle.ballot.proofs.ReplicaOpens.{opens_active, opens_backup}
-use Rattle.ballot.proofs.replica.Replica.new.Goals as goal
-use Rattle.ballot.proofs.replica.Replica.new.Goals.{then-id-config+in_ok-lead_first_ballot, else-id-config}
+use Rattle.ballot.proofs.replica.Replica.up_to.Goals as goal
+use Rattle.ballot.proofs.replica.Replica.up_to.Goals.{then-id-config+in_ok-lead_first_ballot, else-id-config}
 
 pub returns-clause-ok : goal.returns-clause-ok
 returns-clause-ok g c =
