@@ -6,11 +6,11 @@ use crate::Log;
 use machine::{Machine, Memory};
 use std::alloc::Global;
 
-/// Returns a copy of a log. Fails only if memory runs out.
+/// Returns a copy of a log, which shares its snapshot. Fails only if memory runs out.
 pub fn copy_log<M: Machine>(alloc: Global, log: &Log<M::Command>) -> Result<Log<M::Command>, Memory>
     ensures { IfOk result (λ copied. copied ≡ log.now) }
 {
-    let snapshot = Vec::from_slice(alloc, log.snapshot())?;
+    let snapshot = log.shared_snapshot().clone()?;
     let rest = copy_commands::<M>(alloc, log.rest())?;
     Ok(Log::from_parts(log.base(), snapshot, rest))
 }

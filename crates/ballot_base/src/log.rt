@@ -6,11 +6,12 @@
 // otherwise commands are only added and removed at the end.
 //
 // The snapshot is bytes, not a machine: a message carries it as it is, and the receiver thaws it
-// before it changes anything.
+// before it changes anything. Copies of a log share these bytes.
 
 ghost use Rattle.std.specs.Prelude.{◌≡◌, [], ◌≤◌, ◌<◌, ◌+◌, ◌-◌, ◌^◌, length, drop, OnOk, OnErr};
 ghost use Rattle.ballot_base.specs.Logs.{empty_log, places, popped, pushed};
 
+use bytes::Bytes;
 use machine::Memory;
 use std::alloc::Global;
 use std::marker::Model;
@@ -21,7 +22,7 @@ pub struct Log<C> {
     // How many places the snapshot stands for. `base` plus the length of `rest` is below 2^64.
     base: u64,
     // The frozen machine after these places.
-    snapshot: Vec<u8>,
+    snapshot: Bytes,
     rest: Vec<C>,
 }
 
@@ -42,7 +43,7 @@ impl<C> Model for Log<C> {
     ghost Value = { Log C };
 
     ghost view = { λ log.
-        record { base = log.base; snapshot = log.snapshot.items; rest = log.rest.items } };
+        record { base = log.base; snapshot = log.snapshot; rest = log.rest.items } };
 
     ghost invariant = { λ log. log.base + length log.rest.items < 2 ^ 64 };
 }
@@ -54,15 +55,15 @@ impl<C: Drop> Log<C> {
     {
         Log {
             base: 0,
-            snapshot: Vec::new(alloc),
+            snapshot: Bytes::new(),
             rest: Vec::new(alloc),
         }
     }
 
     /// Returns a log of these parts. Its length, with the base, is below 2^64.
-    pub fn from_parts(base: u64, snapshot: Vec<u8>, rest: Vec<C>) -> Self
+    pub fn from_parts(base: u64, snapshot: Bytes, rest: Vec<C>) -> Self
         requires { base + length rest.items < 2 ^ 64 }
-        ensures { result ≡ record { base = base; snapshot = snapshot.items; rest = rest.items } }
+        ensures { result ≡ record { base = base; snapshot = snapshot; rest = rest.items } }
     {
         Log {
             base,
@@ -84,6 +85,13 @@ impl<C: Drop> Log<C> {
         ensures { result.now ≡ self.now.snapshot }
     {
         self.snapshot.as_slice()
+    }
+
+    // Returns the frozen machine at the base, to be shared.
+    pub(crate) fn shared_snapshot(&self) -> &Bytes
+        ensures { result.now ≡ self.now.snapshot }
+    {
+        &self.snapshot
     }
 
     /// Returns an empty vector with room for the bytes of the snapshot and an eighth more. Without
@@ -132,12 +140,12 @@ impl<C: Drop> Log<C> {
     }
 
     /// Drops the commands below `base` and puts `snapshot` in their place.
-    pub fn cut(&mut self, base: u64, snapshot: Vec<u8>)
+    pub fn cut(&mut self, base: u64, snapshot: Bytes)
         requires above { self.old.base ≤ base }
         requires within { base ≤ places self.old }
         ensures { self.new ≡ record {
           base = base;
-          snapshot = snapshot.items;
+          snapshot = snapshot;
           rest = drop (base - self.old.base) self.old.rest;
         } }
     {

@@ -3,7 +3,7 @@
 // No room is made for a count or a length that was only read: a vector of commands grows by the
 // commands that were read, and the snapshot is copied last, once all else is there.
 
-ghost use Rattle.std.specs.Prelude.{◌≡◌, ◌≤◌, [], Ok, true, IfOk, length};
+ghost use Rattle.std.specs.Prelude.{◌≡◌, ◌≤◌, [], Ok, true, IfOk, IsOk, OnErr, length};
 ghost use Rattle.packet_base.specs.Outcome.{Gives, IsOutOfMemory, Reads};
 ghost use Rattle.session_base.specs.Counted.{counted_items_at, items_after, AddsItem};
 ghost use Rattle.message_form.specs.Numbers.{wide_number_at};
@@ -16,6 +16,7 @@ use crate::command_readers::read_command;
 use crate::numbers::{read_long_number, read_wide_number};
 use ballot_base::Log;
 use broker_spec::Command;
+use bytes::Bytes;
 use packet_base::{OUT_OF_MEMORY, Reader, Stop};
 use std::alloc::Global;
 use topics::MalformedKind;
@@ -30,8 +31,23 @@ pub(crate) fn read_log(alloc: Global, reader: &mut Reader) -> Result<Log<Command
     let len = read_wide_number(reader)?;
     let snapshot = reader.front(len as usize)?;
     let rest = read_commands(alloc, u64::MAX - base, reader)?;
-    let snapshot = Vec::from_slice(alloc, snapshot)?;
+    let snapshot = shared(alloc, snapshot)?;
     Ok(Log::from_parts(base, snapshot, rest))
+}
+
+// Returns a copy of these bytes. The only error is that memory ran out.
+fn shared(alloc: Global, bytes: &[u8]) -> Result<Bytes, Stop>
+    ensures value { IfOk result (λ copy. copy ≡ bytes.now) }
+    ensures memory { OnErr result (IsOutOfMemory result) }
+    ensures none { bytes.now ≡ [] → IsOk result }
+{
+    if bytes.is_empty() {
+        return Ok(Bytes::new());
+    }
+    match Bytes::copy_from_slice(alloc, bytes) {
+        Ok(copy) => Ok(copy),
+        Err(_) => Err(OUT_OF_MEMORY),
+    }
 }
 
 // Reads the commands of a log: their count, which is at most `most`, and as many commands.

@@ -4,6 +4,7 @@
 use crate::{WriteFault, read_message, write_message};
 use ballot_base::{Body, Log, Members, Message};
 use broker_spec::{Command, ConnectionName, SizedPacket};
+use bytes::Bytes;
 use packet::Packet;
 use packet_base::ClientId;
 use std::alloc::Global;
@@ -100,7 +101,7 @@ fn install(alloc: Global, bytes: &[u8]) -> Result<bool, MalformedKind> {
     }
     rest.push(Command::Start(4))?;
     rest.push(Command::Expel(ClientId::new(alloc, "ab")?))?;
-    let log = Log::from_parts(5, Vec::from_slice(alloc, &[9, 8])?, rest);
+    let log = Log::from_parts(5, Bytes::copy_from_slice(alloc, &[9, 8])?, rest);
     Ok(comes_again(alloc, Body::Install(6, log), bytes))
 }
 

@@ -1,11 +1,12 @@
 // Log compaction: a snapshot replaces the applied places.
 
-ghost use Rattle.std.specs.Prelude.{◌≡◌, ◌≤◌, [], Some, true, false};
+ghost use Rattle.std.specs.Prelude.{◌≡◌, ◌≤◌, [], Some, true, false, IfSome};
 ghost use Rattle.ballot_base.specs.Compaction.{can_cut, cut};
 ghost use Rattle.ballot_base.specs.Losses.{one_more};
 
 use super::Replica;
 use ballot_base::counted;
+use bytes::Bytes;
 use machine::Machine;
 
 impl<M: Machine> Replica<M> {
@@ -38,13 +39,12 @@ impl<M: Machine> Replica<M> {
         if self.stopped || self.committed <= self.log.base() {
             return false;
         }
-        let mut snapshot = self.log.snapshot_buffer(self.alloc);
-        match self.machine.freeze(&mut snapshot) {
-            Ok(()) => {
+        match frozen_bytes(&self.machine, self.log.snapshot_buffer(self.alloc)) {
+            Some(snapshot) => {
                 self.log.cut(self.committed, snapshot);
                 true
             }
-            Err(_) => {
+            None => {
                 self.losses = counted(self.losses, false);
                 false
             }
@@ -60,5 +60,23 @@ impl<M: Machine> Replica<M> {
         ensures applied { result.0 ≤ self.now.state.committed }
     {
         (self.log.base(), self.log.snapshot())
+    }
+}
+
+// Appends the bytes of a frozen machine to an empty buffer, and returns them, which thaw to it;
+// none if memory runs out.
+fn frozen_bytes<M: Machine>(machine: &M, buffer: Vec<u8>) -> Option<Bytes>
+    requires { buffer.items ≡ [] }
+    ensures bytes { IfSome result (λ bytes. bytes ≡ M.rules.frozen machine.now) }
+    ensures thaws { IfSome result (λ _.
+        M.rules.thawed (M.rules.frozen machine.now) ≡ Some machine.now) }
+{
+    let mut bytes = buffer;
+    match machine.freeze(&mut bytes) {
+        Ok(()) => match Bytes::from_vec(bytes) {
+            Ok(shared) => Some(shared),
+            Err(_) => None,
+        },
+        Err(_) => None,
     }
 }

@@ -6,6 +6,7 @@ use crate::shared::{
 };
 use ballot::Replica;
 use ballot_base::{Body, Effect, Log, Role};
+use bytes::Bytes;
 use machine::{Tally, TallyCommand};
 use std::alloc::Global;
 
@@ -109,7 +110,7 @@ fn install(
     bytes: &[u8],
 ) -> bool {
     let mut rest = Vec::new(alloc);
-    let Ok(snapshot) = Vec::from_slice(alloc, bytes) else {
+    let Ok(snapshot) = Bytes::copy_from_slice(alloc, bytes) else {
         return false;
     };
     if rest.push(TallyCommand::Add(1)).is_err() || rest.len() > 1 {

@@ -3,6 +3,7 @@
 use super::handling::{ACCEPTED, Effects, PRESENT, bring, give, hand_over, node_of, take, tell};
 use ballot_base::{Body, Effect, Log, Members};
 use broker_spec::Command;
+use bytes::Bytes;
 use std::alloc::Global;
 use world_base::node_connections::Port;
 use world_base::node_core::{Item, NodeCore};
@@ -173,7 +174,7 @@ fn a_session_goes_over_by_a_snapshot(rt: HostRuntime) {
 // Sends node 2, from node 1, a log of one place with this snapshot in ballot 2. Returns what node 2
 // hands out.
 fn send_log(alloc: Global, two: &mut NodeCore, bytes: &[u8]) -> Option<Effects> {
-    let snapshot = Vec::from_slice(alloc, bytes).ok()?;
+    let snapshot = Bytes::copy_from_slice(alloc, bytes).ok()?;
     let log = Log::from_parts(1, snapshot, Vec::new(alloc));
     Some(tell(alloc, two, 1, Body::State(2, log)))
 }
