@@ -81,20 +81,20 @@ in_either : {X : Type 0} (k m : X) (ms : List X) → In k (m ∷ ms) → (k ≡ 
 in_either k m ms here = inl refl
 in_either k m ms (there i) = inr i
 
-second_more : (told : List ℕ) (p top last least next m : ℕ) (ms : List ℕ) →
+second_more : (told : List ℕ) (p top greatest last least next m : ℕ) (ms : List ℕ) →
     ((l n : ℕ) → In p ms → l ≤ n → l ≤ top → least_but_one told l n ms ≡ least_of l (told_or top p told) ms) →
-    are_rising last (m ∷ ms) ≡ true → In p (m ∷ ms) → get_or told p 0 ≡ 0 → least ≤ next → least ≤ top →
+    are_rising greatest last (m ∷ ms) ≡ true → In p (m ∷ ms) → get_or told p 0 ≡ 0 → least ≤ next → least ≤ top →
     least_but_one told least next (m ∷ ms) ≡ least_of least (told_or top p told) (m ∷ ms)
-second_more told p top last least next m ms later rising i none low bound = by_member (cases_eq m p) i
+second_more told p top greatest last least next m ms later rising i none low bound = by_member (cases_eq m p) i
   where
-    rest : are_rising m ms ≡ true
-    rest = (and_parts (nat_lt last m && nat_le m 15) (are_rising m ms) rising).1
+    rest : are_rising greatest m ms ≡ true
+    rest = (and_parts (nat_lt last m && nat_le m greatest) (are_rising greatest m ms) rising).1
 
     step : (a b : ℕ) → next_least least next (get_or told m 0) ≡ (a, b) → least_but_one told least next (m ∷ ms) ≡ least_but_one told a b ms
     step a b e = ap (λ (x : ℕ × ℕ). least_but_one told x.0 x.1 ms) e
 
     others : m ≡ p → (x : ℕ) → In x ms → get_or told x 0 ≡ told_or top p told x
-    others same x j = sym (told_or_other top p told x (λ e. let z = (rising_above m ms x rest j).0 in omega (arith, e, same, z)))
+    others same x j = sym (told_or_other top p told x (λ e. let z = (rising_above greatest m ms x rest j).0 in omega (arith, e, same, z)))
 
     found : m ≡ p → least_but_one told least next (m ∷ ms) ≡ least_of least (told_or top p told) (m ∷ ms)
     found same =
@@ -143,12 +143,12 @@ second_more told p top last least next m ms later rising i none low bound = by_m
     by_member (inl same) j = found same
     by_member (inr ne) j = by_place ne (in_either p m ms j)
 
-pub second_is : (told : List ℕ) (p top last least next : ℕ) (ms : List ℕ) → are_rising last ms ≡ true → In p ms → get_or told p 0 ≡ 0 → least ≤ next → least ≤ top →
+pub second_is : (told : List ℕ) (p top greatest last least next : ℕ) (ms : List ℕ) → are_rising greatest last ms ≡ true → In p ms → get_or told p 0 ≡ 0 → least ≤ next → least ≤ top →
     least_but_one told least next ms ≡ least_of least (told_or top p told) ms
-second_is told p top last least next [] rising i none low bound = elim i [ ]
-second_is told p top last least next (m ∷ ms) rising i none low bound =
-    second_more told p top last least next m ms
-    (λ l n j a b. second_is told p top m l n ms (and_parts (nat_lt last m && nat_le m 15) (are_rising m ms) rising).1 j none a b)
+second_is told p top greatest last least next [] rising i none low bound = elim i [ ]
+second_is told p top greatest last least next (m ∷ ms) rising i none low bound =
+    second_more told p top greatest last least next m ms
+    (λ l n j a b. second_is told p top greatest m l n ms (and_parts (nat_lt last m && nat_le m greatest) (are_rising greatest m ms) rising).1 j none a b)
     rising i none low bound
 
 -- a primary says nothing by messages
@@ -270,11 +270,11 @@ told_within rules a xs f m i =
 
 -- with two members and more, the agreed list is as long as what all but the primary acknowledged
 pub counted_length : {S C O : Type 0} (rules : Rules S C O) (config : Config) (a : Moment S C O) (moments : List (Moment S C O)) (xs : List C) (told : AcknowledgedIn) (top : ℕ) →
-    Moments rules config (a ∷ moments) → IsAgreed config (a ∷ moments) xs → told.ballot ≡ a.master.active → ((m : ℕ) → m < 16 → get_or told.held m 0 ≡ max_acknowledged m told.ballot a.world.sent) →
+    Moments rules config (a ∷ moments) → IsAgreed config (a ∷ moments) xs → a.master.greatest ≡ 15 → told.ballot ≡ a.master.active → ((m : ℕ) → m < 16 → get_or told.held m 0 ≡ max_acknowledged m told.ballot a.world.sent) →
     ((m : ℕ) → get_or told.held m 0 ≤ top) → (length a.master.members ≡ 1 → ⊥) →
     least_but_one told.held top top a.master.members ≡ length xs
-counted_length {S = S} {C = C} {O = O} rules config a moments xs told top came agreed active counted bound several =
-    second_is told.held f.given.primary top 0 top top a.master.members lawful.active led none (omega arith) (omega arith)
+counted_length {S = S} {C = C} {O = O} rules config a moments xs told top came agreed bounded active counted bound several =
+    second_is told.held f.given.primary top a.master.greatest 0 top top a.master.members lawful.active led none (omega arith) (omega arith)
     ∙ (let x = up in let y = down in let z : least_of top (told_or top f.given.primary told.held) a.master.members ≡ chosen_length a.world.sent a.master.active f.given f.line = omega (arith, x, y) in z)
     ∙ sym (front_length rules a xs f)
   where
@@ -288,17 +288,17 @@ counted_length {S = S} {C = C} {O = O} rules config a moments xs told top came a
     led = subst (λ ms. In f.given.primary ms) f.members (f.serves.sound.ballots.led a.master.active f.given f.is_given)
 
     counts : (m : ℕ) → In m a.master.members → get_or told.held m 0 ≡ max_acknowledged m a.master.active a.world.sent
-    counts m i = counted m (rising_above 0 a.master.members m lawful.active i).1 ∙ ap (λ b. max_acknowledged m b a.world.sent) active
+    counts m i = counted m (let high = (rising_above a.master.greatest 0 a.master.members m lawful.active i).1 in omega (arith, bounded, high)) ∙ ap (λ b. max_acknowledged m b a.world.sent) active
 
     none : get_or told.held f.given.primary 0 ≡ 0
     none = counts f.given.primary led ∙ primary_told rules a.world f.history a.master.active f.given f.serves.sound f.is_given
 
     -- a member that is not the primary
-    another : (ms : List ℕ) → (length ms ≡ 1 → ⊥) → are_rising 0 ms ≡ true → In f.given.primary ms → (m : ℕ) × In m ms × (m ≡ f.given.primary → ⊥)
+    another : (ms : List ℕ) → (length ms ≡ 1 → ⊥) → are_rising a.master.greatest 0 ms ≡ true → In f.given.primary ms → (m : ℕ) × In m ms × (m ≡ f.given.primary → ⊥)
     another [] many rising i = elim i [ ]
     another (m ∷ []) many rising i = absurd (many refl)
     another (m ∷ (o ∷ ms)) many rising i =
-        let above = (rising_above m (o ∷ ms) o (and_parts (nat_lt 0 m && nat_le m 15) (are_rising m (o ∷ ms)) rising).1 here).0 in
+        let above = (rising_above a.master.greatest m (o ∷ ms) o (and_parts (nat_lt 0 m && nat_le m a.master.greatest) (are_rising a.master.greatest m (o ∷ ms)) rising).1 here).0 in
         by_first (cases_eq m f.given.primary) above
       where
         by_first : (m ≡ f.given.primary) ⊎ (m ≡ f.given.primary → ⊥) → m < o → (k : ℕ) × In k (m ∷ (o ∷ ms)) × (k ≡ f.given.primary → ⊥)
@@ -460,7 +460,7 @@ member_front {S = S} {C = C} {O = O} rules config a moments k m came is i within
     there_is = has_agreed rules config a moments came
 
     positive : 0 < m
-    positive = (rising_above 0 a.master.members m (moments_lawful rules config a moments came).active i).0
+    positive = (rising_above a.master.greatest 0 a.master.members m (moments_lawful rules config a moments came).active i).0
 
     all_of : (us : List C) → take (length us) us ≡ us
     all_of [] = refl

@@ -1,9 +1,9 @@
 -- Archived.antt: the record of places after those that a replica applied were added to it.
-use Rattle.std.proofs.Common.{◌≡◌, ℕ, zero, suc, ◌+◌, ◌-◌, ◌<◌, ◌≤◌, Bool, true, false, List, [], ◌∷◌, ◌++◌, length, take, drop, Result, OnOk, refl, ap, ap₂, sym, ◌∙◌, subst, arith}
+use Rattle.std.proofs.Common.{◌≡◌, ℕ, zero, suc, ◌+◌, ◌-◌, ◌≤◌, List, [], ◌∷◌, ◌++◌, length, take, drop, Result, OnOk, refl, ap, ap₂, sym, ◌∙◌, subst, arith}
 use Rattle.std.proofs.lemmas.List.{append-nil, drop-take}
 use Rattle.lists.specs.Lists.{IsPrefixOf}
 use Rattle.lists.proofs.Prefixes.{take_prefix}
-use Rattle.ballot_base.specs.Logs.{Log, part, places}
+use Rattle.ballot_base.specs.Logs.{part}
 use Rattle.ballot_base.specs.Replica.{ReplicaState}
 use Rattle.agreement.specs.cut_logs.Whole.{whole_log}
 use Rattle.agreement.specs.cut_logs.World.{recorded}

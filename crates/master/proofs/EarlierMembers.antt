@@ -23,7 +23,7 @@ use Rattle.ballot_base.specs.TakenLog.{taken}
 use Rattle.ballot_base.proofs.ChangeRows.{on_install-answers, on_install-stays, on_install-takes, on_install-unread, on_new_ballot-joins, on_new_ballot-stays, on_state-stays, on_state-takes, on_state-unread}
 use Rattle.ballot_base.proofs.MessageRows.{on_append-elsewhere, on_append-gap, on_append-takes}
 use Rattle.agreement.specs.Inside.Ballots.{Given, History}
-use Rattle.agreement.specs.Inside.MessageMeaning.{IsOf, SpeaksTruth}
+use Rattle.agreement.specs.Inside.MessageMeaning.{SpeaksTruth}
 use Rattle.agreement.specs.Moments.{Moment as WholeMoment, Moments as WholeMoments}
 use Rattle.agreement.specs.World.{GroupWorld as WholeWorld}
 use Rattle.agreement.specs.whole_logs.Messages.Body.{NewBallot as whole_new_ballot}

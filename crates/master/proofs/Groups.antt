@@ -1,17 +1,18 @@
 -- Groups.antt: what a group counts and how it came to be, after each thing that it does.
 use Rattle.std.proofs.Common.{◌≡◌, ℕ, zero, suc, ◌+◌, ◌<◌, ◌≤◌, ◌⊎◌, inl, inr, Bool, true, false, cond, max, List, [], ◌∷◌, ◌++◌, length, map, drop, take, take_all, get_or, Some, None, Option, refl, ap, sym, ◌∙◌, subst, arith}
 use Rattle.std.specs.Prelude.{slice_get, ◌==◌, ◌&&◌}
-use Rattle.std.proofs.lemmas.Bool.{cases_eq, ne_eqb, cases_Bool, eqb-true}
+use Rattle.std.proofs.lemmas.Bool.{cases_eq, cases_Bool, eqb-true}
 use Rattle.std.proofs.lemmas.List.{drop_more, length-append, take-append-le, take_more}
 use Rattle.std.proofs.Math.Seq.{take-length}
 use Rattle.machine.specs.Machine.{Rules}
 use Rattle.lists.specs.Lists.{In}
 use Rattle.lists.specs.Lists.In.{here, there}
 use Rattle.lists.proofs.Members.{in_append}
+use Rattle.ballot_base.specs.LawfulConfig.{max_node}
 use Rattle.ballot_base.specs.declared.config.Config.{Config}
 use Rattle.ballot_base.specs.declared.message.Message.{Message}
 use Rattle.ballot_base.specs.declared.message.Body.{Body}
-use Rattle.ballot_base.specs.declared.message.Body.TheVariants.{NewBallot, Join, State, Install, Installed, Activate, Activated, Superseded, Append, Held, Commit}
+use Rattle.ballot_base.specs.declared.message.Body.TheVariants.{NewBallot, Activate, Activated, Superseded}
 use Rattle.ballot_base.specs.declared.message.Effect.{Effect}
 use Rattle.ballot_base.specs.Replica.{ReplicaState, CountedReplica}
 use Rattle.agreement.specs.cut_logs.World.{CutGroupWorld, messages, moved, outputs}
@@ -97,15 +98,16 @@ untold_next {S = S} {C = C} {O = O} rules config a moments came m =
     max_told_whole m (a.master.given + 1) a.world.archive a.world.sent ∙ whole_untold rules config (whole_moment a) q.earlier q.kept.came m
 
 -- a group opens
-pub group_opens : {S C O : Type 0} (rules : Rules S C O) (nodes : ℕ) (config : Config) (a : Moment S C O) (told next : AcknowledgedIn) → can_open nodes config ≡ true →
-    a ≡ opening_moment rules nodes config → told.ballot ≡ 1 → ((m : ℕ) → get_or told.held m 0 ≡ 0) → ((m : ℕ) → get_or next.held m 0 ≡ 0) →
+pub group_opens : {S C O : Type 0} (rules : Rules S C O) (nodes : ℕ) (config : Config) (a : Moment S C O) (told next : AcknowledgedIn) → can_open max_node nodes config ≡ true →
+    a ≡ opening_moment rules max_node nodes config → told.ballot ≡ 1 → ((m : ℕ) → get_or told.held m 0 ≡ 0) → ((m : ℕ) → get_or next.held m 0 ≡ 0) →
     IsGroup rules a told next
 group_opens {S = S} {C = C} {O = O} rules nodes config a told next lawful is one none none_next =
     subst (λ (v : Moment S C O). IsGroup rules v told next) (sym is)
     (record {
       config = config;
       moments = [];
-      came = began nodes lawful refl;
+      came = began max_node nodes lawful refl;
+      bounded = refl;
       active = one;
       counted = λ m low. none m;
       waits = λ b c e. cc;
@@ -121,6 +123,7 @@ group_goes {S = S} {C = C} {O = O} rules a v told next told' next' g may same on
       config = g.config;
       moments = a ∷ g.moments;
       came = went_on g.came may;
+      bounded = ap (λ (m : MasterState). m.greatest) same ∙ g.bounded;
       active = one ∙ g.active ∙ sym (ap (λ (m : MasterState). m.active) same);
       counted = counted;
       waits = λ b c e. two ∙ g.waits b c (sym (ap (λ (m : MasterState). m.waiting) same) ∙ e);
@@ -158,6 +161,7 @@ group_gives {S = S} {C = C} {O = O} rules a v config told next next' g granted m
           config = g.config;
           moments = a ∷ g.moments;
           came = went_on g.came (subst (λ (u : Moment S C O). MayGo rules a u) (sym (whole is)) may);
+          bounded = ap (λ (m : MasterState). m.greatest) master ∙ g.bounded;
           active = g.active ∙ sym (ap (λ (m : MasterState). m.active) master);
           counted = subst (λ (u : CutGroupWorld S C O). HasCounted u.sent told) (sym is) counted;
           waits = waits;
@@ -196,6 +200,15 @@ stays_or_turns m b (Some (x, config)) e = by_ballot (cases_Bool (b == x))
     by_ballot (inl f) =
         rw f (inr (record { config = config; waited = e ∙ ap (λ y. Some (y, config)) (sym (eqb-true b x f)); none = λ y c g. cc }))
     by_ballot (inr f) = rw f (inl (record { same_active = refl; waits = λ y c g. g }))
+
+-- an Activate does not change which numbers members may have
+same_bound : (m : MasterState) (b : ℕ) (waiting : Option (ℕ × Config)) → (activating m b waiting).greatest ≡ m.greatest
+same_bound m b None = refl
+same_bound m b (Some (x, config)) = by_ballot (b == x)
+  where
+    by_ballot : (same : Bool) → (cond same (record m { active = b; members = config.members; waiting = None }) m).greatest ≡ m.greatest
+    by_ballot true = refl
+    by_ballot false = refl
 
 -- the master answered: the counters of the ballot that waited are those of the active one now, if it
 -- is active now
@@ -250,6 +263,7 @@ group_answers {S = S} {C = C} {O = O} rules a v from b told next told' next' g s
           config = g.config;
           moments = a ∷ g.moments;
           came = went_on g.came (subst (λ (u : Moment S C O). MayGo rules a u) (sym (whole is)) may);
+          bounded = ap (λ (m : MasterState). m.greatest) master ∙ same_bound a.master b a.master.waiting ∙ g.bounded;
           active = active;
           counted = subst (λ (u : CutGroupWorld S C O). HasCounted u.sent told') (sym is) z.0;
           waits = waits;

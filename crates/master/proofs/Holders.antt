@@ -2,7 +2,6 @@
 use Rattle.std.proofs.Common.{◌≡◌, ℕ, zero, suc, ◌-◌, ◌<◌, ◌≤◌, List, [], ◌∷◌, length, map, get_or, Option, ap, sym, ◌∙◌, subst, arith}
 use Rattle.std.specs.Prelude.{slice_get}
 use Rattle.lists.specs.Lists.{In}
-use Rattle.ballot_base.specs.Logs.{places}
 use Rattle.ballot_base.specs.Replica.{CountedReplica, ReplicaState, status_of}
 use Rattle.ballot_base.specs.declared.status.Status.{Status}
 use Rattle.master.specs.Inside.{HoldsAt, IsShort}

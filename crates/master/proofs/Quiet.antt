@@ -1,6 +1,6 @@
 -- Quiet.antt: events that need no memory are done exactly.
-use Rattle.std.proofs.Common.{◌≡◌, ℕ, zero, suc, ◌+◌, ◌-◌, ◌<◌, ◌⊎◌, inl, inr, Bool, true, false, List, [], ◌∷◌, ◌++◌, length, set, Some, None, Option, refl, ap, sym, ◌∙◌, subst, arith}
-use Rattle.std.specs.Prelude.{IsOk, Result, Ok, Err, slice_get, nat_lt, ◌&&◌}
+use Rattle.std.proofs.Common.{◌≡◌, ℕ, zero, suc, ◌⊎◌, inl, inr, Bool, true, false, List, [], ◌∷◌, ◌++◌, set, Some, None, Option, refl, ap, sym, ◌∙◌, subst}
+use Rattle.std.specs.Prelude.{IsOk, Result, Ok, Err, slice_get, nat_lt}
 use Rattle.std.proofs.lemmas.Bool.{and_parts, both_ways, cases_Bool, ltb-true}
 use Rattle.std.proofs.lemmas.List.{append-nil}
 use Rattle.machine.specs.Machine.{Rules}
@@ -9,7 +9,7 @@ use Rattle.ballot_base.specs.Logs.{places}
 use Rattle.ballot_base.specs.declared.message.Effect.{Effect}
 use Rattle.ballot_base.specs.declared.message.Message.{Message}
 use Rattle.ballot_base.specs.Losses.{SendsAndAddsNothing, halted}
-use Rattle.ballot_base.specs.Protocol.{Input, replica_step}
+use Rattle.ballot_base.specs.Protocol.{replica_step}
 use Rattle.ballot_base.specs.Protocol.Input.{Receives, Proposes, Ticks}
 use Rattle.ballot_base.specs.Replica.{ReplicaState, is_active}
 use Rattle.ballot_base.specs.StepOutcome.{Outcome, nothing_done}

@@ -1,5 +1,5 @@
 -- StepsOfNodes.antt: a call of one replica is a step of its group, and the messages are parted from it.
-use Rattle.std.proofs.Common.{◌≡◌, ℕ, zero, suc, ◌+◌, ◌-◌, ◌^◌, ◌<◌, ◌≤◌, ◌⊎◌, inl, inr, Bool, true, false, cond, min, List, [], ◌∷◌, ◌++◌, length, map, set, take, drop, get_or, Some, None, refl, ap, sym, ◌∙◌, subst, arith}
+use Rattle.std.proofs.Common.{◌≡◌, ℕ, zero, suc, ◌+◌, ◌-◌, ◌^◌, ◌<◌, ◌≤◌, ◌⊎◌, inl, inr, Bool, true, false, cond, List, [], ◌∷◌, ◌++◌, length, map, set, take, drop, get_or, Some, None, refl, ap, sym, ◌∙◌, subst, arith}
 use Rattle.std.specs.Prelude.{slice_get, ◌&&◌}
 use Rattle.std.proofs.lemmas.List.{map-append, map-set, append-nil, take-append-le, length-map}
 use Rattle.std.proofs.Math.Seq.{take-length, drop-append_seam}
@@ -11,6 +11,7 @@ use Rattle.ballot_base.specs.Losses.{SendsAndAddsNothing, Loses, Thinned, halted
 use Rattle.ballot_base.specs.Losses.Thinned.{none, keeps, loses}
 use Rattle.ballot_base.specs.StepOutcome.{Outcome}
 use Rattle.ballot_base.specs.Protocol.{Input, replica_step}
+use Rattle.ballot_base.specs.LawfulConfig.{max_node}
 use Rattle.ballot_base.specs.declared.config.Config.{Config}
 use Rattle.agreement.specs.MasterState.{MasterState, opening_master}
 use Rattle.agreement.specs.cut_logs.Moments.{Moment, opening_moment}
@@ -216,11 +217,11 @@ opened_more {S = S} {C = C} rules config items more new at before opens pushed =
     ∙ sym (ap (λ k. opening_nodes rules k config) next)
 
 pub opened_moment : {S C O : Type 0} (rules : Rules S C O) (archive : List C) (config : Config) (nodes at : ℕ) (m : MasterState) (items : List (CountedReplica S C)) (sent : List (ℕ × Message C)) (left : List (Effect C O)) →
-    m ≡ opening_master config → map (λ (z : CountedReplica S C). z.state) items ≡ opening_nodes rules at config → at ≡ nodes → sent ≡ [] → left ≡ [] → archive ≡ [] →
-    moment_of archive m items sent left ≡ opening_moment rules nodes config
+    m ≡ opening_master max_node config → map (λ (z : CountedReplica S C). z.state) items ≡ opening_nodes rules at config → at ≡ nodes → sent ≡ [] → left ≡ [] → archive ≡ [] →
+    moment_of archive m items sent left ≡ opening_moment rules max_node nodes config
 opened_moment {S = S} {C = C} {O = O} rules archive config nodes at m items sent left opens before same a b d =
     ap (λ x. let z : Moment S C O = record { master = x; world = world_of archive items sent left } in z) opens
-    ∙ ap (λ w. let z : Moment S C O = record { master = opening_master config; world = w } in z) (opened_group rules archive config nodes at items sent left before same a b d)
+    ∙ ap (λ w. let z : Moment S C O = record { master = opening_master max_node config; world = w } in z) (opened_group rules archive config nodes at items sent left before same a b d)
 
 -- the node at an index, once more
 set_there : {S C : Type 0} (nodes : List (CountedReplica S C)) (n : ℕ) (old new : CountedReplica S C) → n < length nodes → old ≡ get_or nodes n old →

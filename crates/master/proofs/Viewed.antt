@@ -1,6 +1,6 @@
 -- Viewed.antt: how long the agreed list of a group is and where its places are, by the record and
 -- the logs that are kept.
-use Rattle.std.proofs.Common.{◌≡◌, ℕ, zero, suc, Bool, false, ◌+◌, ◌-◌, ◌<◌, ◌≤◌, List, [], ◌∷◌, ◌++◌, length, map, take, get_or, Some, None, Option, refl, ap, sym, ◌∙◌, subst, arith}
+use Rattle.std.proofs.Common.{◌≡◌, ℕ, zero, suc, Bool, false, ◌+◌, ◌-◌, ◌<◌, ◌≤◌, List, [], ◌∷◌, ◌++◌, length, map, take, get_or, Some, Option, refl, ap, sym, ◌∙◌, subst, arith}
 use Rattle.std.specs.Prelude.{slice_get}
 use Rattle.std.proofs.lemmas.List.{append-nil, length-take-le, take-append-le, take-take}
 use Rattle.machine.specs.Machine.{Rules}
@@ -32,13 +32,13 @@ use Rattle.master.proofs.WholeTold.{counted_whole}
 
 -- with two members and more
 pub counted_as_seen : {S C O : Type 0} (rules : Rules S C O) (config : Config) (a : Moment S C O) (moments : List (Moment S C O)) (xs : List C) (told : AcknowledgedIn) (top : ℕ) →
-    Moments rules config (a ∷ moments) → IsAgreed config (map whole_moment (a ∷ moments)) xs → told.ballot ≡ a.master.active → HasCounted a.world.sent told →
+    Moments rules config (a ∷ moments) → IsAgreed config (map whole_moment (a ∷ moments)) xs → a.master.greatest ≡ 15 → told.ballot ≡ a.master.active → HasCounted a.world.sent told →
     ((m : ℕ) → get_or told.held m 0 ≤ top) → (length a.master.members ≡ 1 → ⊥) →
     least_but_one told.held top top a.master.members ≡ length xs
-counted_as_seen rules config a moments xs told top came agreed active counted bound several =
+counted_as_seen rules config a moments xs told top came agreed bounded active counted bound several =
     let q = moments_stand rules config a moments came in
     counted_length rules config (whole_moment a) q.earlier xs told top q.kept.came
-    (agreed_in config (map whole_moment (a ∷ moments)) (whole_moment a ∷ q.earlier) xs q.covers agreed) active
+    (agreed_in config (map whole_moment (a ∷ moments)) (whole_moment a ∷ q.earlier) xs q.covers agreed) bounded active
     (counted_whole a.world.archive a.world.sent told counted) bound several
 
 -- a log is as long as it is whole

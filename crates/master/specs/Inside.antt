@@ -6,6 +6,7 @@ use Rattle.machine.specs.Machine.{Rules}
 use Rattle.ballot_base.specs.declared.message.Body.{Body}
 use Rattle.ballot_base.specs.declared.message.Body.TheVariants.{Activate, Activated, Superseded}
 use Rattle.ballot_base.specs.declared.config.Config.{Config}
+use Rattle.ballot_base.specs.LawfulConfig.{max_node}
 use Rattle.ballot_base.specs.declared.message.Message.{Message}
 use Rattle.ballot_base.specs.declared.message.Effect.{Effect}
 use Rattle.ballot_base.specs.Logs.{places}
@@ -90,6 +91,7 @@ pub record IsGroup {S C O : Type 0} (rules : Rules S C O) (moment : Moment S C O
   pub config : Config
   pub moments : List (Moment S C O)
   pub came : Moments rules config (moment ∷ moments)
+  pub bounded : moment.master.greatest ≡ max_node
   pub active : told.ballot ≡ moment.master.active
   pub counted : HasCounted moment.world.sent told
   pub waits : (ballot : ℕ) (configuration : Config) →

@@ -4,6 +4,7 @@ pub mod Exact
 pub mod Group
 pub mod Inside
 pub mod Refusals
+pub mod Rows
 pub mod Steps
 pub mod AcknowledgedLengths
 pub mod Outcomes

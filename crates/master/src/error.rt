@@ -9,8 +9,8 @@ use std::fmt;
 /// Why a ballot was not assigned.
 #[derive(Clone, Copy, Debug, PartialEq, Eq)]
 pub enum AssignError {
-    /// No member, more than 7, not strictly rising, one outside 1 to 15, or a primary that is no
-    /// member.
+    /// No member, more than 7, not strictly rising, one below 1 or above the greatest number (15
+    /// unless the master has another), or a primary that is no member.
     BadMembers,
     /// Ballot 2^32, the last one, was already assigned.
     BallotsSpent,

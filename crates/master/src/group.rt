@@ -12,6 +12,7 @@
 ghost use Rattle.std.specs.Prelude.{ℕ, ◌-◌, ◌≡◌, ◌<◌, ◌↔◌, true, false, None, Some, [], length};
 ghost use Rattle.std.specs.Prelude.{slice_get, map, List, ◌∷◌, ◌++◌, IfOk, IfSome, OnErr};
 ghost use Rattle.std.specs.Prelude.{IsErr, IsErrOf};
+ghost use Rattle.ballot_base.specs.LawfulConfig.{max_node};
 ghost use Rattle.ballot_base.specs.Protocol.{replica_step};
 ghost use Rattle.ballot_base.specs.Protocol.Input.{Receives};
 ghost use Rattle.ballot_base.specs.StepOutcome.{nothing_done};
@@ -118,7 +119,7 @@ impl<M: Machine> Group<M> {
     ) -> Result<Group<M>, OpeningError>
         ensures ok { IfOk result (λ group.
             group ≡ record {
-              moment = opening_moment M.rules nodes
+              moment = opening_moment M.rules max_node nodes
                   (record { members = members; primary = primary });
               losses = 0;
             }) }
@@ -126,7 +127,7 @@ impl<M: Machine> Group<M> {
             Moments M.rules (record { members = members; primary = primary })
             (group.moment ∷ [])) }
         ensures bad { IsErrOf result OpeningError.BadMembers
-            ↔ (can_open nodes (record { members = members; primary = primary }) ≡ false) }
+            ↔ (can_open max_node nodes (record { members = members; primary = primary }) ≡ false) }
     {
         Self::opening_with(alloc, nodes, Config { members, primary })
     }
@@ -135,11 +136,11 @@ impl<M: Machine> Group<M> {
     fn opening_with(alloc: Global, nodes: u8, config: Config) -> Result<Group<M>, OpeningError>
         ensures ok { IfOk result (λ group.
             group ≡ record {
-              moment = opening_moment M.rules nodes config;
+              moment = opening_moment M.rules max_node nodes config;
               losses = 0;
             }) }
         ensures opens { IfOk result (λ group. Moments M.rules config (group.moment ∷ [])) }
-        ensures bad { IsErrOf result OpeningError.BadMembers ↔ (can_open nodes config ≡ false) }
+        ensures bad { IsErrOf result OpeningError.BadMembers ↔ (can_open max_node nodes config ≡ false) }
     {
         if !can_open(nodes, &config) {
             return Err(OpeningError::BadMembers);

@@ -12,6 +12,7 @@ mod inputs;
 mod master;
 mod messages_sent;
 mod opening;
+mod rows;
 
 pub use acknowledged::{Acknowledged, follow_ballot};
 pub use activation::Activation;
@@ -24,3 +25,4 @@ pub use inputs::counted;
 pub use master::Master;
 pub use messages_sent::{activation_answer, asks_for, send};
 pub use opening::can_open;
+pub use rows::members_end_at_the_bound_of_the_master;

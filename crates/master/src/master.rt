@@ -7,26 +7,28 @@
 // never completes loses nothing that was agreed, but members that joined it no longer serve in the
 // active ballot.
 //
-// The invariant is `given <= MAX_BALLOT`. The master does not know which nodes exist or run;
+// Invariants: `given <= MAX_BALLOT` and `greatest <= MAX_NUMBER`. The master does not know which nodes exist or run;
 // whoever assigns a ballot has to. No call takes memory: a `Config` is moved in, so what was
 // decided stands even if there is no memory for the message about it.
 
-ghost use Rattle.std.specs.Prelude.{◌≡◌, ◌+◌, ◌↔◌, true, false, None, Some, IfOk};
+ghost use Rattle.std.specs.Prelude.{◌≡◌, ◌≤◌, ◌+◌, ◌↔◌, true, false, None, Some, IfOk};
 ghost use Rattle.std.specs.Prelude.{IsErrOf, if◌then◌else◌};
 ghost use Rattle.agreement.specs.MasterState.{activating, assigning, is_granted};
 ghost use Rattle.agreement.specs.MasterState.{master_after, opening_master, refusal};
 ghost use Rattle.agreement.specs.MasterState.AssignRefusal.{bad_members, ballots_spent};
-ghost use Rattle.ballot_base.specs.LawfulConfig.{is_lawful};
+ghost use Rattle.ballot_base.specs.LawfulConfig.{is_lawful, max_node};
 
 use crate::activation::Activation;
 use crate::error::AssignError;
-use ballot_base::{Config, Members};
+use ballot_base::{Config, MAX_NODE, MAX_NUMBER, Members};
 use machine::MAX_BALLOT;
 use std::marker::Model;
 
 /// The active ballot with its members, and at most one ballot that waits to be activated. No call
 /// takes memory.
 pub struct Master {
+    // The greatest number that a member may have, at most `MAX_NUMBER`.
+    greatest: u8,
     // The active ballot; 1 at first.
     active: u64,
     members: Members,
@@ -39,6 +41,7 @@ pub struct Master {
 impl Drop for Master {
     fn drop(self) {
         let Master {
+            greatest: _,
             active: _,
             members: _members,
             waiting: _waiting,
@@ -50,19 +53,22 @@ impl Drop for Master {
 impl Model for Master {
     ghost use Rattle.std.specs.Prelude.{◌≤◌};
     ghost use Rattle.agreement.specs.MasterState.{MasterState};
+    ghost use Rattle.ballot_base.specs.LawfulConfig.{max_number};
     ghost use Rattle.machine.specs.Ballots.{max_ballot};
 
     ghost Value = { MasterState };
 
     ghost view = { λ master.
         record {
+          greatest = master.greatest;
           active = master.active;
           members = master.members;
           waiting = master.waiting;
           given = master.given;
         } };
 
-    ghost invariant = { λ master. master.given ≤ max_ballot };
+    ghost invariant = { λ master.
+        (master.given ≤ max_ballot) × (master.greatest ≤ max_number) };
 }
 
 impl Master {
@@ -71,15 +77,32 @@ impl Master {
     /// rising, or outside 1 to 15, and for a primary that is none of them.
     pub fn new(members: Members, primary: u8) -> Result<Master, AssignError>
         ensures ok { IfOk result (λ master.
-            master ≡ opening_master (record { members = members; primary = primary })) }
-        ensures bad { IsErrOf result AssignError.BadMembers ↔ (is_lawful members primary ≡ false) }
+            master
+            ≡ opening_master max_node (record { members = members; primary = primary })) }
+        ensures bad { IsErrOf result AssignError.BadMembers
+            ↔ (is_lawful max_node members primary ≡ false) }
+        ensures spent { IsErrOf result AssignError.BallotsSpent → ⊥ }
+    {
+        Master::up_to(MAX_NODE, members, primary)
+    }
+
+    /// Returns a master as [`Master::new`] does, whose members may have numbers from 1 to
+    /// `greatest` in all its ballots. Its only error is [`AssignError::BadMembers`].
+    pub fn up_to(greatest: u8, members: Members, primary: u8) -> Result<Master, AssignError>
+        requires bound { greatest ≤ MAX_NUMBER }
+        ensures ok { IfOk result (λ master.
+            master
+            ≡ opening_master greatest (record { members = members; primary = primary })) }
+        ensures bad { IsErrOf result AssignError.BadMembers
+            ↔ (is_lawful greatest members primary ≡ false) }
         ensures spent { IsErrOf result AssignError.BallotsSpent → ⊥ }
     {
         let config = Config { members, primary };
-        if !config.is_lawful() {
+        if !config.is_lawful_up_to(greatest) {
             return Err(AssignError::BadMembers);
         }
         Ok(Master {
+            greatest,
             active: 1,
             members: config.members,
             waiting: None,
@@ -91,12 +114,12 @@ impl Master {
     pub fn can_assign(&self, config: &Config) -> bool
         ensures { (result ≡ true) ↔ (refusal self.now config.now ≡ None) }
     {
-        config.is_lawful() && self.given < MAX_BALLOT
+        config.is_lawful_up_to(self.greatest) && self.given < MAX_BALLOT
     }
 
     /// Gives the next ballot to these members and this primary and lets it wait. A ballot that
     /// waited is superseded for good. Returns the new ballot. [`AssignError::BadMembers`] comes
-    /// first, as in [`Master::new`], then [`AssignError::BallotsSpent`] once ballot 2^32 was given.
+    /// first, as when the master was opened, then [`AssignError::BallotsSpent`] once ballot 2^32 was given.
     pub fn assign(&mut self, members: Members, primary: u8) -> Result<u64, AssignError>
         ensures ok { IfOk result (λ ballot. ballot ≡ self.old.given + 1) }
         ensures bad { IsErrOf result AssignError.BadMembers
@@ -112,7 +135,7 @@ impl Master {
             (refusal self.old (record { members = members; primary = primary })) }
     {
         let config = Config { members, primary };
-        if !config.is_lawful() {
+        if !config.is_lawful_up_to(self.greatest) {
             return Err(AssignError::BadMembers);
         }
         if self.given >= MAX_BALLOT {

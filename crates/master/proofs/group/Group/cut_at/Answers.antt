@@ -1,4 +1,4 @@
-use Rattle.std.proofs.Common.{◌≡◌, ◌≤◌, ◌<◌, length, ap, sym, ◌∙◌, refl, arith}
+use Rattle.std.proofs.Common.{◌≡◌, length, ap, ◌∙◌, refl, arith}
 use Rattle.ballot_base.specs.Replica.{CountedReplica, ReplicaState}
 use Rattle.master.specs.Outcomes.{cut_outcome}
 use Rattle.master.proofs.Archived.{begins_by, taken_back}

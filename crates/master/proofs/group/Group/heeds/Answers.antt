@@ -1,10 +1,7 @@
-use Rattle.std.proofs.Common.{◌≡◌, false, subst, arith}
+use Rattle.std.proofs.Common.{arith}
 use Rattle.std.proofs.lemmas.Bool.{both_ways}
 use Rattle.std.proofs.lemmas.List.{length-map}
-use Rattle.ballot_base.specs.Protocol.{replica_step}
-use Rattle.ballot_base.specs.Protocol.Input.{Receives}
-use Rattle.ballot_base.specs.Replica.{ReplicaState, CountedReplica}
-use Rattle.ballot_base.specs.StepOutcome.{nothing_done}
+use Rattle.ballot_base.specs.Replica.{CountedReplica}
 use Rattle.agreement.proofs.of_cut_logs.MomentsAgree.{snapshots_are_read}
 use Rattle.master.proofs.EarlierMembers.{names_some, quiet_does_nothing}
 use Rattle.master.proofs.StepsOfNodes.{same_replica}

@@ -1,6 +1,5 @@
-use Rattle.std.proofs.Common.{◌≡◌, ◌<◌, ◌-◌, ℕ, List, ap, sym, ◌∙◌, subst, get_or, length, arith}
+use Rattle.std.proofs.Common.{◌-◌, get_or, arith}
 use Rattle.std.specs.Prelude.{slice_get}
-use Rattle.master.specs.Group.{GroupState}
 use Rattle.master.specs.Inside.{IsShort}
 use Rattle.master.proofs.Groups.{in_nothing, in_taken}
 use Rattle.master.proofs.Holders.{holds_at, is_short, is_unknown}

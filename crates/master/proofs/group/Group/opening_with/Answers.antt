@@ -1,4 +1,5 @@
 use Rattle.std.proofs.Common.{◌≡◌, [], ◌∷◌, ap, sym, ◌∙◌, subst, refl, arith}
+use Rattle.ballot_base.specs.LawfulConfig.{max_node}
 use Rattle.ballot_base.specs.Replica.{CountedReplica}
 use Rattle.agreement.specs.cut_logs.World.{messages}
 use Rattle.agreement.specs.cut_logs.Moments.{Moment, Moments}
@@ -46,4 +47,4 @@ returns-clause-opens g c =
     let opened = opened_moment rules c.new-7.result.items c.args.config c.args.nodes c.loop-at.at c.in-Ok.master c.loop-at.opened.items c.new-5.result.items c.new-6.result.items
     c.in-Ok.ensures.ok c.loop-at.invariant.0 count c.new-5.ensures.items c.new-6.ensures.items c.new-7.ensures.items in
     subst (λ (a : Moment g.row.M.Denot g.row.M-Command.Denot g.row.M-Output.Denot). Moments rules c.args.config (a ∷ [])) (sym opened)
-    (began c.args.nodes (sym c.can_open.ensures ∙ c.if-not-can_open.false) refl)
+    (began max_node c.args.nodes (sym c.can_open.ensures ∙ c.if-not-can_open.false) refl)
