@@ -250,6 +250,14 @@ impl<M: Machine> Group<M> {
         self.told.least_but_one(members)
     }
 
+    /// Returns the greatest number that a member may have, 15.
+    pub fn greatest(&self) -> u8
+        ensures is { result ≡ self.now.moment.master.greatest }
+        ensures bound { result ≡ max_node }
+    {
+        self.master.greatest()
+    }
+
     /// Returns all messages that were sent, each with its receiver: message number n is at index n.
     /// Node 0 is the master.
     pub fn sent(&self) -> &[(u8, Message<M::Command>)]

@@ -180,6 +180,14 @@ impl Master {
         }
     }
 
+    /// Returns the greatest number that a member may have.
+    pub fn greatest(&self) -> u8
+        ensures is { result ≡ self.now.greatest }
+        ensures bound { result ≤ MAX_NUMBER }
+    {
+        self.greatest
+    }
+
     /// Returns the active ballot and its members.
     pub fn active(&self) -> (u64, &[u8])
         ensures ballot { result.0 ≡ self.now.active }
