@@ -6,7 +6,7 @@
 pub use crate::node_connections::{Connection, ConnectionStage, Handed, Piece, Port, Standing};
 pub use crate::node_core::{Item, NodeCore};
 pub use ballot_base::errors::{OpeningError, ProposeError};
-pub use ballot_base::{Body, Config, Effect, MAX_NODE, Members, Message, Status};
+pub use ballot_base::{Body, Config, Effect, MAX_NODE, MAX_NUMBER, Members, Message, Status};
 pub use broker::BrokerMachine;
 pub use broker_spec::{Command, ConnectionName, Output};
 pub use machine::Memory;

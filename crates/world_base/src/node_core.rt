@@ -11,4 +11,4 @@ mod theorems;
 
 pub use item::Item;
 pub use node_core::NodeCore;
-pub use theorems::{a_gap_is_closed, proposals_are_steps};
+pub use theorems::{a_gap_is_closed, proposals_are_steps, stranger_nodes_open_alike};

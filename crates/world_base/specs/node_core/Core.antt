@@ -1,5 +1,5 @@
 -- A node: one replica of the broker with its connections, and how it opens.
-use Rattle.std.specs.Prelude.{ℕ, Bool, List, []}
+use Rattle.std.specs.Prelude.{◌≡◌, ℕ, Bool, List, []}
 use Rattle.machine.specs.Machine.{Rules}
 use Rattle.broker_base.specs.State.{State}
 use Rattle.broker_spec.specs.Connection.{ConnectionName}
@@ -9,6 +9,7 @@ use Rattle.broker_base.specs.form.BrokerRules.{broker_rules}
 use Rattle.ballot_base.specs.declared.config.Config.{Config}
 use Rattle.ballot_base.specs.declared.message.Effect.{Effect}
 use Rattle.ballot_base.specs.Replica.{CountedReplica, opening, serves_in_role}
+use Rattle.ballot_base.specs.Theorems.{IsStranger}
 use Rattle.world_base.specs.declared.node_connections.connection.Connection.{Connection}
 
 -- what a node keeps; its connections are in the order in which they were opened
@@ -40,6 +41,12 @@ opening_core id config =
       last_name = record { ballot = 0; count = 0 };
       connections = [];
     }
+
+-- a node opens alike in any two configurations that do not name it
+abbrev pub StrangerNodesOpenAlike : Type 0
+StrangerNodesOpenAlike =
+    (id : ℕ) (config other : Config) → IsStranger id config → IsStranger id other →
+    opening_core id config ≡ opening_core id other
 
 -- a node serves clients while its replica is the active primary and has not stopped
 abbrev pub serves : CoreState → Bool

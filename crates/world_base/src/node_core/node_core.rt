@@ -15,7 +15,7 @@
 
 ghost use Rattle.std.specs.Prelude.{◌≡◌, ◌≤◌, ◌↔◌, ◌++◌, false, not, [], IfOk, IsOk, IsErrOf, OnErr, OnOk};
 ghost use Rattle.std.specs.Option.{is_some};
-ghost use Rattle.ballot_base.specs.LawfulConfig.{is_lawful};
+ghost use Rattle.ballot_base.specs.LawfulConfig.{is_lawful, max_node};
 ghost use Rattle.ballot_base.specs.Compaction.{can_cut};
 ghost use Rattle.ballot_base.specs.Logs.{places};
 ghost use Rattle.ballot_base.specs.Replica.{status_of};
@@ -33,7 +33,7 @@ use crate::node_connections::{Handed, Port, Standing, has_port, push_idle};
 use crate::node_core::item::Item;
 use crate::node_core::stepping_node::SteppingNode;
 use ballot_base::errors::OpeningError;
-use ballot_base::{Config, Effect, MAX_NODE, MAX_PLACES, Message, Status, counted};
+use ballot_base::{Config, Effect, MAX_NODE, MAX_NUMBER, MAX_PLACES, Message, Status, counted};
 use broker_spec::{Command, Output};
 use machine::Memory;
 use std::alloc::Global;
@@ -72,10 +72,29 @@ impl NodeCore {
         ensures ok { IfOk result (λ node.
             node ≡ record { core = opening_core id config.now; losses = 0 }) }
         ensures bad { IsErrOf result OpeningError.BadMembers
-            ↔ (is_lawful config.now.members config.now.primary ≡ false) }
+            ↔ (is_lawful max_node config.now.members config.now.primary ≡ false) }
+    {
+        NodeCore::up_to(alloc, MAX_NODE, id, config)
+    }
+
+    /// Opens node `id` in ballot 1, as [`NodeCore::new`], where numbers of nodes go up to
+    /// `greatest`.
+    pub fn up_to(
+        alloc: Global,
+        greatest: u8,
+        id: u8,
+        config: &Config,
+    ) -> Result<NodeCore, OpeningError>
+        requires low { 1 ≤ id }
+        requires high { id ≤ greatest }
+        requires bound { greatest ≤ MAX_NUMBER }
+        ensures ok { IfOk result (λ node.
+            node ≡ record { core = opening_core id config.now; losses = 0 }) }
+        ensures bad { IsErrOf result OpeningError.BadMembers
+            ↔ (is_lawful greatest config.now.members config.now.primary ≡ false) }
     {
         Ok(NodeCore {
-            stepping: SteppingNode::new(alloc, id, config)?,
+            stepping: SteppingNode::up_to(alloc, greatest, id, config)?,
             losses: 0,
         })
     }

@@ -28,7 +28,7 @@ use crate::node_connections::{
 };
 use ballot::Replica;
 use ballot_base::errors::OpeningError;
-use ballot_base::{Config, MAX_NODE};
+use ballot_base::{Config, MAX_NUMBER};
 use broker::BrokerMachine;
 use broker_spec::ConnectionName;
 use packet::Packet;
@@ -86,16 +86,22 @@ impl Model for SteppingNode {
 }
 
 impl SteppingNode {
-    /// Opens node `id` in ballot 1, without connections.
-    pub(crate) fn new(alloc: Global, id: u8, config: &Config) -> Result<SteppingNode, OpeningError>
+    /// Opens node `id` in ballot 1, where numbers of nodes go up to `greatest`, without connections.
+    pub(crate) fn up_to(
+        alloc: Global,
+        greatest: u8,
+        id: u8,
+        config: &Config,
+    ) -> Result<SteppingNode, OpeningError>
         requires low { 1 ≤ id }
-        requires high { id ≤ MAX_NODE }
+        requires high { id ≤ greatest }
+        requires bound { greatest ≤ MAX_NUMBER }
         ensures ok { IfOk result (λ stepping.
             stepping ≡ record { core = opening_core id config.now; has_lost = false }) }
         ensures bad { IsErrOf result OpeningError.BadMembers
-            ↔ (is_lawful config.now.members config.now.primary ≡ false) }
+            ↔ (is_lawful greatest config.now.members config.now.primary ≡ false) }
     {
-        let replica = Replica::new(alloc, id, config)?;
+        let replica = Replica::up_to(alloc, greatest, id, config)?;
         Ok(SteppingNode {
             alloc,
             replica,

@@ -1,6 +1,8 @@
-// Theorems about steps in which memory may run out: the contracts of functions with an empty body.
+// Theorems about nodes as they open, and about steps in which memory may run out: the contracts of
+// functions with an empty body.
 
 ghost use Rattle.world_base.specs.node_core.ConnectionSteps.{AGapIsClosed};
+ghost use Rattle.world_base.specs.node_core.Core.{StrangerNodesOpenAlike};
 ghost use Rattle.world_base.specs.node_core.LossyProposals.{ProposalsAreSteps};
 
 /// States that in each step of a node, also one in which memory ran out, a connection keeps its
@@ -16,4 +18,9 @@ pub fn a_gap_is_closed()
 /// that replica, exact or with losses, and its effects are done at once.
 pub fn proposals_are_steps()
     ensures { ProposalsAreSteps }
+{}
+
+/// States that a node opens alike in any two configurations that do not name it.
+pub fn stranger_nodes_open_alike()
+    ensures { StrangerNodesOpenAlike }
 {}

@@ -1,6 +1,6 @@
 // What comes to a node, and what it sends.
 
-use ballot_base::{Body, Config, Effect, Members, Message};
+use ballot_base::{Body, Config, Effect, MAX_NUMBER, Members, Message};
 use broker_spec::{Command, ConnectionName, Output};
 use std::alloc::Global;
 use world_base::node_connections::{Handed, Piece, Port};
@@ -28,14 +28,15 @@ pub const PRESENT: &[u8] = &[0x20, 0x02, 0x01, 0x00];
 /// No bytes.
 pub const NOTHING: &[u8] = &[];
 
-/// Returns this node in ballot 1 with these members, whose primary is node 1.
+/// Returns this node in ballot 1 with these members, whose primary is node 1. Numbers of nodes go
+/// up to 254.
 pub fn node_of(alloc: Global, number: u8, members: &[u8]) -> Option<NodeCore> {
     let config = Config {
         members: Members::from_slice(alloc, members).ok()?,
         primary: 1,
     };
     match number {
-        1..=15 => NodeCore::new(alloc, number, &config).ok(),
+        1..=MAX_NUMBER => NodeCore::up_to(alloc, MAX_NUMBER, number, &config).ok(),
         _ => None,
     }
 }
