@@ -38,18 +38,19 @@ opens_beside cs =
       same = map_twice model.new_client ends_alone cs ∙ sym (map_twice new_client pipes_alone cs);
     }
 
-opens_so : (nodes : ℕ) (config : Config) (cs : List Client) → ClientsAreApart cs → (can : can_open nodes config ≡ true) → GoesBeside nodes config cs (opening nodes config cs) (opened can)
-opens_so nodes config cs apart can =
-    let so = carried_at_first nodes config can in
-    let holds = opens_hold nodes config cs (opened can) (λ x. (refl, refl)) in
-    let piped : Each HasAllPipes (opening nodes config cs).clients = each_of_made new_client HasAllPipes cs (each_by (λ c. HasAllPipes (new_client c)) cs (λ i c at. refl)) in
+opens_so : (greatest nodes : ℕ) (config : Config) (cs : List Client) → ClientsAreApart cs → (can : can_open greatest nodes config ≡ true)
+    → GoesBeside nodes config cs (opening greatest nodes config cs) (opened greatest can)
+opens_so greatest nodes config cs apart can =
+    let so = carried_at_first greatest nodes config can in
+    let holds = opens_hold greatest nodes config cs (opened greatest can) (λ x. (refl, refl)) in
+    let piped : Each HasAllPipes (opening greatest nodes config cs).clients = each_of_made new_client HasAllPipes cs (each_by (λ c. HasAllPipes (new_client c)) cs (λ i c at. refl)) in
     record {
       holds = holds;
       piped = piped;
       so = so;
       beside = λ agreed is.
-          grows_beside cs apart [] agreed (clients_alone (opening nodes config cs)) (opens_beside cs) (record { rest = agreed; is = refl })
-          (is_of_written (opening nodes config cs) (opened can) holds piped so agreed is);
+          grows_beside cs apart [] agreed (clients_alone (opening greatest nodes config cs)) (opens_beside cs) (record { rest = agreed; is = refl })
+          (is_of_written (opening greatest nodes config cs) (opened greatest can) holds piped so agreed is);
     }
 
 -- ---- each step
@@ -70,6 +71,6 @@ step_goes apart v w went s (handles i c κ others p pipes packet left at first p
     handles_so v went i c κ others p pipes packet left s at first piped is_open cut holds
 
 pub goes_beside : {nodes : ℕ} {config : Config} {cs : List Client} → ClientsAreApart cs → (w : ByteWorld) (trail : Reached nodes config cs w) → GoesBeside nodes config cs w (trace_of trail)
-goes_beside {nodes = nodes} {config = config} {cs = cs} apart w (begins can) = opens_so nodes config cs apart can
+goes_beside {nodes = nodes} {config = config} {cs = cs} apart w (begins greatest can) = opens_so greatest nodes config cs apart can
 goes_beside apart w (goes_on {old = v} before step) =
     let s = goes_beside apart v before in step_goes apart v w (trace_of before) s step (step_holds v w (trace_of before) s.holds step)

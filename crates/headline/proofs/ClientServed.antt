@@ -11,6 +11,7 @@ use Rattle.client_base.specs.Keeper.{Keeper, new_keeper}
 use Rattle.exactly_once.specs.Rows.{writer}
 use Rattle.broker_spec.specs.Connection.{first_connection}
 use Rattle.exactly_once.specs.Sides.{ClientConnection}
+use Rattle.ballot_base.specs.LawfulConfig.{max_node}
 use Rattle.world_base.specs.declared.node_core.item.Item.TheVariants.{Opened}
 use Rattle.world_base.specs.node_connections.Connections.{fresh}
 use Rattle.headline.specs.node_group.Group.{opening_group}
@@ -52,8 +53,8 @@ connection_served = record its_connection { handled = 1; confirmed = true }
 
 row_opens : Row core_opened (client_with keeper_opens its_connection (pipe_with (spelled (packets_of its_connection.written)) [] []))
 row_opens =
-    let opened : Reached 1 one_node (writer ∷ []) _ = begins refl in
-    let t = turned (opening_group 1 one_node) 0 (takes (Opened the_port 0)) core_at_first core_opened refl tt it_opens in
+    let opened : Reached 1 one_node (writer ∷ []) _ = begins max_node refl in
+    let t = turned (opening_group max_node 1 one_node) 0 (takes (Opened the_port 0)) core_at_first core_opened refl tt it_opens in
     record {
       group = t.does.after;
       trail = goes_on opened (connects 0 0 (new_client writer) the_port 0 t.does core_opened (fresh the_port first_connection) refl refl t.stands refl connect_whole);

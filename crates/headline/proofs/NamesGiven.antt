@@ -96,7 +96,7 @@ step_named g h (assigns_unheard wanted) all = all
 step_named g h (answers_unheard from ballot sent) all = all
 
 all_named : {nodes : ℕ} {config : Config} (g : Group) → GroupTrace nodes config g → Each AreNamed g.nodes
-all_named {nodes = nodes} {config = config} g (opened can) =
+all_named {nodes = nodes} {config = config} g (opened greatest can) =
     each_then (λ (core : CoreState). core.connections ≡ []) AreNamed (opening_cores nodes config) (λ core none. subst (Each IsNamed) (sym none) tt) (no_connections nodes config)
 all_named h (then_went {group = g} went step) = step_named g h step (all_named g went)
 
@@ -107,7 +107,7 @@ name_fits e x n has all =
 
 -- a name that a node had at any time
 pub names_fit : {nodes : ℕ} {config : Config} {g : Group} (went : GroupTrace nodes config g) (x : ConnectionName) (e : Group) (n : ℕ) → In e (groups_on_trace went) → HasName x e n → IsConnectionName x
-names_fit {g = g} (opened can) x e n here has = name_fits g x n has (all_named g (opened can))
-names_fit (opened can) x e n (there i) has = elim i [ ]
+names_fit {g = g} (opened greatest can) x e n here has = name_fits g x n has (all_named g (opened greatest can))
+names_fit (opened greatest can) x e n (there i) has = elim i [ ]
 names_fit {g = h} (then_went went step) x e n here has = name_fits h x n has (all_named h (then_went went step))
 names_fit (then_went went step) x e n (there i) has = names_fit went x e n i has

@@ -149,6 +149,6 @@ none_published cs i c at =
 -- what a client published is what the steps on the way say about it
 pub own_published : {nodes : ℕ} {config : Config} {cs : List Client} → ClientsAreApart cs → (w : ByteWorld) (trail : Reached nodes config cs w) (i : ℕ) (c : ClientPipes)
     → slice_get w.clients i ≡ Some c → own_publications (all_own c.keeper) ≡ published_of i (published_on_way trail)
-own_published {cs = cs} apart w (begins can) i c at = none_published cs i c at
+own_published {cs = cs} apart w (begins greatest can) i c at = none_published cs i c at
 own_published apart w (goes_on {old = v} before step) i c at =
     step_says apart v w (trace_of before) (goes_beside apart v before) (published_on_way before) (own_published apart v before) step i c at

@@ -53,5 +53,5 @@ step_begins v w each (handles i c κ others p pipes packet left at are piped is_
     each_set AllBeginKept v.clients i _ each (begins_still κ _ grown.more grown.written mine.0, mine.1)
 
 pub all_begin_kept : {nodes : ℕ} {config : Config} {cs : List Client} (w : ByteWorld) → Reached nodes config cs w → Each AllBeginKept w.clients
-all_begin_kept {cs = cs} w (begins can) = new_clients cs
+all_begin_kept {cs = cs} w (begins greatest can) = new_clients cs
 all_begin_kept w (goes_on {old = v} before step) = step_begins v w (all_begin_kept v before) step

@@ -132,8 +132,8 @@ record SoFar {nodes : ℕ} {config : Config} {g : Group} (went : GroupTrace node
   ever : (e : Group) → In e (groups_on_trace went) → AreLed e (moment_of_nodes g ∷ earlier)
 
 names_so_far : {nodes : ℕ} {config : Config} {g : Group} (went : GroupTrace nodes config g) → SoFar went
-names_so_far {nodes = nodes} {config = config} {g = g} (opened can) =
-    let of = groups_have_moments nodes config g (opened can) in
+names_so_far {nodes = nodes} {config = config} {g = g} (opened greatest can) =
+    let of = groups_have_moments nodes config g (opened greatest can) in
     record { earlier = of.earlier; moments = of.moments; now = none (moment_of_nodes g ∷ of.earlier); ever = λ e i. only e i (moment_of_nodes g ∷ of.earlier) }
   where
     none : (moments : List (Moment State Command Output)) → AreLed g moments

@@ -39,9 +39,9 @@ opens_bare (d ∷ cs) zero c j κ e f = nowhere j (ap (λ (z : ClientPipes). sli
     nowhere k g = cc
 opens_bare (d ∷ cs) (suc i) c j κ e f = opens_bare cs i c j κ e f
 
-pub opens_hold : (nodes : ℕ) (config : Config) (cs : List Client) (went : GroupTrace nodes config (opening nodes config cs).group) → ((x : ConnectionName) → (came_up x went ≡ []) × (went_down x went ≡ []))
-    → Holds (opening nodes config cs) went
-opens_hold nodes config cs went silent =
+pub opens_hold : (greatest nodes : ℕ) (config : Config) (cs : List Client) (went : GroupTrace nodes config (opening greatest nodes config cs).group) → ((x : ConnectionName) → (came_up x went ≡ []) × (went_down x went ≡ []))
+    → Holds (opening greatest nodes config cs) went
+opens_hold greatest nodes config cs went silent =
     record {
       each = λ i c j κ p has. absurd (opens_bare cs i c j κ has.client has.connection);
       one = λ i c j κ p k d l μ q has other same. absurd (opens_bare cs i c j κ has.client has.connection);
@@ -74,7 +74,7 @@ step_holds v w went h (handles i c κ others p pipes packet left at first piped 
     handles_hold v went i c κ others p pipes packet left at first piped cut spelled h
 
 pub reached_holds : {nodes : ℕ} {config : Config} {cs : List Client} (w : ByteWorld) (trail : Reached nodes config cs w) → Holds w (trace_of trail)
-reached_holds {nodes = nodes} {config = config} {cs = cs} w (begins can) = opens_hold nodes config cs (opened can) (λ x. (refl, refl))
+reached_holds {nodes = nodes} {config = config} {cs = cs} w (begins greatest can) = opens_hold greatest nodes config cs (opened greatest can) (λ x. (refl, refl))
 reached_holds w (goes_on {old = v} before step) = step_holds v w (trace_of before) (reached_holds v before) step
 
 -- ---- the law

@@ -136,10 +136,11 @@ pub record CarriedOn {nodes : ℕ} {config : Config} {g h : Group} {went : Group
   pub now : CarriedSo (then_went went step)
   pub grows : (xs ys : List Command) → IsAgreedSo before xs → IsAgreedSo now ys → IsPrefixOf xs ys
 
-pub carried_at_first : (nodes : ℕ) (config : Config) (can : can_open nodes config ≡ true) → CarriedSo (let went : GroupTrace nodes config (opening_group nodes config) = opened can in went)
-carried_at_first nodes config can =
+pub carried_at_first : (greatest nodes : ℕ) (config : Config) (can : can_open greatest nodes config ≡ true)
+    → CarriedSo (let went : GroupTrace nodes config (opening_group greatest nodes config) = opened greatest can in went)
+carried_at_first greatest nodes config can =
     record {
-      of = groups_have_moments nodes config (opening_group nodes config) (opened can);
+      of = groups_have_moments nodes config (opening_group greatest nodes config) (opened greatest can);
       good = λ x written later joined agreed is.
           inl (record {
             nowhere = λ n core at. ap (find (named x)) (each_got (λ (c : CoreState). c.connections ≡ []) (opening_cores nodes config) n core (no_connections nodes config) at);
@@ -172,7 +173,7 @@ carried_on {nodes = nodes} {config = config} g h went before step =
 
 -- the same holds for all steps
 pub carried_so : {nodes : ℕ} {config : Config} {g : Group} (went : GroupTrace nodes config g) → CarriedSo went
-carried_so {nodes = nodes} {config = config} (opened can) = carried_at_first nodes config can
+carried_so {nodes = nodes} {config = config} (opened greatest can) = carried_at_first greatest nodes config can
 carried_so {g = h} (then_went {group = g} went step) = (carried_on g h went (carried_so went) step).now
 
 -- ---- what it says

@@ -31,9 +31,9 @@ use Rattle.headline.proofs.of_node_group.Thinning.{all_kept}
 abbrev at_moment : MasterState → CutGroupWorld State Command Output → Moment State Command Output
 at_moment m w = record { master = m; world = w }
 
-opens_as : (nodes : ℕ) (config : Config) → moment_of_nodes (opening_group nodes config) ≡ opening_moment rules nodes config
-opens_as nodes config =
-    ap (λ l. at_moment (opening_master config) (let w : CutGroupWorld State Command Output = record { nodes = l; sent = []; left = []; archive = [] } in w)) (opened_replicas nodes config)
+opens_as : (greatest nodes : ℕ) (config : Config) → moment_of_nodes (opening_group greatest nodes config) ≡ opening_moment rules greatest nodes config
+opens_as greatest nodes config =
+    ap (λ l. at_moment (opening_master greatest config) (let w : CutGroupWorld State Command Output = record { nodes = l; sent = []; left = []; archive = [] } in w)) (opened_replicas nodes config)
 
 assigned_as : (g : Group) (config : Config) (why : Option AssignRefusal)
     → at_moment (master_after g.master config why) (world_after g.master (moment_of_nodes g).world config why)
@@ -64,7 +64,8 @@ seen_still [] kept all = tt
 seen_still (h ∷ groups) kept all = (kept (moment_of_nodes h) all.0, seen_still groups kept all.1)
 
 pub groups_have_moments : GroupsHaveMoments
-groups_have_moments nodes config g (opened can) = record { earlier = []; moments = began nodes can (opens_as nodes config); proposed = refl; taken = λ x. refl; seen = (here, tt) }
+groups_have_moments nodes config g (opened greatest can) =
+    record { earlier = []; moments = began greatest nodes can (opens_as greatest nodes config); proposed = refl; taken = λ x. refl; seen = (here, tt) }
 groups_have_moments nodes config h (then_went {group = g} went step) =
     let so_far = groups_have_moments nodes config g went in
     let further = goes_on config g h step so_far.earlier so_far.moments in

@@ -129,7 +129,7 @@ steps_well g h (assigns_unheard config) well = record { nodes = well; puts = tt 
 steps_well g h (answers_unheard from ballot sent) well = record { nodes = well; puts = tt }
 
 pub all_well : (nodes : ℕ) (config : Config) (g : Group) (went : GroupTrace nodes config g) → Each IsWell g.nodes × Each IsInItsBallot (all_proposed went)
-all_well nodes config g (opened can) = (opening_well nodes config, tt)
+all_well nodes config g (opened greatest can) = (opening_well nodes config, tt)
 all_well nodes config h (then_went {group = g} went step) =
     let before = all_well nodes config g went in
     let now = steps_well g h step before.0 in

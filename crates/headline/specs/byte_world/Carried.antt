@@ -30,7 +30,7 @@ went_on went
 -- the steps of the group of a world on this way to it
 abbrev pub trace_of : {nodes : ℕ} {config : Config} {clients : List Client} {world : ByteWorld} →
     Reached nodes config clients world → GroupTrace nodes config world.group
-trace_of (begins can) = opened can
+trace_of (begins greatest can) = opened greatest can
 trace_of (goes_on before step) = went_on (trace_of before) step
 
 -- on each way to a world, each connection carries its packets in order in the steps of the world's

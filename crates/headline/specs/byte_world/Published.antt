@@ -47,7 +47,7 @@ published_in_step
 abbrev pub published_on_way :
     {nodes : ℕ} {config : Config} {clients : List Client} {world : ByteWorld} →
     Reached nodes config clients world → List (ℕ × Publication)
-published_on_way (begins can) = []
+published_on_way (begins greatest can) = []
 published_on_way (goes_on before step) = published_on_way before ++ published_in_step step
 
 -- the publications of the client at this index

@@ -99,8 +99,8 @@ pub data ByteWorldStep (world : ByteWorld) : ByteWorld → Type 0 where
 -- the worlds that are reached with this many nodes, a configuration at first, and these clients
 pub data Reached (nodes : ℕ) (config : Config) (clients : List Client) : ByteWorld → Type 0 where
   -- the world opens
-  begins : can_open nodes config ≡ true →
-      Reached nodes config clients (opening nodes config clients)
+  begins : (greatest : ℕ) → can_open greatest nodes config ≡ true →
+      Reached nodes config clients (opening greatest nodes config clients)
   -- one more step
   goes_on : {old new : ByteWorld} → Reached nodes config clients old → ByteWorldStep old new →
       Reached nodes config clients new

@@ -37,10 +37,10 @@ pub record ByteWorld : Type 0 where
 abbrev pub new_client : Client → ClientPipes
 new_client client = record { keeper = new_keeper client; connections = []; pipes = [] }
 
--- a group as it opens, and clients without connections
-abbrev pub opening : ℕ → Config → List Client → ByteWorld
-opening nodes config clients =
-    record { group = opening_group nodes config; clients = map new_client clients }
+-- a group as it opens, with numbers up to a greatest one, and clients without connections
+abbrev pub opening : ℕ → ℕ → Config → List Client → ByteWorld
+opening greatest nodes config clients =
+    record { group = opening_group greatest nodes config; clients = map new_client clients }
 
 -- ---- places
 

@@ -32,11 +32,11 @@ opening_cores zero config = []
 opening_cores (suc count) config =
     opening_cores count config ++ opening_core (count + 1) config ∷ []
 
--- no message was sent yet, and nothing was recorded
-abbrev pub opening_group : ℕ → Config → Group
-opening_group nodes config =
+-- members may have numbers up to a greatest one, no message was sent yet, and nothing was recorded
+abbrev pub opening_group : ℕ → ℕ → Config → Group
+opening_group greatest nodes config =
     record {
-      master = opening_master config;
+      master = opening_master greatest config;
       nodes = opening_cores nodes config;
       sent = [];
       left = [];

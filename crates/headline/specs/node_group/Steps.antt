@@ -72,8 +72,9 @@ pub data GroupStep (group : Group) : Group → Type 0 where
 
 -- all steps of a group of this many nodes, from its opening in a configuration on
 pub data GroupTrace (nodes : ℕ) (config : Config) : Group → Type 0 where
-  -- the group opens
-  opened : can_open nodes config ≡ true → GroupTrace nodes config (opening_group nodes config)
+  -- the group opens; its nodes have numbers up to any greatest one
+  opened : (greatest : ℕ) → can_open greatest nodes config ≡ true →
+      GroupTrace nodes config (opening_group greatest nodes config)
   -- one more step
   then_went : {group next : Group} → GroupTrace nodes config group → GroupStep group next →
       GroupTrace nodes config next
@@ -91,11 +92,11 @@ put_in_step (answers_unheard from ballot sent) = []
 -- the commands that were proposed in all steps, each with its ballot, the oldest first
 abbrev pub all_proposed : {nodes : ℕ} {config : Config} {group : Group} →
     GroupTrace nodes config group → List (ℕ × Command)
-all_proposed (opened can) = []
+all_proposed (opened greatest can) = []
 all_proposed (then_went went step) = all_proposed went ++ put_in_step step
 
 -- the group as it opened and after each step, the newest first
 abbrev pub groups_on_trace : {nodes : ℕ} {config : Config} {group : Group} →
     GroupTrace nodes config group → List Group
-groups_on_trace {group = group} (opened can) = group ∷ []
+groups_on_trace {group = group} (opened greatest can) = group ∷ []
 groups_on_trace {group = group} (then_went went step) = group ∷ groups_on_trace went

@@ -32,7 +32,7 @@ comes_up connection (answers_unheard from ballot sent) = []
 -- what came up on a connection in all steps, in order
 abbrev pub came_up : ConnectionName → {nodes : ℕ} {config : Config} {group : Group} →
     GroupTrace nodes config group → List ℕ
-came_up connection (opened can) = []
+came_up connection (opened greatest can) = []
 came_up connection (then_went went step) = came_up connection went ++ comes_up connection step
 
 -- ---- down
@@ -70,5 +70,5 @@ goes_down connection (answers_unheard from ballot sent) = []
 -- what went down on a connection in all steps, in order
 abbrev pub went_down : ConnectionName → {nodes : ℕ} {config : Config} {group : Group} →
     GroupTrace nodes config group → List ℕ
-went_down connection (opened can) = []
+went_down connection (opened greatest can) = []
 went_down connection (then_went went step) = went_down connection went ++ goes_down connection step

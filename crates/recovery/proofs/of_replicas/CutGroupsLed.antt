@@ -140,7 +140,7 @@ module _ {S C O : Type 0} (rules : Rules S C O) (silent : StartsGiveNothing rule
       (what_all_hold_is_agreed rules config (whole_moment w.end) q.earlier q.kept.came new.primary longer (others new.primary new.members)
       (record {
         primary_serves = subst (λ b. NodeIs (LeadsWhole b longer (others new.primary new.members)) (whole_moment w.end).world.nodes new.primary) (sym led.active) led.primary;
-        member = subst (λ ms. In new.primary ms) (sym led.members) (lawful_is new (not_refused a.master new can.granted).0).0;
+        member = subst (λ ms. In new.primary ms) (sym led.members) (lawful_is a.master.greatest new (not_refused a.master new can.granted).0).0;
         all_named = λ m i ne. others_of m (subst (λ ms. In m ms) led.members i) ne;
         told = λ m i. subst (λ (us : List (ℕ × WholeMessage C)). In (new.primary, record { from = m; body = Held (whole_moment w.end).master.active (length longer) }) us) (sym w.like.sent)
             (subst (λ b. In (new.primary, record { from = m; body = Held b (length longer) }) out.last.world.sent) (sym led.active)

@@ -27,17 +27,17 @@ use Rattle.recovery.proofs.of_replicas.Ways.{IsOut, is_out, recovery_messages_co
 
 module _ {S C O : Type 0} (rules : Rules S C O) (silent : StartsGiveNothing rules) (config : Config) (a : Moment S C O) (moments : List (Moment S C O))
     (came : Moments rules config (a ∷ moments)) (new : Config) (index source : ℕ) (log : List C) (can : CanBeLed a new index source log) where
-  lawful : is_lawful new.members new.primary ≡ true
+  lawful : is_lawful a.master.greatest new.members new.primary ≡ true
   lawful = (not_refused a.master new can.granted).0
 
   led : In new.primary new.members
-  led = (lawful_is new lawful).0
+  led = (lawful_is a.master.greatest new lawful).0
 
   first : NodeIs IsRunning a.world.nodes new.primary
   first = can.live new.primary led
 
   count : length (others new.primary new.members) ≡ length new.members - 1
-  count = let z = others_count new.primary new.members led (lawful_apart new lawful) in omega (arith, z)
+  count = let z = others_count new.primary new.members led (lawful_apart a.master.greatest new lawful) in omega (arith, z)
 
   gives_log : NodeIs (RunsWith log) a.world.nodes source
   gives_log = can.gives
@@ -55,7 +55,7 @@ module _ {S C O : Type 0} (rules : Rules S C O) (silent : StartsGiveNothing rule
   out_is =
       is_out rules silent a first.index gives_log.index index first.replica gives_log.replica (others new.primary new.members) log new
       first.number (λ i. not_others new.primary new.members new.primary (subst (λ m. In m (others new.primary new.members)) (sym first.number) i) refl)
-      (others_apart new.primary new.members (lawful_apart new lawful)) (ap (λ m. others m new.members) (sym first.number))
+      (others_apart new.primary new.members (lawful_apart a.master.greatest new lawful)) (ap (λ m. others m new.members) (sym first.number))
       first.stands (joined_below rules config a moments came first.index first.replica first.stands) (takes first.index first.replica first.stands first.is.runs)
       gives_log.stands (subst (λ (l : List C). CanGive (a.master.given + 1) a.master.active l (gives_log.index + 1) gives_log.replica) gives_log.is.log_is
       (can_give rules config a moments came gives_log.index gives_log.replica gives_log.stands asked_member gives_log.is.runs))
@@ -109,7 +109,7 @@ module _ {S C O : Type 0} (rules : Rules S C O) (silent : StartsGiveNothing rule
           one_more = length-append log (rules.start_of (a.master.given + 1) ∷ [])
 
           whole : length (others new.primary new.members) + 1 ≡ length new.members
-          whole = others_count new.primary new.members led (lawful_apart new lawful)
+          whole = others_count new.primary new.members led (lawful_apart a.master.greatest new lawful)
 
           goes : Goes rules config (a ∷ moments) o.after
           goes = deliveries_go rules config (a ∷ moments) o.delivered (assign_goes rules config a moments new came can.granted)

@@ -13,27 +13,27 @@ use Rattle.recovery.specs.replicas.Deliveries.{NumbersAreApart}
 use Rattle.recovery.proofs.of_replicas.Rows.{others_none}
 
 -- each member is above what comes before it
-above : (last : ℕ) (ms : List ℕ) (m : ℕ) → are_rising last ms ≡ true → In m ms → last < m
-above last [] m rising i = elim i [ ]
-above last (x ∷ ms) m rising here =
-    let a = and_parts (nat_lt last m && nat_le m 15) (are_rising m ms) rising in
-    let b = and_parts (nat_lt last m) (nat_le m 15) a.0 in ltb-true last m b.0
-above last (x ∷ ms) m rising (there i) =
-    let a = and_parts (nat_lt last x && nat_le x 15) (are_rising x ms) rising in
-    let b = and_parts (nat_lt last x) (nat_le x 15) a.0 in
-    let c = ltb-true last x b.0 in let d = above x ms m a.1 i in omega (arith, c, d)
+above : (greatest last : ℕ) (ms : List ℕ) (m : ℕ) → are_rising greatest last ms ≡ true → In m ms → last < m
+above greatest last [] m rising i = elim i [ ]
+above greatest last (x ∷ ms) m rising here =
+    let a = and_parts (nat_lt last m && nat_le m greatest) (are_rising greatest m ms) rising in
+    let b = and_parts (nat_lt last m) (nat_le m greatest) a.0 in ltb-true last m b.0
+above greatest last (x ∷ ms) m rising (there i) =
+    let a = and_parts (nat_lt last x && nat_le x greatest) (are_rising greatest x ms) rising in
+    let b = and_parts (nat_lt last x) (nat_le x greatest) a.0 in
+    let c = ltb-true last x b.0 in let d = above greatest x ms m a.1 i in omega (arith, c, d)
 
 -- numbers that rise are apart
-pub rising_apart : (last : ℕ) (ms : List ℕ) → are_rising last ms ≡ true → NumbersAreApart ms
-rising_apart last [] rising = tt
-rising_apart last (x ∷ ms) rising =
-    let a = and_parts (nat_lt last x && nat_le x 15) (are_rising x ms) rising in
-    (λ i. let z = above x ms x a.1 i in omega (arith, z), rising_apart x ms a.1)
+pub rising_apart : (greatest last : ℕ) (ms : List ℕ) → are_rising greatest last ms ≡ true → NumbersAreApart ms
+rising_apart greatest last [] rising = tt
+rising_apart greatest last (x ∷ ms) rising =
+    let a = and_parts (nat_lt last x && nat_le x greatest) (are_rising greatest x ms) rising in
+    (λ i. let z = above greatest x ms x a.1 i in omega (arith, z), rising_apart greatest x ms a.1)
 
 -- those of a lawful configuration rise
-pub lawful_apart : (config : Config) → is_lawful config.members config.primary ≡ true → NumbersAreApart config.members
-lawful_apart config lawful =
-    rising_apart 0 config.members (and_parts (are_rising 0 config.members)
+pub lawful_apart : (greatest : ℕ) (config : Config) → is_lawful greatest config.members config.primary ≡ true → NumbersAreApart config.members
+lawful_apart greatest config lawful =
+    rising_apart greatest 0 config.members (and_parts (are_rising greatest 0 config.members)
     (nat_le 1 (length config.members) && (nat_le (length config.members) 7 && list_any (λ member. member == config.primary) config.members)) lawful).0
 
 -- without one of them they are apart
