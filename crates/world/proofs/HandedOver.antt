@@ -21,7 +21,7 @@ use Rattle.world.proofs.ComesUp.{takes_up}
 use Rattle.world.proofs.GoesDown.{put_down, puts_down}
 use Rattle.world.proofs.Joined.{goes_on_rest}
 use Rattle.world_pipes.proofs.of_clients.LeadsKept.{led_there}
-use Rattle.world_pipes.proofs.of_clients.Turned.{set_itself, there}
+use Rattle.world_pipes.proofs.of_clients.Turned.{set_itself}
 
 -- nothing is changed but the nodes
 same_client : (old : WorldState) (i : ℕ) (client : WorldClient) (new : NodesState) (later : Piped) → slice_get old.clients i ≡ Some client → later ≡ client.piped

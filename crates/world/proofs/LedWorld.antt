@@ -109,11 +109,11 @@ module _ (config : Config) (g : Group) (moments : List (Moment State Command Out
 
   -- ---- the ballot that it gives is one that there is
 
-  pub lawful : (is_lawful conf.members conf.primary ≡ true) × (w.nodes.master.given < max_ballot)
-  lawful = by (is_lawful conf.members conf.primary) (nat_le max_ballot w.nodes.master.given) refl refl possible.granted
+  pub lawful : (is_lawful w.nodes.master.greatest conf.members conf.primary ≡ true) × (w.nodes.master.given < max_ballot)
+  lawful = by (is_lawful w.nodes.master.greatest conf.members conf.primary) (nat_le max_ballot w.nodes.master.given) refl refl possible.granted
     where
-      by : (l t : Bool) → is_lawful conf.members conf.primary ≡ l → nat_le max_ballot w.nodes.master.given ≡ t →
-          (if l then (if t then Some ballots_spent else None) else Some bad_members) ≡ None → (is_lawful conf.members conf.primary ≡ true) × (w.nodes.master.given < max_ballot)
+      by : (l t : Bool) → is_lawful w.nodes.master.greatest conf.members conf.primary ≡ l → nat_le max_ballot w.nodes.master.given ≡ t →
+          (if l then (if t then Some ballots_spent else None) else Some bad_members) ≡ None → (is_lawful w.nodes.master.greatest conf.members conf.primary ≡ true) × (w.nodes.master.given < max_ballot)
       by true false e f h = (e, leb-false max_ballot w.nodes.master.given f)
       by true true e f h = cc
       by false t e f h = cc

@@ -58,10 +58,10 @@ pub record IsNewPrimary (b : Moment State Command Output) (ballot : ℕ) (log : 
 
 -- ---- the members but the first
 
-module _ (first : ℕ) (os : List ℕ) (lawful : is_lawful (first ∷ os) first ≡ true) where
+module _ (greatest first : ℕ) (os : List ℕ) (lawful : is_lawful greatest (first ∷ os) first ≡ true) where
   members_apart : NumbersAreApart (first ∷ os)
   members_apart =
-      rising_apart 0 (first ∷ os) (and_parts (are_rising 0 (first ∷ os))
+      rising_apart greatest 0 (first ∷ os) (and_parts (are_rising greatest 0 (first ∷ os))
       (nat_le 1 (length (first ∷ os)) && (nat_le (length (first ∷ os)) 7 && list_any (λ member. member == first) (first ∷ os))) lawful).0
 
   rest_apart : NumbersAreApart os
@@ -76,7 +76,7 @@ module _ (config : Config) {nodes : ℕ} {cs : List Client} (m : ByteWorld) (tra
     (moments : List (Moment State Command Output)) (came : Moments rules config (moment_of_nodes m.group ∷ moments)) (first : ℕ) (os : List ℕ) (name : Client)
     (possible : CanEscape (first ∷ os) name w) (more : List Event) (new : WorldState)
     (l : LedTo config m.group moments (first ∷ os) possible.index (whole_log_of w.nodes possible.source) more w new)
-    (lawful : is_lawful (first ∷ os) first ≡ true) (given : w.nodes.master.given < max_ballot) where
+    (lawful : is_lawful w.nodes.master.greatest (first ∷ os) first ≡ true) (given : w.nodes.master.given < max_ballot) where
   abbrev ballot : ℕ
   ballot = m.group.master.given + 1
 
@@ -87,7 +87,7 @@ module _ (config : Config) {nodes : ℕ} {cs : List Client} (m : ByteWorld) (tra
   b = l.pair.last
 
   others_are : others first (first ∷ os) ≡ os
-  others_are = others_first first os (not_among first os lawful)
+  others_are = others_first first os (not_among w.nodes.master.greatest first os lawful)
 
   primary : NodeIs (LeadsWhole ballot log os) (whole_moment b).world.nodes first
   primary = subst (λ (xs : List ℕ). NodeIs (LeadsWhole ballot log xs) (whole_moment b).world.nodes first) others_are l.pair.led.primary
@@ -163,7 +163,7 @@ module _ (config : Config) {nodes : ℕ} {cs : List Client} (m : ByteWorld) (tra
         number = number;
         node = node;
         possible = can_open;
-        apart = rest_apart first os lawful;
-        out = subst (λ (k : ℕ). In k os → ⊥) primary.number (not_among first os lawful);
+        apart = rest_apart w.nodes.master.greatest first os lawful;
+        out = subst (λ (k : ℕ). In k os → ⊥) primary.number (not_among w.nodes.master.greatest first os lawful);
         each = each;
       }

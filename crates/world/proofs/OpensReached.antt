@@ -1,6 +1,7 @@
 -- OpensReached.antt: a world in code opens as one of the model does.
 use Rattle.std.proofs.Common.{◌≡◌, ℕ, true, List, [], Some, map, slice_get, sym, ap, ◌∙◌}
 use Rattle.std.proofs.lemmas.Option.{none-some}
+use Rattle.ballot_base.specs.LawfulConfig.{max_node}
 use Rattle.ballot_base.specs.declared.config.Config.{Config}
 use Rattle.agreement.specs.World.{can_open}
 use Rattle.broker_spec.specs.Place.{Client}
@@ -45,8 +46,9 @@ housed_none clients ids all =
 
 -- ---- the world
 
-pub opens_reached : (nodes : ℕ) (config : Config) (ids : List Client) (w : WorldState) → can_open nodes config ≡ true → NodesStandFor (opening_group nodes config) w.nodes
+pub opens_reached : (nodes : ℕ) (config : Config) (ids : List Client) (w : WorldState) → can_open max_node nodes config ≡ true → NodesStandFor (opening_group max_node nodes config) w.nodes
     → ClientsStand w.clients (map new_client ids) → ClientsAreApart ids → (reached : IsReached nodes config ids w) × (asked_on reached ≡ [])
 opens_reached nodes config ids w possible stands clients apart =
-    let so : WorldStandsFor (opening nodes config ids) w = record { nodes = stands; clients = clients } in
-    (is_reached nodes config ids (opening nodes config ids) w apart (begins possible) so, is_reached_asked nodes config ids (opening nodes config ids) w apart (begins possible) so)
+    let so : WorldStandsFor (opening max_node nodes config ids) w = record { nodes = stands; clients = clients } in
+    let trail = begins max_node possible in
+    (is_reached nodes config ids (opening max_node nodes config ids) w apart trail so, is_reached_asked nodes config ids (opening max_node nodes config ids) w apart trail so)

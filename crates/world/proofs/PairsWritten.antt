@@ -60,17 +60,17 @@ short_pair short w members place holds name bytes some =
 
 -- ---- a configuration that is given has members
 
-pub lawful_given : (m : MasterState) (config : Config) → refusal m config ≡ None → is_lawful config.members config.primary ≡ true
-lawful_given m config = by (is_lawful config.members config.primary) (nat_le max_ballot m.given) refl
+pub lawful_given : (m : MasterState) (config : Config) → refusal m config ≡ None → is_lawful m.greatest config.members config.primary ≡ true
+lawful_given m config = by (is_lawful m.greatest config.members config.primary) (nat_le max_ballot m.given) refl
   where
-    by : (l t : Bool) → is_lawful config.members config.primary ≡ l →
-        (if l then (if t then Some ballots_spent else None) else Some bad_members) ≡ None → is_lawful config.members config.primary ≡ true
+    by : (l t : Bool) → is_lawful m.greatest config.members config.primary ≡ l →
+        (if l then (if t then Some ballots_spent else None) else Some bad_members) ≡ None → is_lawful m.greatest config.members config.primary ≡ true
     by true t e h = e
     by false t e h = cc
 
 pub some_members : (m : MasterState) (config : Config) → refusal m config ≡ None → (1 ≤ length config.members) × (length config.members ≤ 7)
 some_members m config granted =
-    let all = and_parts (are_rising 0 config.members) (nat_le 1 (length config.members) && (nat_le (length config.members) 7 && list_any (λ (member : ℕ). member == config.primary) config.members)) (lawful_given m config granted) in
+    let all = and_parts (are_rising m.greatest 0 config.members) (nat_le 1 (length config.members) && (nat_le (length config.members) 7 && list_any (λ (member : ℕ). member == config.primary) config.members)) (lawful_given m config granted) in
     let one = and_parts (nat_le 1 (length config.members)) (nat_le (length config.members) 7 && list_any (λ (member : ℕ). member == config.primary) config.members) all.1 in
     let most = and_parts (nat_le (length config.members) 7) (list_any (λ (member : ℕ). member == config.primary) config.members) one.1 in
     (leb-true 1 (length config.members) one.0, leb-true (length config.members) 7 most.0)

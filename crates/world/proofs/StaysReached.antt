@@ -1,5 +1,5 @@
 -- Steps of nodes, one after another.
-use Rattle.std.proofs.Common.{◌-◌, ℕ}
+use Rattle.std.proofs.Common.{ℕ}
 use Rattle.ballot_base.specs.declared.config.Config.{Config}
 use Rattle.agreement.proofs.of_cut_logs.MomentsAgree.{has_agreed, nodes_agree}
 use Rattle.world_base.specs.node_core.Core.{rules}

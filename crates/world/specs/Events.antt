@@ -1,5 +1,6 @@
 -- What happens in a world: what one event and a list of events do, and how a world begins.
 use Rattle.std.specs.Prelude.{◌≡◌, ◌⊎◌, ◌<◌, ℕ, true, false, List, [], ◌∷◌, Result, Ok, Err, map}
+use Rattle.ballot_base.specs.LawfulConfig.{max_node}
 use Rattle.ballot_base.specs.declared.config.Config.{Config}
 use Rattle.ballot_base.specs.Losses.{greatest_count, one_more}
 use Rattle.broker_spec.specs.Place.{Client}
@@ -53,7 +54,7 @@ EventsHappen (event ∷ events) old new =
 -- a world as it opens: no client was ever connected
 pub record WorldOpens (nodes : ℕ) (config : Config) (clients : List Client)
     (world : WorldState) : Type 0 where
-  pub group : NodesStandFor (opening_group nodes config) world.nodes
+  pub group : NodesStandFor (opening_group max_node nodes config) world.nodes
   pub whole : world.nodes.losses ≡ 0
   pub is : world ≡ record {
     nodes = world.nodes;

@@ -1,7 +1,6 @@
 -- Pending output of a node goes into the pipes, also after the node took an item: exactly, or, if
 -- losses are allowed (`whole` is false), perhaps with losses.
 use Rattle.std.specs.Prelude.{◌≡◌, ◌⊎◌, ℕ, zero, suc, ◌-◌, ◌==◌, ◌&&◌, Bool, true, false, ◌++◌, Option, Some, None, length, set}
-use Rattle.headline.specs.node_moves.Moves.NodeCall.{hands_out}
 use Rattle.world_base.specs.node_core.Core.{CountedCore}
 use Rattle.world_base.specs.declared.node_core.item.Item.{Item}
 use Rattle.world_nodes.specs.ExactSteps.{TakesExactly}

@@ -15,6 +15,7 @@
 ghost use Rattle.std.specs.Prelude.{ℕ, List, [], ◌≡◌, ◌≤◌, ◌<◌, ◌↔◌, true, false, length, IfOk, IsErr, IsErrOf, OnErr};
 ghost use Rattle.session_base.specs.declared.publication.Publication.{Publication};
 ghost use Rattle.agreement.specs.World.{can_open};
+ghost use Rattle.ballot_base.specs.LawfulConfig.{max_node};
 ghost use Rattle.ballot_base.specs.Losses.{greatest_count, one_more};
 ghost use Rattle.headline.specs.packet_world.World.{ClientsAreApart};
 ghost use Rattle.world.specs.Trace.{AgreedListGrows, AreReached, CountsOnce, StaysReached, KeepsGroup};
@@ -115,7 +116,7 @@ impl World {
             AreReached nodes (record { members = members; primary = primary }) world.nodes) }
         ensures losses { IfOk result (λ world. world.losses ≡ 0) }
         ensures bad { IsErrOf result OpeningError.BadMembers
-            ↔ (can_open nodes (record { members = members; primary = primary }) ≡ false) }
+            ↔ (can_open max_node nodes (record { members = members; primary = primary }) ≡ false) }
     {
         World::opening_with(alloc, nodes, Config { members, primary }, clients)
     }
@@ -137,7 +138,8 @@ impl World {
         // The nodes agree.
         ensures reached { IfOk result (λ world. AreReached nodes config world.nodes) }
         ensures losses { IfOk result (λ world. world.losses ≡ 0) }
-        ensures bad { IsErrOf result OpeningError.BadMembers ↔ (can_open nodes config ≡ false) }
+        ensures bad { IsErrOf result OpeningError.BadMembers
+            ↔ (can_open max_node nodes config ≡ false) }
     {
         let opened = Nodes::opening(alloc, nodes, config)?;
         let keepers = new_clients(alloc, clients)?;
@@ -226,6 +228,14 @@ impl World {
     {
         let (ballot, _) = self.nodes.active();
         ballot
+    }
+
+    /// Returns the greatest number that a member may have, 15.
+    pub fn greatest(&self) -> u8
+        ensures is { result ≡ self.now.nodes.master.greatest }
+        ensures bound { result ≡ max_node }
+    {
+        self.nodes.greatest()
     }
 
     /// Returns the members of the active ballot, 1 to 7, strictly rising.

@@ -26,7 +26,8 @@ use Rattle.world_nodes.proofs.Acts.{core_in}
 pub members_low : (n : NodesState) (told next : AcknowledgedIn) → HaveCounted n told next → (m : ℕ) → In m n.master.members → m < 16
 members_low n told next c m i =
     let lawful = group_lawful rules c.counts.config (moment_of_nodes c.group) c.counts.moments c.counts.came in
-    (rising_above 0 c.group.master.members m lawful.active (subst (λ (k : MasterState). In m k.members) (sym c.stands.master) i)).1
+    let high = (rising_above c.group.master.greatest 0 c.group.master.members m lawful.active (subst (λ (k : MasterState). In m k.members) (sym c.stands.master) i)).1 in
+    let bounded : c.group.master.greatest ≡ 15 = c.counts.bounded in omega (arith, bounded, high)
 
 -- of several members, the second least of the numbers that they acknowledged
 pub several_agree : (n : NodesState) (told next : AcknowledgedIn) → HaveCounted n told next → ((m : ℕ) → get_or told.held m 0 < 2 ^ 64) → (length n.master.members ≡ 1 → ⊥)
@@ -35,6 +36,7 @@ several_agree n told next c range several config g earlier stands came list agre
     let same : n.master ≡ g.master = sym stands.master in
     ap (λ (m : MasterState). least_but_one told.held (2 ^ 64 - 1) (2 ^ 64 - 1) m.members) same
     ∙ counted_as_seen rules config (moment_of_nodes g) earlier list told (2 ^ 64 - 1) came agreed
+    (sym (ap (λ (m : MasterState). m.greatest) (c.stands.master ∙ same)) ∙ c.counts.bounded)
     (c.counts.active ∙ ap (λ (m : MasterState). m.active) (c.stands.master ∙ same))
     (subst (λ (l : List (ℕ × Message Command)). HasCounted l told) (c.stands.sent ∙ sym stands.sent) c.counts.counted)
     (λ m. (let low = range m in omega (arith, low)))

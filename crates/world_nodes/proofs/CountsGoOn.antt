@@ -1,5 +1,6 @@
 -- What nodes count stays what their messages tell, after what nodes do.
-use Rattle.std.proofs.Common.{◌≡◌, ℕ, true, List, ◌++◌, length, take, get_or, sym, ap, ◌∙◌, subst}
+use Rattle.std.proofs.Common.{◌≡◌, ℕ, true, List, ◌++◌, length, take, get_or, refl, sym, ap, ◌∙◌, subst}
+use Rattle.ballot_base.specs.LawfulConfig.{max_node}
 use Rattle.ballot_base.specs.declared.config.Config.{Config}
 use Rattle.ballot_base.specs.declared.message.Message.{Message}
 use Rattle.agreement.specs.MasterState.{MasterState}
@@ -18,17 +19,18 @@ use Rattle.world_nodes.specs.Inside.{HaveCounted}
 abbrev pub Sent : Type 0
 Sent = List (ℕ × Message Command)
 
-pub opens_counting : (nodes : ℕ) (config : Config) (n : NodesState) (told next : AcknowledgedIn) → can_open nodes config ≡ true → NodesStandFor (opening_group nodes config) n
+pub opens_counting : (nodes : ℕ) (config : Config) (n : NodesState) (told next : AcknowledgedIn) → can_open max_node nodes config ≡ true → NodesStandFor (opening_group max_node nodes config) n
     → told.ballot ≡ 1 → ((m : ℕ) → get_or told.held m 0 ≡ 0) → ((m : ℕ) → get_or next.held m 0 ≡ 0) → HaveCounted n told next
 opens_counting nodes config n told next can stands one untold untold_next =
-    let so_far = groups_have_moments nodes config (opening_group nodes config) (opened can) in
+    let so_far = groups_have_moments nodes config (opening_group max_node nodes config) (opened max_node can) in
     record {
-      group = opening_group nodes config;
+      group = opening_group max_node nodes config;
       stands = stands;
       counts = record {
         config = config;
         moments = so_far.earlier;
         came = so_far.moments;
+        bounded = refl;
         active = one;
         counted = λ m low. untold m;
         waits = λ b c e. cc;
@@ -55,6 +57,7 @@ acts_counting old new at node_call told next told' next' c acts same one two cou
         config = c.counts.config;
         moments = on.before;
         came = on.moments;
+        bounded = sym (ap (λ (m : MasterState). m.greatest) master) ∙ c.counts.bounded;
         active = one ∙ c.counts.active ∙ ap (λ (m : MasterState). m.active) master;
         counted = subst (λ (l : Sent). HasCounted l told') (sym g.stands.sent) (counts (subst (λ (l : Sent). HasCounted l told) c.stands.sent c.counts.counted));
         waits = λ b config e. two ∙ c.counts.waits b config (ap (λ (m : MasterState). m.waiting) master ∙ e);

@@ -2,6 +2,7 @@
 use Rattle.std.proofs.Common.{◌≡◌, ℕ, suc, ◌+◌, List, [], ◌∷◌, ◌++◌, sym, ap, ◌∙◌, subst, arith}
 use Rattle.std.proofs.lemmas.List.{map-append}
 use Rattle.agreement.specs.MasterState.{MasterState, opening_master}
+use Rattle.ballot_base.specs.LawfulConfig.{max_node}
 use Rattle.ballot_base.specs.declared.config.Config.{Config}
 use Rattle.ballot_base.specs.declared.message.Message.{Message}
 use Rattle.broker_spec.specs.declared.command.Command.{Command}
@@ -18,8 +19,8 @@ opened_more config at opened later node before fresh is =
     ∙ ap (λ (c : CountedCore). opening_cores at config ++ c.core ∷ []) fresh)
 
 pub opened_all : (config : Config) (nodes at : ℕ) (master : MasterState) (opened : List CountedCore) (sent : List (ℕ × Message Command)) (archive : List Command) (losses : ℕ)
-    → master ≡ opening_master config → cores_of opened ≡ opening_cores at config → at ≡ nodes → sent ≡ [] → archive ≡ []
-    → NodesStandFor (opening_group nodes config) (record { master = master; nodes = opened; sent = sent; archive = archive; losses = losses })
+    → master ≡ opening_master max_node config → cores_of opened ≡ opening_cores at config → at ≡ nodes → sent ≡ [] → archive ≡ []
+    → NodesStandFor (opening_group max_node nodes config) (record { master = master; nodes = opened; sent = sent; archive = archive; losses = losses })
 opened_all config nodes at master opened sent archive losses m cores same none bare =
     record {
       master = sym m;

@@ -1,6 +1,6 @@
 -- What takes no memory is done exactly, and a message that a node ignores needs no copy.
-use Rattle.std.proofs.Common.{◌≡◌, ◌⊎◌, inl, inr, ◌<◌, ◌^◌, ◌-◌, ◌+◌, ◌↔◌, ℕ, zero, suc, Bool, true, false, ◌&&◌, if◌then◌else◌, List, [], ◌++◌, length, Option, Some, None, refl, sym, ap, ◌∙◌, subst, arith}
-use Rattle.std.specs.Prelude.{slice_get, get_or, IfSome, OnOk, Result, Ok, Err}
+use Rattle.std.proofs.Common.{◌≡◌, ◌⊎◌, inl, inr, ◌<◌, ◌^◌, ◌-◌, ◌↔◌, ℕ, zero, suc, Bool, true, false, ◌&&◌, if◌then◌else◌, List, [], length, Option, Some, None, refl, sym, ap, ◌∙◌, subst, arith}
+use Rattle.std.specs.Prelude.{slice_get, get_or, IfSome}
 use Rattle.std.specs.List.{find}
 use Rattle.std.proofs.lemmas.Option.{same_Some, slice_get_within}
 use Rattle.ballot_base.specs.declared.message.Body.{Body}
@@ -34,11 +34,10 @@ use Rattle.world_nodes.specs.Nodes.{NodesState}
 use Rattle.world_nodes.specs.ExactSteps.{NodeDoesCall, MessageArrives, HeardByMaster, TakesExactly, after_node_call}
 use Rattle.world_nodes.specs.RunningNodes.{running}
 use Rattle.world_nodes.specs.Quiet.{ComesUnheeded, IsUnheeded, RestsAt}
-use Rattle.world_nodes.specs.Steps.{DeliveryOrLost, NodeItemOrLost, NodesLoseNothing}
-use Rattle.world_nodes.specs.GroupSteps.{GroupDeliveryOrLost, NodeCallOrLost}
+use Rattle.world_nodes.specs.Steps.{DeliveryOrLost, NodeItemOrLost}
+use Rattle.world_nodes.specs.GroupSteps.{GroupDeliveryOrLost}
 use Rattle.world_nodes.specs.Inside.{HaveCounted, IsPassedOver, KeepsMessages, RunsAt, TookItem}
 use Rattle.world_nodes.proofs.Acts.{after_turn_of, not_one_more, same_core, took_by, whole_turn}
-use Rattle.world_nodes.proofs.Exactly.{exactly}
 
 -- ---- the turn of one node
 

@@ -11,6 +11,7 @@
 // memory is done exactly: a message that its receiver ignores is not even copied.
 
 ghost use Rattle.std.specs.Prelude.{◌≡◌, ◌≤◌, ◌-◌, ◌↔◌, ◌++◌, true, false, None, Some, length, slice_get, IfOk, IfSome, OnOk, OnErr, IsErr, IsErrOf};
+ghost use Rattle.ballot_base.specs.LawfulConfig.{max_node};
 ghost use Rattle.ballot_base.specs.Losses.{one_more};
 ghost use Rattle.agreement.specs.MasterState.{refusal};
 ghost use Rattle.agreement.specs.World.{can_open};
@@ -99,10 +100,12 @@ impl Nodes {
     /// Opens nodes 1 to `nodes` in ballot 1. Fails with [`OpeningError::BadMembers`] for more than
     /// 15 nodes, for a configuration that no ballot may have, and for a member above `nodes`.
     pub fn opening(alloc: Global, nodes: u8, config: Config) -> Result<Nodes, OpeningError>
-        ensures opens { IfOk result (λ opened. NodesStandFor (opening_group nodes config) opened) }
+        ensures opens { IfOk result (λ opened.
+            NodesStandFor (opening_group max_node nodes config) opened) }
         ensures losses { IfOk result (λ opened. opened.losses ≡ 0) }
-        ensures can { OnOk result (can_open nodes config ≡ true) }
-        ensures bad { IsErrOf result OpeningError.BadMembers ↔ (can_open nodes config ≡ false) }
+        ensures can { OnOk result (can_open max_node nodes config ≡ true) }
+        ensures bad { IsErrOf result OpeningError.BadMembers
+            ↔ (can_open max_node nodes config ≡ false) }
     {
         if !can_open(nodes, &config) {
             return Err(OpeningError::BadMembers);
@@ -359,14 +362,6 @@ impl Nodes {
         ensures { result.now ≡ self.now.sent }
     {
         self.sent.as_slice()
-    }
-
-    /// Returns the active ballot and its members.
-    pub fn active(&self) -> (u64, &[u8])
-        ensures ballot { result.0 ≡ self.now.master.active }
-        ensures members { result.1.now ≡ self.now.master.members }
-    {
-        self.master.active()
     }
 
     /// Returns a node, if it exists.

@@ -1,7 +1,8 @@
-// Conditions of a recovery.
+// The master's ballot and bound, and conditions of a recovery.
 
 ghost use Rattle.std.specs.Prelude.{◌≡◌, ◌<◌, ◌++◌, ◌↔◌, [], ◌∷◌, None, Some, true, false, IfOk, OnOk};
 ghost use Rattle.agreement.specs.MasterState.{refusal};
+ghost use Rattle.ballot_base.specs.LawfulConfig.{max_node};
 ghost use Rattle.machine.specs.Machine.{replay_from};
 ghost use Rattle.world_base.specs.node_core.Core.{CountedCore, rules};
 ghost use Rattle.broker_spec.specs.Connection.{first_connection};
@@ -18,6 +19,22 @@ use packet_base::ClientId;
 use std::alloc::Global;
 
 impl Nodes {
+    /// Returns the active ballot and its members.
+    pub fn active(&self) -> (u64, &[u8])
+        ensures ballot { result.0 ≡ self.now.master.active }
+        ensures members { result.1.now ≡ self.now.master.members }
+    {
+        self.master.active()
+    }
+
+    /// Returns the greatest number that a member may have, 15.
+    pub fn greatest(&self) -> u8
+        ensures is { result ≡ self.now.master.greatest }
+        ensures bound { result ≡ max_node }
+    {
+        self.master.greatest()
+    }
+
     /// Returns true if [`Nodes::assign`] would assign the next ballot to the configuration.
     pub fn can_assign(&self, config: &Config) -> bool
         ensures { (result ≡ true) ↔ (refusal self.now.master config.now ≡ None) }

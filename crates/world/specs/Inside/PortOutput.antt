@@ -1,6 +1,5 @@
 -- Pending output goes into the pipes.
 use Rattle.std.specs.Prelude.{◌≡◌, ◌⊎◌, ◌-◌, ℕ, Bool, true, false, ◌++◌, Some, length, set, slice_get, take}
-use Rattle.headline.specs.node_moves.Moves.NodeCall.{hands_out}
 use Rattle.world_nodes.specs.RunningNodes.{numbered_node}
 use Rattle.world_nodes.specs.Nodes.{NodesState}
 use Rattle.world_nodes.specs.Steps.{nodes_with_loss}

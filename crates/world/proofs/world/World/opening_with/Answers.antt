@@ -1,4 +1,5 @@
 use Rattle.std.proofs.Common.{refl}
+use Rattle.ballot_base.specs.LawfulConfig.{max_node}
 use Rattle.headline.specs.node_group.Group.{opening_group}
 use Rattle.headline.specs.node_group.Steps.GroupTrace.{opened}
 use Rattle.world.proofs.StaysReached.{are_reached}
@@ -7,7 +8,7 @@ use Rattle.world.proofs.world.World.opening_with.Goals as goal
 
 pub returns-clause-reached : goal.returns-clause-reached
 returns-clause-reached c =
-    are_reached c.args.nodes c.args.config (opening_group c.args.nodes c.args.config) c.in_ok-opened.opened (opened c.in_ok-opened.ensures.can) c.in_ok-opened.ensures.opens
+    are_reached c.args.nodes c.args.config (opening_group max_node c.args.nodes c.args.config) c.in_ok-opened.opened (opened max_node c.in_ok-opened.ensures.can) c.in_ok-opened.ensures.opens
 
 pub returns-clause-exact : goal.returns-clause-exact
 returns-clause-exact c =
