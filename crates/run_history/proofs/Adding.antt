@@ -6,6 +6,7 @@ use Rattle.std.proofs.lemmas.Bool.Decides.{nat_tests}
 use mathlib.Core.List.{IsPrefix}
 use prog.Atomic.{either}
 use Rattle.logbook.specs.Pages.{Cell, Nib, cell, keeps, no_nib, step, Moves}
+use Rattle.ballot_base.specs.LawfulConfig.{max_node}
 use Rattle.ballot_base.specs.declared.config.Config.{Config}
 use Rattle.agreement.specs.World.{can_open}
 use Rattle.run_history.specs.declared.event.RunEvent.{RunEvent}
@@ -28,7 +29,7 @@ abbrev pub moved : List RunEvent → List RunEvent → ℕ → Type 0
 moved before after answer = Unit {0}
 
 -- the words as a run opens
-pub opens : (words nodes : ℕ) (config : Config) → words ≡ nodes + 1 → can_open nodes config ≡ true → IsKept (replicate words (0, true)) (opening_log nodes config)
+pub opens : (words nodes : ℕ) (config : Config) → words ≡ nodes + 1 → can_open max_node nodes config ≡ true → IsKept (replicate words (0, true)) (opening_log nodes config)
 opens words nodes config count can =
     let n : length (replicate words (0, true)) ≡ words = length-replicate words (0, true) in record {
       nodes = nodes;

@@ -7,6 +7,7 @@ use mathlib.Core.List.{IsPrefix}
 use Rattle.lists.specs.Lists.{In}
 use Rattle.lists.proofs.Members.{in_left}
 use Rattle.lists.proofs.Places.{get_set, get_set_other}
+use Rattle.ballot_base.specs.LawfulConfig.{max_node}
 use Rattle.ballot_base.specs.StepOutcome.{master}
 use Rattle.ballot_base.specs.declared.config.Config.{Config}
 use Rattle.ballot_base.specs.declared.message.Message.{Message}
@@ -98,7 +99,7 @@ pub master_stays : (config : Config) (own log : List RunEvent) (state : MasterSt
 master_stays config own log state count p is same =
     let none = none_more master count own log p is.counted same in
     subst (λ (l : List RunEvent). IsMasterOf config l state count) p.1 (record {
-      has = state_append (opening_master config) own p.0 ∙ (master_untouched (master_in config own) p.0 none ∙ is.has);
+      has = state_append (opening_master max_node config) own p.0 ∙ (master_untouched (master_in config own) p.0 none ∙ is.has);
       counted = omega (arith, events_append master own p.0, is.counted, none);
     })
 
@@ -113,7 +114,7 @@ goes_on nodes config log core count event is =
 -- the master after one more event of it
 pub master_goes_on : (config : Config) (log : List RunEvent) (state : MasterState) (count : ℕ) (event : MasterEvent) → IsMasterOf config log state count → IsMasterOf config (log ++ ByMaster event ∷ []) event.after (count + 1)
 master_goes_on config log state count event is = record {
-  has = state_append (opening_master config) log (ByMaster event ∷ []);
+  has = state_append (opening_master max_node config) log (ByMaster event ∷ []);
   counted = omega (arith, events_append master log (ByMaster event ∷ []), is.counted);
 }
 

@@ -6,6 +6,7 @@ use mathlib.Core.List.{IsPrefix}
 use Rattle.lists.specs.Lists.{In}
 use Rattle.lists.specs.Lists.In.{here}
 use Rattle.lists.proofs.Members.{in_right}
+use Rattle.ballot_base.specs.LawfulConfig.{max_node}
 use Rattle.ballot_base.specs.StepOutcome.{master}
 use Rattle.ballot_base.specs.declared.config.Config.{Config}
 use Rattle.ballot_base.specs.declared.message.Body.{Body}
@@ -32,7 +33,7 @@ use Rattle.run_history.proofs.LongerLogs.{master_goes_on, master_stays, sent_mor
 use Rattle.run_history.proofs.Prefixes.{prefix_trans}
 
 -- the master as a run opens
-pub opening_known : (nodes : ℕ) (config : Config) → IsMasterOf config (opening_log nodes config) (opening_master config) 0
+pub opening_known : (nodes : ℕ) (config : Config) → IsMasterOf config (opening_log nodes config) (opening_master max_node config) 0
 opening_known nodes config = record { has = refl; counted = omega arith }
 
 -- the answer says whether the ballot was granted

@@ -4,6 +4,7 @@ use Rattle.std.specs.Prelude.{slice_get}
 use Rattle.std.proofs.lemmas.Bool.Decides.{nat_tests}
 use mathlib.Core.List.{IsPrefix}
 use Rattle.lists.proofs.Places.{get_pushed}
+use Rattle.ballot_base.specs.LawfulConfig.{max_node}
 use Rattle.ballot_base.specs.declared.config.Config.{Config}
 use Rattle.agreement.specs.World.{can_open}
 use Rattle.world_base.specs.node_core.Core.{opening_core}
@@ -45,8 +46,8 @@ begins nodes config log history = begins_by nodes config log history.group histo
 
 -- ---- a group as it opens
 
-pub opening_history : (nodes : ℕ) (config : Config) → can_open nodes config ≡ true → IsHistory nodes config (opening_log nodes config)
-opening_history nodes config can = record { group = opening_group nodes config; went = opened can; is = opens can }
+pub opening_history : (nodes : ℕ) (config : Config) → can_open max_node nodes config ≡ true → IsHistory nodes config (opening_log nodes config)
+opening_history nodes config can = record { group = opening_group max_node nodes config; went = opened max_node can; is = opens can }
 
 get_left : {X : Type 0} (xs ys : List X) (k : ℕ) → k < length xs → slice_get (xs ++ ys) k ≡ slice_get xs k
 get_left [] ys k less = absurd (omega (arith, less))

@@ -1,6 +1,7 @@
 -- An event that may be added is a step of the model, so the log with it is that of a run.
 use Rattle.std.proofs.Common.{◌≡◌, ℕ, List, [], ◌∷◌, ◌++◌, Some, refl, ap, sym, ◌∙◌, subst}
 use Rattle.std.specs.Prelude.{Option, slice_get, slice_set}
+use Rattle.ballot_base.specs.LawfulConfig.{max_node}
 use Rattle.ballot_base.proofs.ThinnedEffects.{Thinned-same}
 use Rattle.ballot_base.specs.StepOutcome.{master}
 use Rattle.ballot_base.specs.declared.config.Config.{Config}
@@ -101,7 +102,7 @@ node_goes_on nodes config log core event history at may =
     let stepped = node_steps history.group event.node core event.after.core event.given event.act at' may' in
     let then : IsReached nodes config (log ++ ByNode event ∷ []) stepped.later = record {
       nodes_are = stepped.nodes_are ∙ (ap (λ (ns : List CoreState). slice_set ns event.node event.after.core) now.nodes_are ∙ sym (nodes_append (opening_cores nodes config) log (ByNode event ∷ [])));
-      master_is = stepped.master_is ∙ (now.master_is ∙ sym (state_append (opening_master config) log (ByNode event ∷ [])));
+      master_is = stepped.master_is ∙ (now.master_is ∙ sym (state_append (opening_master max_node config) log (ByNode event ∷ [])));
       sent_are = stepped.sent_are ∙ (ap (λ (s : List (ℕ × Message Command)). s ++ messages event.given) now.sent_are ∙ sym (sent_more log (ByNode event)));
     } in record {
       group = stepped.later;
@@ -154,7 +155,7 @@ master_goes_on nodes config log state event history at may =
     let stepped = master_steps history.group event event.act may' in
     let then : IsReached nodes config (log ++ ByMaster event ∷ []) stepped.later = record {
       nodes_are = stepped.nodes_are ∙ (now.nodes_are ∙ sym (nodes_append (opening_cores nodes config) log (ByMaster event ∷ [])));
-      master_is = stepped.master_is ∙ sym (state_append (opening_master config) log (ByMaster event ∷ []));
+      master_is = stepped.master_is ∙ sym (state_append (opening_master max_node config) log (ByMaster event ∷ []));
       sent_are = stepped.sent_are ∙ (ap (λ (s : List (ℕ × Message Command)). s ++ (event.receiver, event.message) ∷ []) now.sent_are ∙ sym (sent_more log (ByMaster event)));
     } in record {
       group = stepped.later;

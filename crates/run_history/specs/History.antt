@@ -1,5 +1,6 @@
 -- Which logs are runs of the model of groups: each event is a step of it.
 use Rattle.std.specs.Prelude.{◌≡◌, ℕ, ◌+◌, true, List, [], ◌∷◌, ◌++◌, slice_get, Some}
+use Rattle.ballot_base.specs.LawfulConfig.{max_node}
 use Rattle.ballot_base.specs.StepOutcome.{master}
 use Rattle.ballot_base.specs.declared.config.Config.{Config}
 use Rattle.ballot_base.specs.declared.message.Effect.{Effect}
@@ -68,8 +69,9 @@ pub record IsReached (nodes : ℕ) (config : Config) (log : List RunEvent)
 -- the log says
 pub data IsLogOf (nodes : ℕ) (config : Config) : List RunEvent →
     (group : Group) → GroupTrace nodes config group → Type 0 where
-  opens : (can : can_open nodes config ≡ true) →
-      IsLogOf nodes config (opening_log nodes config) (opening_group nodes config) (opened can)
+  opens : (can : can_open max_node nodes config ≡ true) →
+      IsLogOf nodes config (opening_log nodes config)
+      (opening_group max_node nodes config) (opened max_node can)
   goes_on : {log : List RunEvent} {group next : Group} {went : GroupTrace nodes config group} →
       IsLogOf nodes config log group went → (event : RunEvent) (step : GroupStep group next) →
       IsStep event step → IsReached nodes config (log ++ event ∷ []) next →

@@ -2,6 +2,7 @@
 -- sent, and how many events each party has. The master has number 0; the node at an index has the
 -- number after it.
 use Rattle.std.specs.Prelude.{ℕ, ◌+◌, ◌==◌, if◌then◌else◌, Bool, false, List, [], ◌∷◌, ◌++◌, slice_set}
+use Rattle.ballot_base.specs.LawfulConfig.{max_node}
 use Rattle.ballot_base.specs.StepOutcome.{master}
 use Rattle.ballot_base.specs.declared.config.Config.{Config}
 use Rattle.ballot_base.specs.declared.message.Message.{Message}
@@ -46,7 +47,7 @@ state_after state [] = state
 
 -- the master by a log of a group that opens like this
 abbrev pub master_in : Config → List RunEvent → MasterState
-master_in config log = state_after (opening_master config) log
+master_in config log = state_after (opening_master max_node config) log
 
 -- ---- messages
 

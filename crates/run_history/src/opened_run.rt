@@ -5,6 +5,7 @@
 ghost use Rattle.std.specs.Prelude.{◌≡◌, ◌+◌, ◌<◌, true};
 ghost use Rattle.agreement.specs.MasterState.{opening_master};
 ghost use Rattle.agreement.specs.World.{can_open};
+ghost use Rattle.ballot_base.specs.LawfulConfig.{max_node};
 ghost use Rattle.world_base.specs.node_core.Core.{opening_core};
 ghost use Rattle.run_history.specs.Log.{opening_log};
 
@@ -30,6 +31,7 @@ pub struct OpenedRun {
 impl Model for OpenedRun {
     ghost use Rattle.std.specs.Prelude.{◌≡◌, ◌+◌, true};
     ghost use Rattle.agreement.specs.World.{can_open};
+    ghost use Rattle.ballot_base.specs.LawfulConfig.{max_node};
     ghost use Rattle.run_history.specs.Log.{opening_log};
     ghost use Rattle.run_history.specs.Parties.{OpenedView};
 
@@ -37,7 +39,7 @@ impl Model for OpenedRun {
 
     ghost view = { λ opened. record { book = opened.seen.book; group = opened.group } };
 
-    ghost invariant = { λ opened. (can_open opened.group.nodes opened.group.config ≡ true)
+    ghost invariant = { λ opened. (can_open max_node opened.group.nodes opened.group.config ≡ true)
         × (opened.seen.log ≡ opening_log opened.group.nodes opened.group.config)
         × (opened.pens.book ≡ opened.seen.book) × (opened.pens.next ≡ 0)
         × (opened.pens.left ≡ opened.group.nodes + 1) };
@@ -46,7 +48,7 @@ impl Model for OpenedRun {
 impl OpenedRun {
     /// Opens a run of a group, with a word for the master and for each node.
     pub fn new(group: OpenedGroup) -> OpenedRun
-        requires { can_open group.nodes group.config ≡ true }
+        requires { can_open max_node group.nodes group.config ≡ true }
         ensures { result.group ≡ group }
     {
         let words = usize::from(group.nodes) + 1;
@@ -63,9 +65,9 @@ impl OpenedRun {
         requires book { self.book ≡ H.book }
         requires nodes { self.group.nodes ≡ H.nodes }
         requires config { self.group.config ≡ H.config }
-        requires master { master ≡ opening_master H.config }
+        requires master { master ≡ opening_master max_node H.config }
         ensures master { result.0 ≡ record {
-          state = opening_master H.config;
+          state = opening_master max_node H.config;
           log = opening_log H.nodes H.config;
         } }
         ensures maker { result.1 ≡ 0 }
