@@ -4,7 +4,7 @@ use Rattle.std.proofs.lemmas.Bool.{false≢true}
 use Rattle.std.specs.List.{list_all, list_any}
 use Rattle.toml.specs.Data.{Data, Items, Members, array, integer, item, member, no_items, no_members, table}
 use Rattle.toml.specs.View.{items_of}
-use Rattle.ballot_base.specs.LawfulConfig.{is_lawful}
+use Rattle.ballot_base.specs.LawfulConfig.{is_lawful, max_node}
 use Rattle.command_line.specs.declared.node_table.ListeningNode.{ListeningNode}
 use Rattle.command_line.specs.declared.node_table.NodeTable.{NodeTable}
 use Rattle.command_line.specs.Tables.{are_told_apart, document_of, has_node, is_lawful_table, node_data, number_value}
@@ -67,10 +67,10 @@ all_by_ids nodes [] = refl
 all_by_ids nodes (m ∷ ms) = ap₂ (λ a b. a && b) (has_by_ids nodes m) (all_by_ids nodes ms)
 
 abbrev is_lawful_by : List ℕ → List ℕ → ℕ → Bool
-is_lawful_by ns members primary = are_apart ns && (list_all (has_id ns) members && is_lawful members primary)
+is_lawful_by ns members primary = are_apart ns && (list_all (has_id ns) members && is_lawful max_node members primary)
 
 lawful_by : (t : NodeTable) → is_lawful_table t ≡ is_lawful_by (ids t.nodes.items) t.config.members t.config.primary
-lawful_by t = ap₂ (λ a b. a && (b && is_lawful t.config.members t.config.primary))
+lawful_by t = ap₂ (λ a b. a && (b && is_lawful max_node t.config.members t.config.primary))
     (apart_by_ids t.nodes.items) (all_by_ids t.nodes.items t.config.members)
 
 pub same_lawful : (s t : NodeTable) → document_of s ≡ document_of t → is_lawful_table s ≡ is_lawful_table t

@@ -41,7 +41,7 @@ are_told_apart (node ∷ nodes) = (nat_le 1 node.id && nat_le node.id max_node)
 abbrev pub is_lawful_table : NodeTable → Bool
 is_lawful_table node_table = are_told_apart node_table.nodes.items
     && (list_all (has_node node_table.nodes.items) node_table.config.members
-    && is_lawful node_table.config.members node_table.config.primary)
+    && is_lawful max_node node_table.config.members node_table.config.primary)
 
 -- the text is a TOML document with this table and no more
 abbrev pub IsTableText : List ℕ → NodeTable → Type 0

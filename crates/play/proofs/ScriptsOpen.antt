@@ -4,7 +4,7 @@ use Rattle.std.specs.Prelude.{bytes_eq}
 use Rattle.std.proofs.lemmas.Bool.{and_parts, false≢true}
 use Rattle.std.proofs.lemmas.Slice.Eq.{bytes_eq-Decides}
 use Rattle.agreement.specs.World.{can_open}
-use Rattle.ballot_base.specs.LawfulConfig.{is_lawful}
+use Rattle.ballot_base.specs.LawfulConfig.{is_lawful, max_node}
 use Rattle.script.specs.Fields.{Text, fields_of}
 use Rattle.lists.specs.Lists.{Each}
 use Rattle.headline.specs.packet_world.World.{ClientsAreApart}
@@ -19,15 +19,15 @@ lawful _ opening (world nodes members primary clients is distinct) = is
 
 opens_so : (opening : Opening)
     → is_lawful_opening opening.nodes opening.config.members opening.config.primary ≡ true
-    → can_open opening.nodes opening.config ≡ true
+    → can_open max_node opening.nodes opening.config ≡ true
 opens_so opening is =
     let (few, more) = and_parts (nat_le opening.nodes 15) _ is in
     let (nodes, config) = and_parts (are_members opening.nodes opening.config.members)
-    (is_lawful opening.config.members opening.config.primary) more in
+    (is_lawful max_node opening.config.members opening.config.primary) more in
     rw (few, config, nodes) refl
 
 pub script_opens : (lines : List Text) (script : Script) → IsScript lines script
-    → can_open script.opening.nodes script.opening.config ≡ false → ⊥
+    → can_open max_node script.opening.nodes script.opening.config ≡ false → ⊥
 script_opens [] script is bad = absurd is
 script_opens (first ∷ lines) script (opening, script_lines) bad =
     false≢true (sym bad ∙ opens_so script.opening (lawful (fields_of first) script.opening (opening.1)))

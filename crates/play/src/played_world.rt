@@ -9,6 +9,7 @@
 
 ghost use Rattle.std.specs.Prelude.{◌≡◌, ◌<◌, ◌++◌, ℕ, false, [], map, IfOk, OnOk, OnErr, IsErrOf};
 ghost use Rattle.agreement.specs.World.{can_open};
+ghost use Rattle.ballot_base.specs.LawfulConfig.{max_node};
 ghost use Rattle.headline.specs.packet_world.World.{ClientsAreApart};
 ghost use Rattle.world.specs.Events.{WorldOpens};
 ghost use Rattle.world.specs.Trace.{AreReached};
@@ -60,7 +61,7 @@ impl PlayedWorld {
         ensures written { IfOk result (λ played.
             AreWritten played.recipients.items played.world) }
         ensures bad { (number : ℕ) → IsErrOf result (PlayError.Line number)
-            → can_open opening.nodes opening.config ≡ false }
+            → can_open max_node opening.nodes opening.config ≡ false }
         ensures whole { IsErrOf result PlayError.Losses → ⊥ }
         ensures led { IsErrOf result PlayError.Idle → ⊥ }
     {

@@ -22,9 +22,9 @@ one_is_at_most p (m ∷ ms) bounded h =
       | inr other ↦ one_is_at_most p ms more (rw other at h)
     ]
 
-primary_is_at_most : (ms : List ℕ) (p : ℕ) → list_all is_at_most_max_node ms ≡ true → is_lawful ms p ≡ true → p ≤ 15
+primary_is_at_most : (ms : List ℕ) (p : ℕ) → list_all is_at_most_max_node ms ≡ true → is_lawful max_node ms p ≡ true → p ≤ 15
 primary_is_at_most ms p bounded lawful =
-    let (rising, sizes) = and_parts (are_rising 0 ms) _ lawful in
+    let (rising, sizes) = and_parts (are_rising max_node 0 ms) _ lawful in
     let (low, sizes2) = and_parts (nat_le 1 (length ms)) _ sizes in
     let (high, primary) = and_parts (nat_le (length ms) 7) _ sizes2 in
     leb-true p 15 (one_is_at_most p ms bounded primary)
@@ -39,5 +39,5 @@ last_fails true true false h = refl
 pub large_primary : (count : ℕ) (ms : List ℕ) (p : ℕ) (b : Bool) → count ≤ 15 → b ≡ are_members count ms → b ≡ true → 15 < p
     → is_lawful_opening count ms p ≡ false
 large_primary count ms p b few is all large =
-    last_fails (nat_le count 15) (are_members count ms) (is_lawful ms p) (λ h.
+    last_fails (nat_le count 15) (are_members count ms) (is_lawful max_node ms p) (λ h.
     let low = primary_is_at_most ms p (nodes_are_at_most count ms b few is all) h in omega (arith, low, large))

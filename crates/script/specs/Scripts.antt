@@ -27,7 +27,7 @@ are_members nodes members = list_all (λ member. nat_le member nodes) members
 -- at most `max_node` nodes, and members of them that a ballot may have
 abbrev pub is_lawful_opening : ℕ → List ℕ → ℕ → Bool
 is_lawful_opening nodes members primary = nat_le nodes max_node
-    && (are_members nodes members && is_lawful members primary)
+    && (are_members nodes members && is_lawful max_node members primary)
 
 -- one of the clients is this one
 abbrev pub has_client : List Text → Text → Bool
