@@ -5,7 +5,7 @@ use Rattle.std.specs.Prelude.{◌⊎◌}
 use Rattle.std.specs.List.{list_any}
 use Rattle.std.proofs.lemmas.Bool.{and_parts, eqb-true, or_cases}
 use Rattle.agreement.specs.MasterState.AssignRefusal.{bad_members, ballots_spent}
-use Rattle.ballot_base.specs.LawfulConfig.{are_rising, is_lawful}
+use Rattle.ballot_base.specs.LawfulConfig.{are_rising, is_lawful, max_node}
 use Rattle.lists.specs.Lists.{has_id}
 use Rattle.post.specs.Numbers.{are_nodes, is_node}
 
@@ -23,13 +23,13 @@ spent_by true spent is = refl
 spent_by false spent is = cc
 
 -- the primary is one of the members
-is_member : (members : List ℕ) (primary : ℕ) → is_lawful members primary ≡ true
+is_member : (members : List ℕ) (primary : ℕ) → is_lawful max_node members primary ≡ true
     → list_any (λ member. member == primary) members ≡ true
 is_member members primary lawful =
     let any = list_any (λ member. member == primary) members in
     let some = nat_le 1 (length members) in
     let few = nat_le (length members) 7 in
-    let a = and_parts (are_rising 0 members) (some && (few && any)) lawful in
+    let a = and_parts (are_rising max_node 0 members) (some && (few && any)) lawful in
     let b = and_parts some (few && any) a.1 in
     (and_parts few any b.1).1
 
@@ -52,10 +52,10 @@ of_member nodes (member ∷ members) primary any all =
 
 -- where the primary is no node, a ballot may not have the members, or not all are nodes
 pub stranger : (nodes members : List ℕ) (primary : ℕ) → has_id primary nodes ≡ false
-    → (is_lawful members primary && are_nodes nodes members) ≡ false
-stranger nodes members primary none = by (is_lawful members primary) refl (are_nodes nodes members) refl
+    → (is_lawful max_node members primary && are_nodes nodes members) ≡ false
+stranger nodes members primary none = by (is_lawful max_node members primary) refl (are_nodes nodes members) refl
   where
-    by : (lawful : Bool) → is_lawful members primary ≡ lawful → (all : Bool) → are_nodes nodes members ≡ all
+    by : (lawful : Bool) → is_lawful max_node members primary ≡ lawful → (all : Bool) → are_nodes nodes members ≡ all
         → (lawful && all) ≡ false
     by false is all are = refl
     by true is false are = refl

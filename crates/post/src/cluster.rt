@@ -10,7 +10,7 @@
 // only answers, and whoever asks takes its lock.
 
 ghost use Rattle.std.specs.Prelude.{◌≡◌, ◌&&◌, IfOk, IfSome, IsErrOf, IsOk, None, Ok, OnOk, OnSome, false, is_some, length, nat_lt, true};
-ghost use Rattle.ballot_base.specs.LawfulConfig.{is_lawful};
+ghost use Rattle.ballot_base.specs.LawfulConfig.{is_lawful, max_node};
 ghost use Rattle.lists.specs.Lists.{has_id};
 ghost use Rattle.post.specs.outbox.Given.{IsMasterNumber};
 ghost use Rattle.post.specs.outbox.MasterAnswers.{MayGet};
@@ -71,9 +71,10 @@ impl Cluster {
     /// errors are `BadMembers`, if no ballot may have it, and that memory ran out.
     pub fn new(alloc: Global, numbers: &[u8], config: &Config) -> Result<Cluster, OpeningError>
         ensures ok { IfOk result (λ cluster. cluster ≡ numbers.now) }
-        ensures lawful { IsOk result → is_lawful config.now.members config.now.primary ≡ true }
+        ensures lawful { IsOk result →
+            is_lawful max_node config.now.members config.now.primary ≡ true }
         ensures bad { IsErrOf result OpeningError.BadMembers →
-            is_lawful config.now.members config.now.primary ≡ false }
+            is_lawful max_node config.now.members config.now.primary ≡ false }
     {
         let nodes = peers_of(alloc, numbers)?;
         let Ok(master) = MessagingMaster::new(config_of(alloc, config)?) else {
@@ -94,10 +95,12 @@ impl Cluster {
         ensures given { IfOk result (λ ballot. MayGet config ballot) }
         ensures nodes { OnOk result (are_nodes self.now config.members ≡ true) }
         ensures bad { IsErrOf result (OrderError.Refused AssignError.BadMembers)
-            → (is_lawful config.members config.primary && are_nodes self.now config.members)
+            → (is_lawful max_node config.members config.primary
+            && are_nodes self.now config.members)
             ≡ false }
         ensures spent { IsErrOf result (OrderError.Refused AssignError.BallotsSpent)
-            → (is_lawful config.members config.primary && are_nodes self.now config.members)
+            → (is_lawful max_node config.members config.primary
+            && are_nodes self.now config.members)
             ≡ true }
 
         // A member that is no node has this answer whether or not there is memory.

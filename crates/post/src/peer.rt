@@ -9,7 +9,7 @@
 // that was queued just then is found, or wakes it.
 
 ghost use Rattle.std.specs.Prelude.{◌≡◌, ◌≤◌, IfOk, IfSome, IsErrOf, false, true};
-ghost use Rattle.ballot_base.specs.LawfulConfig.{is_lawful};
+ghost use Rattle.ballot_base.specs.LawfulConfig.{is_lawful, max_node};
 ghost use Rattle.lists.specs.Lists.{Each};
 ghost use Rattle.post.specs.outbox.MasterAnswers.{MayGet};
 ghost use Rattle.post.specs.outbox.Queued.{IsPosted, IsQueued};
@@ -146,9 +146,9 @@ impl Peer {
         requires { config.primary ≡ self.now.number }
         ensures given { IfOk result (λ ballot. MayGet config ballot) }
         ensures bad { IsErrOf result (OrderError.Refused AssignError.BadMembers)
-            → is_lawful config.members config.primary ≡ false }
+            → is_lawful max_node config.members config.primary ≡ false }
         ensures spent { IsErrOf result (OrderError.Refused AssignError.BallotsSpent)
-            → is_lawful config.members config.primary ≡ true }
+            → is_lawful max_node config.members config.primary ≡ true }
     {
         let ballot = self.assign_locked(rt, alloc, master, config);
         self.waker.wake(rt);
@@ -166,9 +166,9 @@ impl Peer {
         requires { config.primary ≡ self.now.number }
         ensures given { IfOk result (λ ballot. MayGet config ballot) }
         ensures bad { IsErrOf result (OrderError.Refused AssignError.BadMembers)
-            → is_lawful config.members config.primary ≡ false }
+            → is_lawful max_node config.members config.primary ≡ false }
         ensures spent { IsErrOf result (OrderError.Refused AssignError.BallotsSpent)
-            → is_lawful config.members config.primary ≡ true }
+            → is_lawful max_node config.members config.primary ≡ true }
     {
         let mut master = master.lock(rt);
         let mut outbox = self.outbox.lock(rt);

@@ -13,13 +13,14 @@ use Rattle.broker_spec.specs.declared.command.Command.{Command}
 use Rattle.ballot_base.specs.declared.message.Message.{Message}
 use Rattle.ballot_base.specs.declared.message.Body.{Body}
 use Rattle.ballot_base.specs.declared.message.Body.TheVariants.{Activate, NewBallot}
+use Rattle.ballot_base.specs.LawfulConfig.{max_node}
 use Rattle.ballot_base.specs.declared.config.Config.{Config}
 use Rattle.post.specs.outbox.Given.{WasGivenToMaster}
 use Rattle.post.specs.outbox.MasterAnswers.{IsReachable, WasAnswered}
 use Rattle.post.specs.outbox.MasterAnswers.Answers.{to_node, to_order}
 use Rattle.post.specs.outbox.MasterAnswers.IsReachable.{answers, opens}
 
-pub opens_reachable : (config : Config) (master : MasterState) → master ≡ opening_master config → IsReachable master
+pub opens_reachable : (config : Config) (master : MasterState) → master ≡ opening_master max_node config → IsReachable master
 opens_reachable config master is = subst IsReachable (sym is) (opens config)
 
 -- a ballot that was given is no refusal

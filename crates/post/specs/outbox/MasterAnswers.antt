@@ -2,7 +2,7 @@
 use Rattle.std.specs.Prelude.{◌≡◌, ℕ, ◌<◌, ◌≤◌, true, Option, Some, None}
 use Rattle.agreement.specs.MasterState.{MasterState, opening_master, refusal}
 use Rattle.machine.specs.Ballots.{max_ballot}
-use Rattle.ballot_base.specs.LawfulConfig.{is_lawful}
+use Rattle.ballot_base.specs.LawfulConfig.{is_lawful, max_node}
 use Rattle.ballot_base.specs.StepOutcome.{master}
 use Rattle.agreement.specs.cut_logs.Masters.{MasterOutcome, activated, assigned}
 use Rattle.broker_spec.specs.declared.command.Command.{Command}
@@ -48,7 +48,7 @@ pub data Answers (master : MasterState) : MasterOutcome Command → Type 0 where
 -- the states of the master: its opening, and what one answer after another leads to
 pub data IsReachable : MasterState → Type 0 where
   -- its opening
-  opens : (config : Config) → IsReachable (opening_master config)
+  opens : (config : Config) → IsReachable (opening_master max_node config)
   -- one more answer
   answers : {master : MasterState} (outcome : MasterOutcome Command)
       → IsReachable master → Answers master outcome
@@ -65,6 +65,6 @@ pub record WasAnswered (receiver : ℕ) (message : Message Command) : Type 0 whe
 -- An order may give this ballot to the configuration: a ballot may have its members and its
 -- primary, and the number comes after that of the first ballot, up to the last.
 pub record MayGet (config : Config) (ballot : ℕ) : Type 0 where
-  pub lawful : is_lawful config.members config.primary ≡ true
+  pub lawful : is_lawful max_node config.members config.primary ≡ true
   pub after_first : 1 < ballot
   pub up_to_last : ballot ≤ max_ballot

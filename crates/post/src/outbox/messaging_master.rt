@@ -1,9 +1,9 @@
 // The master, whose answers are messages.
 
-ghost use Rattle.std.specs.Prelude.{◌≡◌, ◌+◌, ◌↔◌, None, Some, false, IfOk, IsErrOf, OnErr, OnOk};
+ghost use Rattle.std.specs.Prelude.{◌≡◌, ◌+◌, ◌↔◌, None, Some, true, false, IfOk, IsErrOf, OnErr, OnOk};
 ghost use Rattle.agreement.specs.MasterState.{opening_master, refusal};
 ghost use Rattle.agreement.specs.MasterState.AssignRefusal.{bad_members, ballots_spent};
-ghost use Rattle.ballot_base.specs.LawfulConfig.{is_lawful};
+ghost use Rattle.ballot_base.specs.LawfulConfig.{is_lawful, max_node};
 ghost use Rattle.agreement.specs.cut_logs.Masters.{assigned};
 ghost use Rattle.broker_spec.specs.declared.command.Command.{Command};
 ghost use Rattle.post.specs.outbox.Queued.{WasAnswered, WasGivenToMaster};
@@ -77,9 +77,9 @@ impl MessagingMaster {
     /// Makes a master whose ballot 1 has this configuration. The only error is
     /// [`AssignError::BadMembers`].
     pub fn new(config: Config) -> Result<MessagingMaster, AssignError>
-        ensures ok { IfOk result (λ master. master ≡ opening_master config) }
+        ensures ok { IfOk result (λ master. master ≡ opening_master max_node config) }
         ensures bad { IsErrOf result AssignError.BadMembers
-            ↔ (is_lawful config.members config.primary ≡ false) }
+            ↔ (is_lawful max_node config.members config.primary ≡ false) }
         ensures spent { IsErrOf result AssignError.BallotsSpent → ⊥ }
     {
         match Master::new(config.members, config.primary) {
@@ -101,6 +101,10 @@ impl MessagingMaster {
             → refusal self.old config ≡ Some bad_members }
         ensures spent { IsErrOf result (OrderError.Refused AssignError.BallotsSpent)
             → refusal self.old config ≡ Some ballots_spent }
+        ensures unlawful { IsErrOf result (OrderError.Refused AssignError.BadMembers)
+            → is_lawful max_node config.members config.primary ≡ false }
+        ensures lawful { IsErrOf result (OrderError.Refused AssignError.BallotsSpent)
+            → is_lawful max_node config.members config.primary ≡ true }
 
         // If it is refused, or memory runs out, nothing changes.
         ensures same { OnErr result (self.new ≡ self.old) }

@@ -14,6 +14,7 @@ ghost use Rattle.std.specs.Prelude.{◌≡◌, ◌↔◌, ◌+◌, ◌++◌, ◌
 ghost use Rattle.std.specs.List.{list_any};
 ghost use Rattle.agreement.specs.MasterState.{refusal};
 ghost use Rattle.agreement.specs.MasterState.AssignRefusal.{bad_members, ballots_spent};
+ghost use Rattle.ballot_base.specs.LawfulConfig.{is_lawful, max_node};
 ghost use Rattle.broker_spec.specs.declared.command.Command.{Command};
 ghost use Rattle.lists.specs.Lists.{Each};
 ghost use Rattle.world_base.specs.declared.node_core.item.Item.TheVariants.{Peer};
@@ -155,6 +156,10 @@ impl Outbox {
             → refusal master.old config ≡ Some bad_members }
         ensures spent { IsErrOf result (OrderError.Refused AssignError.BallotsSpent)
             → refusal master.old config ≡ Some ballots_spent }
+        ensures unlawful { IsErrOf result (OrderError.Refused AssignError.BadMembers)
+            → is_lawful max_node config.members config.primary ≡ false }
+        ensures lawful { IsErrOf result (OrderError.Refused AssignError.BallotsSpent)
+            → is_lawful max_node config.members config.primary ≡ true }
 
         // If it is refused, or memory runs out, nothing changes.
         ensures same { OnErr result (AreUnchanged self.old self.new master.old master.new) }
