@@ -5,4 +5,6 @@ mod pairs;
 mod replicas;
 
 pub use pairs::{Pair, deliver_from_master, give_ballot_two, hand_on, hand_on_all, open};
-pub use replicas::{Way, appends, commits, deliver, gives, holds, logs, made, propose, shows};
+pub use replicas::{
+    Way, appends, commits, deliver, gives, holds, logs, made, made_in_cluster, propose, shows,
+};

@@ -2,7 +2,7 @@
 
 use ballot::Replica;
 use ballot_base::errors::OpeningError;
-use ballot_base::{Body, Config, Effect, Members, Message, Role};
+use ballot_base::{Body, Config, Effect, MAX_NUMBER, Members, Message, Role};
 use machine::{Memory, Tally, TallyCommand};
 use std::alloc::Global;
 
@@ -26,6 +26,21 @@ pub fn made(
     }
     let config = config(alloc, members, primary)?;
     Replica::new(alloc, node, &config)
+}
+
+/// Returns a node, one of 1 to 254, open in ballot 1 with these members and this primary, where
+/// numbers go up to 254.
+pub fn made_in_cluster(
+    alloc: Global,
+    node: u8,
+    members: &[u8],
+    primary: u8,
+) -> Result<Replica<Tally>, OpeningError> {
+    if node == 0 || node > MAX_NUMBER {
+        return Err(OpeningError::BadMembers);
+    }
+    let config = config(alloc, members, primary)?;
+    Replica::up_to(alloc, MAX_NUMBER, node, &config)
 }
 
 /// Proposes a command to a replica, and returns whether it is taken.

@@ -144,6 +144,28 @@ fn a_primary_is_a_member(rt: HostRuntime) {
     assert_eq!(rt; refusal, Some(AssignError::BadMembers));
 }
 
+// Returns what a master whose members may have numbers up to 254 answers to node 254, and then to
+// node 255; none if there was no memory.
+fn answers_at_the_bound(alloc: Global) -> Option<[Option<Result<u64, AssignError>>; 2]> {
+    match config(alloc, &[1], 1) {
+        Ok(first) => match Master::up_to(254, first.members, first.primary) {
+            Ok(mut master) => Some([
+                assigned(&mut master, alloc, &[1, 254], 254),
+                assigned(&mut master, alloc, &[1, 255], 1),
+            ]),
+            Err(_) => None,
+        },
+        Err(_) => None,
+    }
+}
+
+// A master that opens with a bound keeps it when it assigns.
+#[test]
+fn a_master_keeps_its_bound(rt: HostRuntime) {
+    let answers = answers_at_the_bound(rt.alloc());
+    assert_eq!(rt; answers, Some([Some(Ok(2)), Some(Err(AssignError::BadMembers))]));
+}
+
 // Why no ballot is given, with the numbers of docs/MANUAL.md and what a user is told.
 const ASSIGNING: &[(AssignError, u8, &str)] = &[
     (
