@@ -1,3 +1,4 @@
 pub mod HelloWritten
 pub mod HelloRead
 pub mod SealedFrames
+pub mod Memberships

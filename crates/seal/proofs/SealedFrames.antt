@@ -1,7 +1,7 @@
 -- SealedFrames.antt: what a reader returned is what was sealed.
-use Rattle.std.proofs.Common.{◌≡◌, ℕ, ◌+◌, ◌-◌, ◌<◌, ◌≤◌, ◌^◌, Bool, true, false, List, [], ◌∷◌, ◌++◌, length, take, drop, refl, sym, ap, ap₂, ◌∙◌, subst, arith, length-append, append_assoc}
+use Rattle.std.proofs.Common.{◌≡◌, ℕ, ◌+◌, ◌-◌, ◌<◌, ◌≤◌, Bool, true, false, List, [], ◌∷◌, ◌++◌, length, take, drop, refl, sym, ap, ap₂, ◌∙◌, subst, arith, append_assoc}
 use Rattle.std.specs.Prelude.{IfErr}
-use Rattle.std.proofs.Common.{Result, Ok, Err, ◌≢◌, ◌↔◌}
+use Rattle.std.proofs.Common.{Result, Ok, Err, ◌↔◌}
 use Rattle.std.proofs.lemmas.Nat.{from_be_bytes-to_be_bytes_8}
 use Rattle.std.proofs.lemmas.List.{take-append-drop, length-take-le, length-drop, drop-drop}
 use Rattle.std.specs.Int.{w32, w64, to_be_bytes, from_be_bytes}
@@ -9,14 +9,13 @@ use Rattle.seal.specs.declared.frame_reader.FrameError.{FrameError}
 use Rattle.seal.specs.declared.frame_reader.FrameError.TheVariants as errors
 use Rattle.seal.specs.Frames.{Opening, frame_tag}
 use Rattle.seal.specs.FrameStreams.{BearsAnother, BearsIts, IsOpen, IsShut}
-use Rattle.seal.specs.declared.keys.Side.{Side}
 use Rattle.seal.specs.declared.keys.Side.TheVariants.{Dialler, Listener}
 use Rattle.seal.specs.declared.keys.Purpose.{Purpose}
 use Rattle.seal.specs.declared.keys.Purpose.TheVariants.{ProvesDialler, ProvesListener, SealsDialler, SealsListener}
 use Rattle.seal.specs.Keys.{purpose_byte}
 use Rattle.seal.specs.Frames.{Place, moved_on}
 use Rattle.seal.specs.FrameStreams.{FrameStream, Accepts, sealed, all_sealed}
-use Rattle.seal.specs.Theorems.{EndsHaveOneKey, FramesAreThoseSealed, Opened, TagInputsDiffer, KeyInputsDiffer, tag_input, key_input}
+use Rattle.seal.specs.Theorems.{EndsHaveOneKey, FramesAreThoseSealed, Opened, TagInputsDiffer, KeyInputsDiffer}
 use Rattle.seal.specs.Theorems.Opened.{opens, feeds, gives}
 
 -- the place after some frames

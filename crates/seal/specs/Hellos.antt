@@ -1,7 +1,8 @@
 -- The hello with which each end of a connection begins.
 use Rattle.std.specs.Prelude.{◌≡◌, ℕ, ◌<◌, ◌^◌, Bool, ◌==◌, nat_lt, if◌then◌else◌, List, [], ◌∷◌, ◌++◌, length, take, drop, slice_index, Result, Ok, Err}
-use Rattle.std.specs.Str.{bytes_eq}
 use Rattle.std.specs.Int.{w16, w32, to_be_bytes, from_be_bytes}
+use Rattle.seal.specs.declared.membership.Membership.{Membership}
+use Rattle.seal.specs.Clusters.{accepts, cluster_length}
 use Rattle.seal.specs.declared.hello.Hello.{Hello}
 use Rattle.seal.specs.declared.hello.HelloFault.{HelloFault}
 use Rattle.seal.specs.declared.hello.HelloFault.TheVariants.{Unfinished, Version, Rules, Cluster}
@@ -10,7 +11,7 @@ use Rattle.seal.specs.declared.hello.HelloFault.TheVariants.{Unfinished, Version
 abbrev pub version : ℕ
 version = 1
 
--- a hello as 71 bytes: version, number of the broker's rules, cluster, number of the node, random
+-- a hello as 55 bytes: version, number of the broker's rules, cluster, number of the node, random
 -- bytes
 abbrev pub hello_bytes : Hello → List ℕ
 hello_bytes hello =
@@ -25,14 +26,14 @@ abbrev pub rules_at : List ℕ → ℕ
 rules_at bytes = from_be_bytes w32 (take 4 (drop 2 bytes))
 
 abbrev pub cluster_at : List ℕ → List ℕ
-cluster_at bytes = take 32 (drop 6 bytes)
+cluster_at bytes = take cluster_length (drop 6 bytes)
 
 abbrev pub hello_at : List ℕ → Hello
 hello_at bytes = record {
   rules = rules_at bytes;
   cluster = cluster_at bytes;
-  number = slice_index bytes 38;
-  random = take 32 (drop 39 bytes);
+  number = slice_index bytes 22;
+  random = take 32 (drop 23 bytes);
 }
 
 -- a fault is found once so many bytes are there
@@ -54,22 +55,22 @@ version_checked bytes =
 abbrev pub rules_checked : ℕ → List ℕ → Result (Unit {0}) HelloFault
 rules_checked rules bytes = checked 6 (rules_at bytes == rules) (Rules (rules_at bytes)) bytes
 
-abbrev pub cluster_checked : List ℕ → List ℕ → Result (Unit {0}) HelloFault
-cluster_checked cluster bytes = checked 38 (bytes_eq (cluster_at bytes) cluster) Cluster bytes
+abbrev pub cluster_checked : Membership → List ℕ → Result (Unit {0}) HelloFault
+cluster_checked membership bytes = checked 22 (accepts membership (cluster_at bytes)) Cluster bytes
 
 abbrev pub whole : List ℕ → Result Hello HelloFault
-whole bytes = if nat_lt (length bytes) 71 then Err Unfinished else Ok (hello_at bytes)
+whole bytes = if nat_lt (length bytes) 55 then Err Unfinished else Ok (hello_at bytes)
 
--- what bytes say to a node of these rules and this cluster: a hello, or the first fault; what comes
--- after 71 bytes is not looked at
-abbrev pub hello_of : ℕ → List ℕ → List ℕ → Result Hello HelloFault
-hello_of rules cluster bytes =
+-- what bytes say to an end of these rules which belongs to its cluster so: a hello, or the first
+-- fault; what comes after 55 bytes is not looked at
+abbrev pub hello_of : ℕ → Membership → List ℕ → Result Hello HelloFault
+hello_of rules membership bytes =
     and_then (version_checked bytes)
     (and_then (rules_checked rules bytes)
-    (and_then (cluster_checked cluster bytes) (whole bytes)))
+    (and_then (cluster_checked membership bytes) (whole bytes)))
 
 -- arrays have their lengths, and numbers fit
 pub record IsHello (hello : Hello) : Type 0 where
   pub rules : hello.rules < 2 ^ 32
-  pub cluster : length hello.cluster ≡ 32
+  pub cluster : length hello.cluster ≡ cluster_length
   pub random : length hello.random ≡ 32

@@ -1,5 +1,6 @@
 pub mod Hmac
 pub mod Keys
+pub mod Clusters
 pub mod Hellos
 pub mod Frames
 pub mod FrameStreams

@@ -1,27 +1,42 @@
 -- Theorems about hellos, keys and frames, proved by `src/theorems.rt`.
-use Rattle.std.specs.Prelude.{◌≡◌, ℕ, ◌<◌, ◌^◌, false, List, [], ◌∷◌, ◌++◌, length, drop, get_or, Ok}
+use Rattle.std.specs.Prelude.{◌≡◌, ◌⊎◌, ℕ, ◌<◌, ◌^◌, true, false, List, [], ◌∷◌, ◌++◌, length, drop, get_or, Ok}
 use Rattle.std.specs.Int.{w64, to_be_bytes}
 use Rattle.seal.specs.declared.hello.Hello.{Hello}
+use Rattle.seal.specs.declared.membership.Membership.{Membership}
+use Rattle.seal.specs.Clusters.{accepts, cluster_of, IsFirstContact}
 use Rattle.seal.specs.declared.keys.Side.{Side}
 use Rattle.seal.specs.declared.keys.Purpose.{Purpose}
 use Rattle.seal.specs.Hellos.{IsHello, hello_bytes, hello_of}
 use Rattle.seal.specs.Keys.{derived_at, other_side, purpose_byte, seals}
-use Rattle.seal.specs.Frames.{Place}
 use Rattle.seal.specs.FrameStreams.{FrameStream, Accepts, all_sealed}
 
 -- each number is a byte
 abbrev pub AreBytes : List ℕ → Type 0
 AreBytes bytes = (index : ℕ) → get_or bytes index 0 < 256
 
--- a hello that was written is read, by an end of its rules and cluster
+-- a hello that was written is read, by an end of its rules that accepts its cluster
 abbrev pub HelloIsRead : Type 0
-HelloIsRead = (hello : Hello) (rest : List ℕ) → IsHello hello
-    → hello_of hello.rules hello.cluster (hello_bytes hello ++ rest) ≡ Ok hello
+HelloIsRead = (membership : Membership) (hello : Hello) (rest : List ℕ) → IsHello hello
+    → accepts membership hello.cluster ≡ true
+    → hello_of hello.rules membership (hello_bytes hello ++ rest) ≡ Ok hello
 
 -- what is read as a hello begins with the bytes of this hello
 abbrev pub HelloIsWritten : Type 0
-HelloIsWritten = (rules : ℕ) (cluster bytes : List ℕ) (hello : Hello) → AreBytes bytes
-    → hello_of rules cluster bytes ≡ Ok hello → bytes ≡ hello_bytes hello ++ drop 71 bytes
+HelloIsWritten = (rules : ℕ) (membership : Membership) (bytes : List ℕ) (hello : Hello)
+    → AreBytes bytes → hello_of rules membership bytes ≡ Ok hello
+    → bytes ≡ hello_bytes hello ++ drop 55 bytes
+
+-- and is of these rules, and of a cluster that is accepted
+abbrev pub HelloIsAccepted : Type 0
+HelloIsAccepted = (rules : ℕ) (membership : Membership) (bytes : List ℕ) (hello : Hello)
+    → hello_of rules membership bytes ≡ Ok hello
+    → (hello.rules ≡ rules) × (accepts membership hello.cluster ≡ true)
+
+-- two ends that accept each other are of one cluster, or its master meets a newcomer
+abbrev pub EndsAreOfOneCluster : Type 0
+EndsAreOfOneCluster = (one other : Membership)
+    → accepts one (cluster_of other) ≡ true → accepts other (cluster_of one) ≡ true
+    → (cluster_of one ≡ cluster_of other) ⊎ IsFirstContact one other
 
 -- what one end seals with is what the other opens with
 abbrev pub EndsHaveOneKey : Type 0

@@ -1,20 +1,19 @@
 // The hello with which each end of a connection begins.
 
 ghost use Rattle.std.specs.Prelude.{◌≡◌, ◌≤◌, ◌+◌, ◌++◌, length, take, drop};
+ghost use Rattle.seal.specs.Clusters.{accepts, cluster_of};
 ghost use Rattle.seal.specs.Hellos.{hello_bytes, hello_at, hello_of, version_at, rules_at};
-ghost use Rattle.seal.specs.Hellos.{version_checked, rules_checked, cluster_checked, IsHello};
+ghost use Rattle.seal.specs.Hellos.{version_checked, rules_checked, cluster_checked, cluster_at};
 
+use crate::membership::{CLUSTER_BYTES, Membership};
 use std::error::Error;
 use std::fmt;
 
 /// Bytes of a hello.
-pub const HELLO_BYTES: usize = 71;
+pub const HELLO_BYTES: usize = 55;
 
 /// The version of what nodes send each other.
 pub const VERSION: u16 = 1;
-
-/// Bytes that name a cluster, the same for all its nodes.
-pub const CLUSTER_BYTES: usize = 32;
 
 /// Random bytes of a hello, which make the keys of each connection differ.
 pub const RANDOM_BYTES: usize = 32;
@@ -24,16 +23,16 @@ const RULES_AT: usize = 2;
 
 const CLUSTER_AT: usize = 6;
 
-const NUMBER_AT: usize = 38;
+const NUMBER_AT: usize = 22;
 
-const RANDOM_AT: usize = 39;
+const RANDOM_AT: usize = 23;
 
 /// What an end of a connection says first.
 #[derive(Clone, Copy, Debug, PartialEq, Eq)]
 pub struct Hello {
     /// The number of the rules by which its broker and its protocol work.
     pub rules: u32,
-    /// The cluster to which it belongs.
+    /// The cluster to which it belongs; [`crate::NO_CLUSTER`] if it does not know it yet.
     pub cluster: [u8; CLUSTER_BYTES],
     /// Its number; 0 is the master.
     pub number: u8,
@@ -50,7 +49,7 @@ pub enum HelloFault {
     Version(u16),
     /// It works by these other rules.
     Rules(u32),
-    /// It belongs to another cluster.
+    /// It belongs to another cluster, or does not know its own where it has to.
     Cluster,
 }
 
@@ -86,19 +85,15 @@ impl Hello {
         bytes
     }
 
-    /// Returns the hello at the front of these bytes, for an end of these rules and this cluster.
-    /// The first fault counts, and each is found once its bytes are there; bytes after the hello
-    /// are not looked at.
-    pub fn read(
-        bytes: &[u8],
-        rules: u32,
-        cluster: &[u8; CLUSTER_BYTES],
-    ) -> Result<Hello, HelloFault>
-        ensures { result ≡ hello_of rules cluster.now bytes.now }
+    /// Returns the hello at the front of these bytes, for an end of these rules which belongs to its
+    /// cluster so. The first fault counts, and each is found once its bytes are there; bytes after
+    /// the hello are not looked at.
+    pub fn read(bytes: &[u8], rules: u32, membership: Membership) -> Result<Hello, HelloFault>
+        ensures { result ≡ hello_of rules membership bytes.now }
     {
         check_version(bytes)?;
         check_rules(bytes, rules)?;
-        check_cluster(bytes, cluster)?;
+        check_cluster(bytes, membership)?;
         if bytes.len() < HELLO_BYTES {
             return Err(HelloFault::Unfinished);
         }
@@ -108,7 +103,7 @@ impl Hello {
 
 // Writes a part of a hello at its place.
 fn put(bytes: &mut [u8; HELLO_BYTES], at: usize, part: &[u8])
-    requires { at + length part.now ≤ 71 }
+    requires { at + length part.now ≤ 55 }
     ensures { take (at + length part.now) bytes.new ≡ take at bytes.old ++ part.now }
 {
     bytes[at..at + part.len()].copy_from_slice(part);
@@ -142,14 +137,14 @@ fn check_rules(bytes: &[u8], rules: u32) -> Result<(), HelloFault>
     Ok(())
 }
 
-// Refuses another cluster.
-fn check_cluster(bytes: &[u8], cluster: &[u8; CLUSTER_BYTES]) -> Result<(), HelloFault>
-    ensures { result ≡ cluster_checked cluster.now bytes.now }
+// Refuses a cluster that this end does not accept.
+fn check_cluster(bytes: &[u8], membership: Membership) -> Result<(), HelloFault>
+    ensures { result ≡ cluster_checked membership bytes.now }
 {
     if bytes.len() < NUMBER_AT {
         return Err(HelloFault::Unfinished);
     }
-    if array_at(bytes, CLUSTER_AT).as_slice() != cluster.as_slice() {
+    if !membership.accepts(&cluster_at(bytes)) {
         return Err(HelloFault::Cluster);
     }
     Ok(())
@@ -157,14 +152,14 @@ fn check_cluster(bytes: &[u8], cluster: &[u8; CLUSTER_BYTES]) -> Result<(), Hell
 
 // Returns a whole hello.
 fn hello_at(bytes: &[u8]) -> Hello
-    requires { 71 ≤ length bytes.now }
+    requires { 55 ≤ length bytes.now }
     ensures { result ≡ hello_at bytes.now }
 {
     Hello {
         rules: rules_at(bytes),
-        cluster: array_at(bytes, CLUSTER_AT),
+        cluster: cluster_at(bytes),
         number: bytes[NUMBER_AT],
-        random: array_at(bytes, RANDOM_AT),
+        random: random_at(bytes),
     }
 }
 
@@ -176,14 +171,24 @@ fn rules_at(bytes: &[u8]) -> u32
     u32::from_be_bytes([bytes[2], bytes[3], bytes[4], bytes[5]])
 }
 
-// Returns the 32 bytes from a place on.
-fn array_at(bytes: &[u8], at: usize) -> [u8; 32]
-    requires { at + 32 ≤ length bytes.now }
-    ensures { result ≡ take 32 (drop at bytes.now) }
+// Returns the cluster.
+fn cluster_at(bytes: &[u8]) -> [u8; CLUSTER_BYTES]
+    requires { 22 ≤ length bytes.now }
+    ensures { result ≡ cluster_at bytes.now }
 {
-    let mut array = [0; 32];
-    let (_, behind) = bytes.split_at(at);
-    let (front, _) = behind.split_at(32);
-    array.copy_from_slice(front);
-    array
+    let mut cluster = [0; CLUSTER_BYTES];
+    cluster.copy_from_slice(&bytes[CLUSTER_AT..NUMBER_AT]);
+    cluster
+}
+
+// Returns the random bytes.
+fn random_at(bytes: &[u8]) -> [u8; RANDOM_BYTES]
+    requires { 55 ≤ length bytes.now }
+    ensures { result ≡ take 32 (drop 23 bytes.now) }
+{
+    let mut random = [0; RANDOM_BYTES];
+    let (_, behind) = bytes.split_at(RANDOM_AT);
+    let (front, _) = behind.split_at(RANDOM_BYTES);
+    random.copy_from_slice(front);
+    random
 }

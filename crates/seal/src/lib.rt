@@ -8,15 +8,18 @@ mod frames;
 mod hello;
 mod keyed_hash;
 mod keys;
+mod membership;
 #[cfg(test)]
 mod tests;
 mod theorems;
 
 pub use frame_reader::{FrameError, FrameReader};
 pub use frames::{Opener, SealError, SealFault, Sealer, TAG_BYTES, Tag};
-pub use hello::{CLUSTER_BYTES, HELLO_BYTES, Hello, HelloFault, RANDOM_BYTES, VERSION};
+pub use hello::{HELLO_BYTES, Hello, HelloFault, RANDOM_BYTES, VERSION};
 pub use keyed_hash::hmac;
 pub use keys::{Purpose, Side, derived, is_proof, proof, session};
+pub use membership::{CLUSTER_BYTES, Membership, NO_CLUSTER};
 pub use theorems::{
-    ends_have_one_key, frames_are_those_sealed, hellos_have_one_spelling, inputs_are_told_apart,
+    ends_are_of_one_cluster, ends_have_one_key, frames_are_those_sealed, hellos_have_one_spelling,
+    inputs_are_told_apart,
 };

@@ -2,8 +2,8 @@
 // HMAC computed.
 
 use crate::{
-    FrameError, FrameReader, Hello, HelloFault, Opener, SealFault, Sealer, Side, Tag, hmac,
-    is_proof, proof, session,
+    FrameError, FrameReader, Hello, HelloFault, Membership, NO_CLUSTER, Opener, SealFault, Sealer,
+    Side, Tag, hmac, is_proof, proof, session,
 };
 
 // A key, a message, and the HMAC with SHA-256: cases 1, 2, 3 and 6.
@@ -162,14 +162,14 @@ fn a_repeated_frame_is_refused(rt: HostRuntime) {
 
 // The proof of the end that dialled, for the hellos below.
 const PROOF: [u8; 32] = [
-    0x49, 0x0A, 0x5B, 0xE5, 0x53, 0x73, 0x38, 0x66, 0x20, 0xB2, 0xC4, 0x88, 0xAD, 0x41, 0xEC, 0x25,
-    0x51, 0xA4, 0xA7, 0x61, 0x88, 0xD0, 0xDF, 0xC6, 0x5A, 0x73, 0xE7, 0x7B, 0x48, 0x40, 0xF4, 0x61,
+    0x08, 0x83, 0x2B, 0x9B, 0x8C, 0xF9, 0x71, 0xE7, 0xD9, 0x56, 0x78, 0xD6, 0xD8, 0xE9, 0x9A, 0x1A,
+    0xE8, 0x8F, 0x8C, 0x05, 0x8B, 0x4A, 0x2C, 0x17, 0x8E, 0x24, 0xD3, 0x63, 0xFA, 0x67, 0xBB, 0x2F,
 ];
 
 // Its first frame, `hello`.
 const FRAME: [u8; 25] = [
-    0x00, 0x00, 0x00, 0x05, 0x68, 0x65, 0x6C, 0x6C, 0x6F, 0x13, 0x1A, 0x72, 0x06, 0x09, 0xC5, 0x7E,
-    0x1F, 0x64, 0x9A, 0x8B, 0x61, 0x66, 0x80, 0x3E, 0x2C,
+    0x00, 0x00, 0x00, 0x05, 0x68, 0x65, 0x6C, 0x6C, 0x6F, 0xE9, 0xB5, 0x06, 0x50, 0x61, 0x05, 0xE1,
+    0xC6, 0xF2, 0xF9, 0xE1, 0x13, 0x47, 0xAA, 0x44, 0x84,
 ];
 
 // Returns the hello of a node whose random bytes rise from this one on.
@@ -182,22 +182,62 @@ fn hello_of(number: u8, first: u8) -> Hello {
     }
     Hello {
         rules: 7,
-        cluster: [0xC1; 32],
+        cluster: [0xC1; 16],
         number,
         random,
     }
 }
 
+// The front of that hello of node 2.
+const HELLO_FRONT: [u8; 24] = [
+    0x00, 0x01, 0x00, 0x00, 0x00, 0x07, 0xC1, 0xC1, 0xC1, 0xC1, 0xC1, 0xC1, 0xC1, 0xC1, 0xC1, 0xC1,
+    0xC1, 0xC1, 0xC1, 0xC1, 0xC1, 0xC1, 0x02, 0x64,
+];
+
 #[test]
 fn hellos_are_read(rt: HostRuntime) {
     let hello = hello_of(2, 100);
     let bytes = hello.bytes();
-    assert!(rt; Hello::read(&bytes, 7, &[0xC1; 32]) == Ok(hello));
-    assert!(rt; Hello::read(&bytes, 8, &[0xC1; 32]) == Err(HelloFault::Rules(7)));
-    assert!(rt; Hello::read(&bytes, 7, &[0xC2; 32]) == Err(HelloFault::Cluster));
-    assert!(rt; Hello::read(&[0, 2], 7, &[0xC1; 32]) == Err(HelloFault::Version(2)));
-    let front = bytes.as_slice().get(..70).unwrap_or(&[]);
-    assert!(rt; Hello::read(front, 7, &[0xC1; 32]) == Err(HelloFault::Unfinished));
+    assert!(rt; bytes.as_slice().starts_with(&HELLO_FRONT));
+    let node = Membership::Node([0xC1; 16]);
+    assert!(rt; Hello::read(&bytes, 7, node) == Ok(hello));
+    assert!(rt; Hello::read(&bytes, 8, node) == Err(HelloFault::Rules(7)));
+    assert!(rt; Hello::read(&[0, 2], 7, node) == Err(HelloFault::Version(2)));
+    let front = bytes.as_slice().get(..54).unwrap_or(&[]);
+    assert!(rt; Hello::read(front, 7, node) == Err(HelloFault::Unfinished));
+}
+
+// Memberships, the first byte of another's cluster, whose other bytes are 0, and whether it is
+// accepted.
+const ACCEPTED: &[(Membership, u8, bool)] = &[
+    (Membership::Node(ONE), 1, true),
+    (Membership::Node(ONE), 2, false),
+    (Membership::Node(ONE), 0, false),
+    (Membership::Node(NO_CLUSTER), 0, false),
+    (Membership::Master(ONE), 1, true),
+    (Membership::Master(ONE), 2, false),
+    (Membership::Master(ONE), 0, true),
+    (Membership::Newcomer, 2, true),
+    (Membership::Newcomer, 0, false),
+];
+
+const ONE: [u8; 16] = [1, 0, 0, 0, 0, 0, 0, 0, 0, 0, 0, 0, 0, 0, 0, 0];
+
+#[test]
+fn clusters_are_accepted(rt: HostRuntime) {
+    for (membership, first, is_accepted) in ACCEPTED {
+        let mut hello = hello_of(3, 100);
+        hello.cluster = NO_CLUSTER;
+        hello.cluster[0] = *first;
+        let read = Hello::read(&hello.bytes(), 7, *membership);
+        assert!(rt;
+            read == if *is_accepted {
+                Ok(hello)
+            } else {
+                Err(HelloFault::Cluster)
+            }
+        );
+    }
 }
 
 #[test]

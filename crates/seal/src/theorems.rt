@@ -1,13 +1,22 @@
 // Theorems about hellos, keys and frames. The functions do nothing; their contracts are the
 // theorems.
 
-ghost use Rattle.seal.specs.Theorems.{EndsHaveOneKey, FramesAreThoseSealed, HelloIsRead};
-ghost use Rattle.seal.specs.Theorems.{HelloIsWritten, KeyInputsDiffer, TagInputsDiffer};
+ghost use Rattle.seal.specs.Theorems.{EndsAreOfOneCluster, EndsHaveOneKey, FramesAreThoseSealed};
+ghost use Rattle.seal.specs.Theorems.{HelloIsAccepted, HelloIsRead, HelloIsWritten};
+ghost use Rattle.seal.specs.Theorems.{KeyInputsDiffer, TagInputsDiffer};
 
-/// States that a hello that was written is read, and that only its bytes are read as this hello.
+/// States that a hello that was written is read, and that only its bytes are read as this hello, by
+/// an end that accepts it.
 pub fn hellos_have_one_spelling()
     ensures read { HelloIsRead }
     ensures written { HelloIsWritten }
+    ensures accepted { HelloIsAccepted }
+{}
+
+/// States that two ends that accept each other's hello are of one cluster, or that one of them is
+/// its master and the other does not know its cluster yet.
+pub fn ends_are_of_one_cluster()
+    ensures { EndsAreOfOneCluster }
 {}
 
 /// States that one end seals with the key with which the other opens.

@@ -1,4 +1,4 @@
-use Rattle.std.proofs.Common.{◌≡◌, ◌<◌, true, false, length, arith, rules}
+use Rattle.std.proofs.Common.{arith, rules}
 use Rattle.seal.proofs.SealedFrames.{standing, bears_another, bears_its, opened_so, shut_by_memory}
 use Rattle.seal.proofs.frame_reader.opened.Goals as goal
 

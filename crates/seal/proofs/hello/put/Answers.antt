@@ -1,4 +1,4 @@
-use Rattle.std.proofs.Common.{◌≡◌, ◌+◌, ◌≤◌, ◌∙◌, ◌++◌, List, take, length, ap, sym, arith}
+use Rattle.std.proofs.Common.{◌+◌, ◌∙◌, ◌++◌, List, take, length, ap, sym, arith}
 use Rattle.std.proofs.lemmas.Slice.{take-put_mid}
 use Rattle.seal.proofs.hello.put.Goals as goal
 
