@@ -1,11 +1,14 @@
 -- Kept.antt: what still waits when a message is queued.
-use Rattle.std.proofs.Common.{◌≡◌, ℕ, zero, suc, ◌+◌, ◌-◌, ◌<◌, ◌≤◌, Bool, true, false, if◌then◌else◌, List, [], ◌∷◌, ◌++◌, length, take, drop, map, Option, Some, None, refl, sym, ap, ap₂, ◌∙◌, subst, arith, append_assoc, length-append, get_or, set, nat_lt, nat_le, ◌&&◌, ltb-true, leb-true}
+use Rattle.std.proofs.Common.{◌≡◌, ℕ, zero, suc, ◌+◌, ◌-◌, ◌<◌, ◌≤◌, Bool, true, false, if◌then◌else◌, List, [], ◌∷◌, ◌++◌, length, take, drop, map, Option, Some, None, refl, sym, ap, ap₂, ◌∙◌, subst, arith, append_assoc, length-append, get_or, set, nat_lt, nat_le, ◌&&◌, ltb-true, leb-true, ◌==◌}
 use Rattle.std.proofs.lemmas.List.{get_or_at, take_all, take_more_set, length-set}
 use Rattle.std.specs.Prelude.{slice_get}
 use Rattle.ballot_base.specs.declared.message.Message.{Message}
 use Rattle.link_queue.specs.declared.queue.Waiting.{Waiting}
 use Rattle.link_queue.specs.declared.logs.LogName.{LogName}
-use Rattle.link_queue.specs.Covering.{covers}
+use Rattle.ballot_base.specs.declared.message.Body.{Body}
+use Rattle.ballot_base.specs.declared.message.Body.TheVariants as bodies
+use Rattle.link_queue.specs.Covering.{body_covers, covers, is_commit_within, is_held_within}
+use Rattle.link_queue.specs.Logs.{body_name, log_name}
 use Rattle.link_queue.specs.Queues.{IsBounded, QueueView, bytes_of, covers_newest, covers_one, fits, still_waiting}
 
 -- a list is what stands before its last element, and that
@@ -33,6 +36,84 @@ covered_last {C} message waiting e = by (slice_get waiting (length waiting - 1))
     by : (o : Option (Waiting C)) → slice_get waiting (length waiting - 1) ≡ o → covers_one message o ≡ true → Covered message waiting
     by None is c = cc
     by (Some newest) is c = record { newest = newest; covered = c; is = last_apart waiting newest is }
+
+-- what covers another message carries no log
+body_without_log : {C : Type 0} (newer older : Body C) → body_covers newer older ≡ true → body_name newer ≡ None
+body_without_log (bodies.Held b h) older e = refl
+body_without_log (bodies.Commit b h) older e = refl
+body_without_log (bodies.NewBallot a b c d) older e = cc
+body_without_log (bodies.Join a b) older e = cc
+body_without_log (bodies.State a b) older e = cc
+body_without_log (bodies.Install a b) older e = cc
+body_without_log (bodies.Installed a b) older e = cc
+body_without_log (bodies.Activate a) older e = cc
+body_without_log (bodies.Activated a) older e = cc
+body_without_log (bodies.Superseded a) older e = cc
+body_without_log (bodies.Append a b c) older e = cc
+
+held_without_log : {C : Type 0} (ballot held : ℕ) (body : Body C) → is_held_within ballot held body ≡ true → body_name body ≡ None
+held_without_log ballot held (bodies.Held c i) e = refl
+held_without_log ballot held (bodies.Commit c i) e = cc
+held_without_log ballot held (bodies.NewBallot a b c d) e = cc
+held_without_log ballot held (bodies.Join a b) e = cc
+held_without_log ballot held (bodies.State a b) e = cc
+held_without_log ballot held (bodies.Install a b) e = cc
+held_without_log ballot held (bodies.Installed a b) e = cc
+held_without_log ballot held (bodies.Activate a) e = cc
+held_without_log ballot held (bodies.Activated a) e = cc
+held_without_log ballot held (bodies.Superseded a) e = cc
+held_without_log ballot held (bodies.Append a b c) e = cc
+
+commit_without_log : {C : Type 0} (ballot held : ℕ) (body : Body C) → is_commit_within ballot held body ≡ true → body_name body ≡ None
+commit_without_log ballot held (bodies.Commit c i) e = refl
+commit_without_log ballot held (bodies.Held c i) e = cc
+commit_without_log ballot held (bodies.NewBallot a b c d) e = cc
+commit_without_log ballot held (bodies.Join a b) e = cc
+commit_without_log ballot held (bodies.State a b) e = cc
+commit_without_log ballot held (bodies.Install a b) e = cc
+commit_without_log ballot held (bodies.Installed a b) e = cc
+commit_without_log ballot held (bodies.Activate a) e = cc
+commit_without_log ballot held (bodies.Activated a) e = cc
+commit_without_log ballot held (bodies.Superseded a) e = cc
+commit_without_log ballot held (bodies.Append a b c) e = cc
+
+-- nor does what is covered
+body_without_log_too : {C : Type 0} (newer older : Body C) → body_covers newer older ≡ true → body_name older ≡ None
+body_without_log_too (bodies.Held b h) older e = held_without_log b h older e
+body_without_log_too (bodies.Commit b h) older e = commit_without_log b h older e
+body_without_log_too (bodies.NewBallot a b c d) older e = cc
+body_without_log_too (bodies.Join a b) older e = cc
+body_without_log_too (bodies.State a b) older e = cc
+body_without_log_too (bodies.Install a b) older e = cc
+body_without_log_too (bodies.Installed a b) older e = cc
+body_without_log_too (bodies.Activate a) older e = cc
+body_without_log_too (bodies.Activated a) older e = cc
+body_without_log_too (bodies.Superseded a) older e = cc
+body_without_log_too (bodies.Append a b c) older e = cc
+
+second_too : (a b : Bool) → (a && b) ≡ true → b ≡ true
+second_too true b e = e
+second_too false b e = cc
+
+pub covering_without_log : {C : Type 0} (newer older : Message C) → covers newer older ≡ true → log_name newer ≡ None
+covering_without_log newer older e = body_without_log newer.body older.body (second_too (newer.from == older.from) (body_covers newer.body older.body) e)
+
+pub covered_without_log : {C : Type 0} (newer older : Message C) → covers newer older ≡ true → log_name older ≡ None
+covered_without_log newer older e = body_without_log_too newer.body older.body (second_too (newer.from == older.from) (body_covers newer.body older.body) e)
+
+pub newest_without_log : {C : Type 0} (message : Message C) (waiting : List (Waiting C)) → covers_newest message waiting ≡ true → log_name message ≡ None
+newest_without_log message waiting e = let c = covered_last message waiting e in covering_without_log message c.newest.message c.covered
+
+differ : true ≡ false → ⊥
+differ e = cc
+
+-- where room for the name of a log was refused, there is a name
+pub nothing_grows : {C : Type 0} (message : Message C) (waiting : List (Waiting C)) (is_there : Bool) → (log_name message ≡ None → is_there ≡ true) → is_there ≡ false → covers_newest message waiting ≡ false
+nothing_grows message waiting is_there room refused = by (covers_newest message waiting) refl
+  where
+    by : (b : Bool) → covers_newest message waiting ≡ b → covers_newest message waiting ≡ false
+    by false e = e
+    by true e = absurd (differ (sym (room (newest_without_log message waiting e)) ∙ refused))
 
 -- a list that is not empty has its last element at its last place
 end_of : {X : Type 0} (xs front : List X) (x d : X) → xs ≡ front ++ x ∷ [] → get_or xs (length xs - 1) d ≡ x

@@ -91,6 +91,10 @@ fate_of queue message size =
 abbrev pub has_waiting : {C : Type 0} → List (Waiting C) → LogName → Bool
 has_waiting waiting name = list_any (λ each. is_named name each.message) waiting
 
+-- when the logs of a name have left, this other one is still there: it is another, or it waits
+abbrev pub stays : {C : Type 0} → List (Waiting C) → LogName → LogName → Bool
+stays waiting name other = not (is_same name other) || has_waiting waiting other
+
 -- there is room for the name of a log, if there is one
 abbrev pub HasRoom : Option LogName → ℕ → ℕ → Type 0
 HasRoom (Some name) len capacity = len + 1 ≤ capacity

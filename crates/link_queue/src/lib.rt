@@ -5,9 +5,11 @@
 mod cover;
 mod logs;
 mod queue;
+#[cfg(test)]
+mod tests;
 mod theorems;
 
 pub use cover::covers;
 pub use logs::{LogName, log_name};
 pub use queue::{Fate, LinkQueue, MAX_BYTES, MAX_WAITING, Waiting};
-pub use theorems::{nothing_else_is_lost, what_comes_out_is_in_order};
+pub use theorems::{each_log_is_there_once, nothing_else_is_lost, what_comes_out_is_in_order};

@@ -4,15 +4,15 @@
 // newest may be replaced, so the order of what waits never changes. A log is sent again at each
 // tick until it is answered, and is large: while one waits or is in transit, another of its kind
 // and ballot is dropped. What is dropped is counted; the protocol repeats it. A log that was taken
-// is in transit until `sent` names it, or `forget` says that the connection broke. The bounds are
-// for what waits: what was taken is its taker's.
+// is in transit until `sent` names it, or `forget` says that the connection broke; one that waits
+// keeps its name, whatever is said. The bounds are for what waits: what was taken is its taker's.
 
-ghost use Rattle.std.specs.Prelude.{◌≡◌, ◌≢◌, ◌↔◌, ◌+◌, ◌++◌, ◌≤◌, ◌&&◌, [], ◌∷◌, true, false, nat_lt, nat_le, length, filter, not};
+ghost use Rattle.std.specs.Prelude.{◌≡◌, ◌≢◌, ◌↔◌, ◌+◌, ◌++◌, ◌≤◌, ◌&&◌, [], ◌∷◌, true, false, nat_lt, nat_le, length, filter, None};
 ghost use Rattle.std.specs.Prelude.{vec_len, vec_capacity};
 ghost use Rattle.link_queue.specs.Logs.{is_named, is_same, log_name};
 ghost use Rattle.link_queue.specs.Queues.{HasRoom, bytes_of, covers_newest, fate_of, fits, has_name};
-ghost use Rattle.link_queue.specs.Queues.{has_waiting, is_repeated, still_waiting, with_log};
-ghost use Rattle.link_queue.specs.Queues.{with_message, without_message};
+ghost use Rattle.link_queue.specs.Queues.{has_waiting, is_repeated, stays, still_waiting};
+ghost use Rattle.link_queue.specs.Queues.{with_log, with_message, without_message};
 
 use crate::cover::covers;
 use crate::logs::{LogName, is_named, is_same, log_name};
@@ -121,11 +121,12 @@ impl<C: Drop> LinkQueue<C> {
     }
 
     /// Queues a message whose payload has `size` bytes after all that waits, or in place of the
-    /// newest if it covers that one. Drops and counts it if its log waits or is in transit, if it
-    /// would exceed a bound, or if memory runs out.
+    /// newest if it covers that one, which takes no memory. Drops and counts it if its log waits or
+    /// is in transit, if it would exceed a bound, or if memory runs out.
     pub fn queue(&mut self, message: Message<C>, size: usize) -> Fate
         ensures fate { result ≢ Fate.Memory → result ≡ fate_of self.old message size }
         ensures memory { result ≡ Fate.Memory → fate_of self.old message size ≡ Fate.Queued }
+        ensures grows { result ≡ Fate.Memory → covers_newest message self.old.waiting ≡ false }
         ensures queued { result ≡ Fate.Queued → self.new ≡ with_message self.old message size }
         ensures lost { result ≢ Fate.Queued → self.new ≡ without_message self.old }
     {
@@ -182,10 +183,12 @@ impl<C: Drop> LinkQueue<C> {
 
     // Queues a message that is within the bounds. Returns false if memory runs out: then nothing
     // has changed.
+    #[tactic(auto, using(crate::proofs::Kept::nothing_grows))]
     fn push(&mut self, message: Message<C>, size: usize) -> bool
         requires { fits (still_waiting message self.old.waiting) size ≡ true }
         ensures queued { result ≡ true → self.new ≡ with_message self.old message size }
         ensures lost { result ≡ false → self.new ≡ self.old }
+        ensures grows { result ≡ false → covers_newest message self.old.waiting ≡ false }
     {
         let (_, bytes) = kept(&message, &self.waiting, self.bytes);
         let name = log_name(&message);
@@ -209,13 +212,13 @@ impl<C: Drop> LinkQueue<C> {
         mem::replace(&mut self.waiting, Vec::new(alloc))
     }
 
-    /// Lets a log of this name be queued again: it has left.
+    /// Lets a log of this name be queued again: it has left. One that waits stays.
     pub fn sent(&mut self, name: LogName)
         ensures { self.new ≡ record self.old {
-          logs = filter (λ other. not (is_same name other)) self.old.logs;
+          logs = filter (λ other. stays self.old.waiting name other) self.old.logs;
         } }
     {
-        drop_name(&mut self.logs, name);
+        drop_name(&mut self.logs, name, &self.waiting);
     }
 
     /// Lets all logs be queued again that do not wait: the connection broke.
@@ -249,11 +252,18 @@ fn has_waiting<C>(waiting: &[Waiting<C>], name: LogName) -> bool
     waiting.iter().any(|each| is_named(name, &each.message))
 }
 
-// Drops a name.
-fn drop_name(logs: &mut Vec<LogName>, name: LogName)
-    ensures { logs.new.items ≡ filter (λ other. not (is_same name other)) logs.old.items }
+// Drops a name, unless its log waits.
+fn drop_name<C>(logs: &mut Vec<LogName>, name: LogName, waiting: &[Waiting<C>])
+    ensures { logs.new.items ≡ filter (λ other. stays waiting.now name other) logs.old.items }
 {
-    logs.retain(|other| !is_same(name, *other));
+    logs.retain(|other| stays(waiting, name, *other));
+}
+
+// Returns true if another log is there after those of this name have left.
+fn stays<C>(waiting: &[Waiting<C>], name: LogName, other: LogName) -> bool
+    ensures { result ≡ stays waiting.now name other }
+{
+    !is_same(name, other) || has_waiting(waiting, other)
 }
 
 // Drops the names of logs that do not wait.
@@ -267,6 +277,7 @@ fn keep_waiting<C>(logs: &mut Vec<LogName>, waiting: &[Waiting<C>])
 fn reserve_log(logs: &mut Vec<LogName>, name: Option<LogName>) -> bool
     ensures room { result ≡ true → HasRoom name (vec_len logs.new) (vec_capacity logs.new) }
     ensures same { logs.new.items ≡ logs.old.items }
+    ensures none { name ≡ None → result ≡ true }
 {
     match name {
         Some(_) => logs.reserve(1).is_ok(),
@@ -320,6 +331,7 @@ fn push_covering<C: Drop>(waiting: &mut Vec<Waiting<C>>, added: Waiting<C>) -> b
     ensures queued { result ≡ true → waiting.new.items
         ≡ still_waiting added.message waiting.old.items ++ added ∷ [] }
     ensures lost { result ≡ false → waiting.new.items ≡ waiting.old.items }
+    ensures grows { result ≡ false → covers_newest added.message waiting.old.items ≡ false }
 {
     if is_newest_covered(&added.message, waiting) {
         let newest = waiting.len() - 1;

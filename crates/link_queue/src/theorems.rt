@@ -1,6 +1,7 @@
 // Theorems about queues of links. The functions do nothing; their contracts are the theorems.
 
 ghost use Rattle.link_queue.specs.Theorems.{ComesOutInOrder, NothingElseIsLost};
+ghost use Rattle.link_queue.specs.Transit.{EachLogIsThereOnce, WhatIsRepeatedIsThere};
 
 /// States that what comes out of a queue is in the order in which it was queued, each message at
 /// most once.
@@ -12,4 +13,11 @@ pub fn what_comes_out_is_in_order<C>()
 /// was dropped and counted.
 pub fn nothing_else_is_lost<C>()
     ensures { NothingElseIsLost C }
+{}
+
+/// States that a log of one kind and ballot waits or is in transit at most once, and that only one
+/// that does is a reason to drop another.
+pub fn each_log_is_there_once<C>()
+    ensures once { EachLogIsThereOnce C }
+    ensures repeated { WhatIsRepeatedIsThere C }
 {}
