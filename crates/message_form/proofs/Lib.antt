@@ -6,3 +6,4 @@ pub mod FewCommands
 pub mod MessagesAgain
 pub mod MessagesFound
 pub mod Answered
+pub mod Rooms

@@ -6,6 +6,7 @@ pub mod LogReading
 pub mod MessageReading
 pub mod Growth
 pub mod Outcome
+pub mod Room
 pub mod Theorems
 pub mod Refusals
 pub mod Rows

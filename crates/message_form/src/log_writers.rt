@@ -1,25 +1,27 @@
-// Appends logs to a vector. If memory runs out, some bytes may have been appended.
+// Appends logs to a vector. If memory runs out, a part may have been appended.
 
-ghost use Rattle.std.specs.Prelude.{◌≡◌, ◌++◌, OnOk, length};
+ghost use Rattle.std.specs.Prelude.{◌≡◌, ◌++◌, ◌<◌, false, OnOk, OnErr, length, nat_lt, take};
 ghost use Rattle.std.specs.List.{flat_map, AllByRecursion};
 ghost use Rattle.message_form.specs.Commands.{IsCommand};
 ghost use Rattle.message_form.specs.Messages.{log_bytes, sized_command_bytes, IsLog};
+ghost use Rattle.message_form.specs.Room.{Lacks};
 
 use crate::command_writers::write_command;
-use crate::numbers::write_wide_number;
+use crate::numbers::{write_bytes, write_wide_number};
 use ballot_base::Log;
 use broker_spec::Command;
-use session_base::write_payload;
 use std::alloc::AllocError;
 
 /// Appends a log: its base, its snapshot, its commands.
 pub(crate) fn write_log(log: &Log<Command>, bytes: &mut Vec<u8>) -> Result<(), AllocError>
     ensures ok { OnOk result (bytes.new.items ≡ bytes.old.items ++ log_bytes log.now) }
     ensures fits { OnOk result (IsLog log.now) }
+    ensures err { OnErr result
+        (Lacks bytes.old bytes.new (log_bytes log.now) (nat_lt 0 (length log.now.rest))) }
 {
     write_wide_number(log.base(), bytes)?;
     write_wide_number(log.snapshot().len() as u64, bytes)?;
-    bytes.extend_from_slice(log.snapshot())?;
+    write_bytes(log.snapshot(), bytes)?;
     write_wide_number(log.rest().len() as u64, bytes)?;
     write_commands(log.rest(), bytes)
 }
@@ -29,6 +31,9 @@ fn write_commands(commands: &[Command], bytes: &mut Vec<u8>) -> Result<(), Alloc
     ensures ok { OnOk result
         (bytes.new.items ≡ bytes.old.items ++ flat_map sized_command_bytes commands.now) }
     ensures fits { OnOk result (AllByRecursion IsCommand commands.now) }
+    ensures kept { OnErr result
+        (take (length bytes.old.items) bytes.new.items ≡ bytes.old.items) }
+    ensures some { OnErr result (0 < length commands.now) }
 {
     let mut buffer = Vec::new(*bytes.allocator());
     for command in commands {
@@ -47,8 +52,12 @@ fn write_sized_command(
     ensures ok { OnOk result
         (bytes.new.items ≡ bytes.old.items ++ sized_command_bytes command.now) }
     ensures fits { OnOk result (IsCommand command.now) }
+    ensures kept { OnErr result
+        (take (length bytes.old.items) bytes.new.items ≡ bytes.old.items) }
 {
     buffer.clear();
     write_command(command, buffer)?;
-    write_payload(buffer, bytes)
+    let len = buffer.len() as u32;
+    write_bytes(&len.to_be_bytes(), bytes)?;
+    write_bytes(buffer, bytes)
 }

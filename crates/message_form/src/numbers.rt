@@ -1,19 +1,42 @@
-// Numbers of eight and of four bytes, the high one first.
+// Numbers of eight and of four bytes, the high one first; bytes and texts. If memory runs out, a
+// part may have been appended.
 
-ghost use Rattle.std.specs.Prelude.{◌≡◌, ◌++◌, OnOk};
+ghost use Rattle.std.specs.Prelude.{◌≡◌, ◌<◌, ◌^◌, false, length, OnOk, OnErr};
 ghost use Rattle.packet_base.specs.Outcome.{Reads, TakesNoMemory};
+ghost use Rattle.packet_base.specs.Spelling.{text};
 ghost use Rattle.session_base.specs.Form.{long_number_at};
 ghost use Rattle.message_form.specs.Numbers.{wide_number, wide_number_at, IsWide};
+ghost use Rattle.message_form.specs.Room.{Appends, Lacks};
 
 use packet_base::{Reader, Stop};
 use std::alloc::AllocError;
 
+/// Appends bytes.
+pub(crate) fn write_bytes(part: &[u8], bytes: &mut Vec<u8>) -> Result<(), AllocError>
+    ensures ok { OnOk result (Appends bytes.old bytes.new part.now) }
+    ensures err { OnErr result (Lacks bytes.old bytes.new part.now false) }
+{
+    bytes.extend_from_slice(part)
+}
+
 /// Appends a number of eight bytes.
 pub(crate) fn write_wide_number(value: u64, bytes: &mut Vec<u8>) -> Result<(), AllocError>
-    ensures ok { OnOk result (bytes.new.items ≡ bytes.old.items ++ wide_number value) }
+    ensures ok { OnOk result (Appends bytes.old bytes.new (wide_number value)) }
+    ensures err { OnErr result (Lacks bytes.old bytes.new (wide_number value) false) }
     ensures fits { IsWide value }
 {
-    bytes.extend_from_slice(&value.to_be_bytes())
+    write_bytes(&value.to_be_bytes(), bytes)
+}
+
+/// Appends a text with its length in two bytes before it (MQTT 1.5.3).
+pub(crate) fn write_text(value: &str, bytes: &mut Vec<u8>) -> Result<(), AllocError>
+    requires { length value.now < 2 ^ 16 }
+    ensures ok { OnOk result (Appends bytes.old bytes.new (text value.now)) }
+    ensures err { OnErr result (Lacks bytes.old bytes.new (text value.now) false) }
+{
+    let len = value.len() as u16;
+    write_bytes(&len.to_be_bytes(), bytes)?;
+    write_bytes(value.as_bytes(), bytes)
 }
 
 /// Reads a number of eight bytes.

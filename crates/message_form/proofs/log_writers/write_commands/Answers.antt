@@ -3,7 +3,13 @@ use Rattle.std.proofs.lemmas.List.Elements.{recursion_from_All}
 use Rattle.packet_base.proofs.ListsWritten.{written_more, seen_more, seen_all}
 use Rattle.message_form.specs.Commands.{IsCommand}
 use Rattle.message_form.specs.Messages.{sized_command_bytes}
+use Rattle.message_form.proofs.Rooms.{at_err, kept_before}
 use Rattle.message_form.proofs.log_writers.write_commands.Goals as goal
+
+pub returns-in_err-write_sized_command-clause-kept : goal.returns-in_err-write_sized_command-clause-kept
+returns-in_err-write_sized_command-clause-kept c =
+    at_err c.from_residual.result _
+    (kept_before c.args.bytes.now.items _ c.loop-command.bytes.items c.write_sized_command.new.bytes.items c.loop-command.invariant.written c.in_err-write_sized_command.ensures.kept)
 
 pub loop-command-preserved : goal.loop-command-preserved
 loop-command-preserved c = record {
