@@ -18,6 +18,12 @@ pub const VERSION: u16 = 1;
 /// Random bytes of a hello, which make the keys of each connection differ.
 pub const RANDOM_BYTES: usize = 32;
 
+// The sum of its definitions: c1194438d5a9f1c137a1acb21e7ecfc8852407cb7acce6f9557cbf9ef2a5fcb7
+/// The number of the rules that all members of one cluster have to share: what commands mean, how
+/// replicas agree on them, and the bytes of both. A change of these raises it, so that ends of
+/// other rules refuse each other; `tools/rules` tells that they have changed.
+pub const RULES: u32 = 1;
+
 // Where the parts of a hello begin; its version is the first.
 const RULES_AT: usize = 2;
 
@@ -85,7 +91,7 @@ impl Hello {
         bytes
     }
 
-    /// Returns the hello at the front of these bytes, for an end of these rules which belongs to its
+    /// Returns the hello at the front of these bytes, for an end of these rules that belongs to its
     /// cluster so. The first fault counts, and each is found once its bytes are there; bytes after
     /// the hello are not looked at.
     pub fn read(bytes: &[u8], rules: u32, membership: Membership) -> Result<Hello, HelloFault>

@@ -15,7 +15,7 @@ mod theorems;
 
 pub use frame_reader::{FrameError, FrameReader};
 pub use frames::{Opener, SealError, SealFault, Sealer, TAG_BYTES, Tag};
-pub use hello::{HELLO_BYTES, Hello, HelloFault, RANDOM_BYTES, VERSION};
+pub use hello::{HELLO_BYTES, Hello, HelloFault, RANDOM_BYTES, RULES, VERSION};
 pub use keyed_hash::hmac;
 pub use keys::{Purpose, Side, derived, is_proof, proof, session};
 pub use membership::{CLUSTER_BYTES, Membership, NO_CLUSTER};
