@@ -1,0 +1,4 @@
+pub mod Checked
+pub mod Chained
+pub mod Forms
+pub mod Answered
