@@ -1,18 +1,16 @@
 -- Answered.antt: what a desk answered holds over failed writes and restarts.
-use Rattle.std.proofs.Common.{◌≡◌, ◌⊎◌, ℕ, zero, suc, ◌+◌, ◌-◌, ◌<◌, ◌≤◌, ◌==◌, Bool, true, false, ◌&&◌, nat_lt, nat_le, if◌then◌else◌, List, [], ◌∷◌, ◌++◌, length, Option, Some, None, Result, Ok, Err, refl, sym, ap, ap₂, ◌∙◌, subst, arith, inl, inr, ltb-true, leb-true}
+use Rattle.std.proofs.Common.{◌≡◌, ◌⊎◌, ℕ, ◌+◌, ◌<◌, ◌≤◌, ◌==◌, Bool, true, false, ◌&&◌, nat_lt, nat_le, if◌then◌else◌, List, [], ◌∷◌, ◌++◌, length, Option, Some, None, Result, Ok, refl, sym, ap, ap₂, ◌∙◌, subst, arith, inl, inr, ltb-true, leb-true}
 use Rattle.std.proofs.lemmas.Bool.{lt-ltb, le-leb}
 use Rattle.std.proofs.lemmas.List.{append-nil}
 use Rattle.lists.specs.Lists.{In}
 use Rattle.lists.specs.Lists.In.{here, there}
-use Rattle.lists.proofs.Members.{in_left, in_right, in_append}
+use Rattle.lists.proofs.Members.{in_append}
 use Rattle.ballot_base.specs.declared.config.Config.{Config}
 use Rattle.ballot_base.specs.LawfulConfig.{is_lawful}
-use Rattle.agreement.specs.MasterState.{AssignRefusal, MasterState, activating, refusal}
+use Rattle.agreement.specs.MasterState.{AssignRefusal, activating, refusal}
 use Rattle.agreement.specs.MasterState.AssignRefusal.{bad_members, ballots_spent}
-use Rattle.desk.specs.declared.error.DeskError.{DeskError}
-use Rattle.desk.specs.declared.error.DeskError.TheVariants as errors
 use Rattle.desk.specs.declared.error.FormFault.{FormFault}
-use Rattle.desk.specs.States.{DeskState, activated_by, are_given, assign_refusal, assigned_to, is_sound, may_wait, opening_desk, refused_by, started, waits_fit, waits_for}
+use Rattle.desk.specs.States.{DeskState, activated_by, are_given, assigned_to, may_wait, opening_desk, refused_by, waits_fit, waits_for}
 use Rattle.desk.specs.Form.{desk_of, form}
 use Rattle.desk.specs.FormTheorems.{IsDesk}
 use Rattle.desk.specs.Runs.{Answer, Changes, Repeats, Ran, Rises, NeverFalls, numbers, ballots, active_ones, EachStartHasItsNumber, NoBallotIsAssignedTwice, ActiveBallotsRise, SupersededForGood}
@@ -20,7 +18,7 @@ use Rattle.desk.specs.Runs.Answer.{number, ballot, activated, superseded}
 use Rattle.desk.specs.Runs.Changes.{starts, assigns, activates}
 use Rattle.desk.specs.Runs.Repeats.{stays, was}
 use Rattle.desk.specs.Runs.Ran.{opens, answers, repeats, fails, restarts}
-use Rattle.desk.proofs.Forms.{Ranges, both, form_read, ranges, sound_of}
+use Rattle.desk.proofs.Forms.{both, form_read, ranges, sound_of}
 
 -- ---- a state that changes stays sound, and says all that it said
 

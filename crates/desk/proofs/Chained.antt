@@ -1,5 +1,5 @@
 -- Chained.antt: bytes that are written part by part.
-use Rattle.std.proofs.Common.{◌≡◌, ℕ, ◌+◌, ◌-◌, ◌<◌, ◌≤◌, List, [], ◌∷◌, ◌++◌, length, take, drop, refl, sym, ap, ap₂, ◌∙◌, subst, arith, length-append, append_assoc}
+use Rattle.std.proofs.Common.{◌≡◌, ℕ, ◌+◌, List, [], ◌++◌, length, take, refl, sym, ap, ◌∙◌, subst, arith}
 use Rattle.std.proofs.lemmas.List.{take_all}
 
 step : (at n : ℕ) (part new old front : List ℕ) → take (at + length part) new ≡ take at old ++ part → take at old ≡ front → at + length part ≡ n → take n new ≡ front ++ part

@@ -1,8 +1,7 @@
 -- Checked.antt: what was read after version, length and check sum.
-use Rattle.std.proofs.Common.{◌≡◌, ℕ, Bool, true, false, ◌&&◌, if◌then◌else◌, List, take, Result, Ok, Err, refl, sym, ap, ◌∙◌, subst}
-use Rattle.desk.specs.declared.error.FormFault.{FormFault}
+use Rattle.std.proofs.Common.{◌≡◌, ℕ, Bool, true, false, ◌&&◌, if◌then◌else◌, List, take, Ok, Err, refl, sym, ap, ◌∙◌}
 use Rattle.desk.specs.declared.error.FormFault.TheVariants.{Shape}
-use Rattle.std.proofs.Common.{Option, Some, None, nat_le}
+use Rattle.std.proofs.Common.{Some, None, nat_le}
 use Rattle.ballot_base.specs.declared.config.Config.{Config}
 use Rattle.ballot_base.specs.LawfulConfig.{is_lawful}
 use Rattle.agreement.specs.MasterState.AssignRefusal.{bad_members, ballots_spent}

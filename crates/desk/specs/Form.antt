@@ -1,11 +1,10 @@
 -- What the master keeps, as 67 bytes.
-use Rattle.std.specs.Prelude.{◌≡◌, ℕ, ◌+◌, ◌-◌, Bool, true, ◌==◌, ◌&&◌, if◌then◌else◌, List, [], ◌∷◌, ◌++◌, length, take, drop, replicate, min, slice_index, Option, Some, None, Result, Ok, Err}
+use Rattle.std.specs.Prelude.{◌≡◌, ℕ, ◌+◌, ◌-◌, Bool, ◌==◌, ◌&&◌, if◌then◌else◌, List, [], ◌∷◌, ◌++◌, length, take, drop, replicate, min, slice_index, Option, Some, None, Result, Ok, Err}
 use Rattle.std.specs.Str.{bytes_eq}
 use Rattle.std.specs.Int.{w64, to_be_bytes, from_be_bytes}
 use Rattle.sha2.specs.Sha256.{sha256}
 use Rattle.ballot_base.specs.declared.config.Config.{Config}
 use Rattle.ballot_base.specs.LawfulConfig.{max_members, max_number}
-use Rattle.agreement.specs.MasterState.{MasterState}
 use Rattle.desk.specs.declared.error.FormFault.{FormFault}
 use Rattle.desk.specs.declared.error.FormFault.TheVariants.{Version, Length, Sum, Shape}
 use Rattle.desk.specs.declared.error.OpenError.{OpenError}

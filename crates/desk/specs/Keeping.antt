@@ -1,5 +1,5 @@
 -- What may stand where a desk keeps its state, and what its calls make of it.
-use Rattle.std.specs.Prelude.{◌≡◌, ℕ, Bool, true, false, List, [], ◌∷◌, Option, Some, None, Ok}
+use Rattle.std.specs.Prelude.{◌≡◌, ℕ, Bool, false, List, [], ◌∷◌, Some, Ok}
 use Rattle.lists.specs.Lists.{In}
 use Rattle.ballot_base.specs.declared.config.Config.{Config}
 use Rattle.desk.specs.declared.error.OpenError.{OpenError}

@@ -52,6 +52,7 @@ impl Keeper for Paper {
 
     ghost stands = { λ paper. paper.bytes.items ∷ [] };
 
+    #[tactic(auto, using(crate::proofs::Among::nothing_written))]
     fn keep(&mut self, bytes: &[u8]) -> Result<(), NotKept> {
         if self.writes == 0 {
             return Err(NotKept);

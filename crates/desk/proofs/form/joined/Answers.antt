@@ -1,4 +1,4 @@
-use Rattle.std.proofs.Common.{◌≡◌, ◌++◌, ◌∙◌, [], ◌∷◌, ℕ, List, length, refl, ap, ap₂, arith}
+use Rattle.std.proofs.Common.{◌++◌, ◌∙◌, [], ◌∷◌, ℕ, List, length, refl, ap, ap₂, arith}
 use Rattle.desk.proofs.Forms.{placed}
 use Rattle.desk.proofs.form.joined.Goals as goal
 

@@ -1,4 +1,4 @@
-use Rattle.std.proofs.Common.{◌≡◌, ◌∷◌, ◌∙◌, [], List, length, replicate, refl, ap, arith}
+use Rattle.std.proofs.Common.{◌∷◌, [], List, length, replicate, refl, ap, arith}
 use Rattle.desk.specs.Form.{members_bytes, waiting_bytes}
 use Rattle.desk.proofs.Chained.{seven}
 use Rattle.desk.proofs.form.parts_of.Goals as goal
