@@ -1,0 +1,11 @@
+pub mod PortBytes
+pub mod PortNames
+pub mod Followers
+pub mod ProposedInRange
+pub mod ConnectsOnce
+pub mod AgreedCommands
+pub mod LifeGrows
+pub mod PipesAlong
+pub mod GoesAlong
+pub mod OwnPublished
+pub mod ClientPromised

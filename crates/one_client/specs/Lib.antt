@@ -1,0 +1,5 @@
+pub mod Calls
+pub mod Along
+pub mod Names
+pub mod Proposals
+pub mod Promised

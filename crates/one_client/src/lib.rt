@@ -1,0 +1,10 @@
+//! The law of one client among others that do as they like: what is promised to a client that keeps
+//! its side, in all steps of a group of nodes. No code runs here: the theorems are the contracts of
+//! functions with an empty body.
+#![tactic(auto)]
+
+mod proposal_theorems;
+mod theorems;
+
+pub use proposal_theorems::{names_connect_once, names_go_with_ports, proposals_are_in_range};
+pub use theorems::one_client_is_promised;

@@ -1,0 +1,23 @@
+// Theorems about connections on which any bytes come: the contracts of functions with an empty
+// body.
+
+ghost use Rattle.one_client.specs.Names.{NamesGoWithPorts};
+ghost use Rattle.one_client.specs.Proposals.{NamesConnectOnce, ProposalsAreInRange};
+
+/// States that if a node is told only once that a connection was opened at a port, then at any time
+/// the name that the node gave it belongs to that connection and to no other of any node.
+pub fn names_go_with_ports()
+    ensures { NamesGoWithPorts }
+{}
+
+/// States that, whatever bytes come to the nodes of a group, each packet that they propose is in
+/// its ranges, so it can be spelled, and its connection has a name that one may have.
+pub fn proposals_are_in_range()
+    ensures { ProposalsAreInRange }
+{}
+
+/// States that, whatever bytes come to the nodes of a group, they propose at most one Connect under
+/// each name (MQTT 3.1).
+pub fn names_connect_once()
+    ensures { NamesConnectOnce }
+{}

@@ -1,0 +1,10 @@
+// The theorem about one client among others: the contract of a function with an empty body.
+
+ghost use Rattle.one_client.specs.Promised.{OneClientIsPromised};
+
+/// States that in all steps of any group a client that keeps its side gets what is promised, by
+/// each list on which the nodes agree and in which nobody else uses its identifier. What other
+/// connections bring may be any bytes (MQTT 4.3.3, 4.4, 4.6).
+pub fn one_client_is_promised()
+    ensures { OneClientIsPromised }
+{}
