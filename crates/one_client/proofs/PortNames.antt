@@ -6,11 +6,12 @@ use Rattle.lists.specs.Lists.{In}
 use Rattle.lists.specs.Lists.In.{here, there}
 use Rattle.lists.proofs.Tests.{or_none}
 use Rattle.ballot_base.specs.declared.config.Config.{Config}
-use Rattle.broker_spec.specs.Connection.{ConnectionName, same_connection}
+use Rattle.broker_spec.specs.Connection.{ConnectionName, IsConnectionName, is_connection_name, same_connection}
 use Rattle.exactly_once.proofs.Takes.{same_name_self}
 use Rattle.world_base.specs.declared.node_connections.connection.Connection.{Connection as NodesEnd}
 use Rattle.world_base.specs.declared.node_connections.port.Port.{Port}
 use Rattle.world_base.specs.declared.node_core.item.Item.TheVariants.{Opened}
+use Rattle.world_base.specs.node_connections.Connections.{is_at}
 use Rattle.world_base.specs.node_core.Core.{CoreState}
 use Rattle.world_base.specs.node_core.Step.{next_name}
 use Rattle.headline.specs.node_moves.Ends.{IsGiven}
@@ -25,13 +26,14 @@ use Rattle.headline.proofs.of_node_group.CarriedInOrder.{no_connections}
 use Rattle.headline.proofs.of_node_group.NamesInGroups.{all_well, each_got}
 use Rattle.headline.specs.byte_world.Apart.{HasName}
 use Rattle.headline.specs.byte_world.Transport.{node_call_of}
+use Rattle.headline.proofs.NamesGiven.{names_fit}
 use Rattle.headline.proofs.of_byte_world.NamesApart.{names_stay_apart}
 use Rattle.headline.proofs.of_byte_world.NodesGoOn.{IsOpened, StoodAs, of_each, stood_as}
-use Rattle.headline.proofs.of_byte_world.PipesHold.{none_found}
+use Rattle.headline.proofs.of_byte_world.PipesHold.{is_the_port, listed_there, none_found}
 use Rattle.headline.proofs.of_byte_world.PortsKept.{IsOfOld}
 use Rattle.one_client.specs.Calls.{calls_on, opens_at, was_opened}
-use Rattle.one_client.specs.Names.{HadConnection, NamesGoWithPorts, OpensOnce}
-use Rattle.one_client.proofs.PortBytes.{had_now, same_core, the_port}
+use Rattle.one_client.specs.Names.{HadConnection, HasNameAt, IsNameAt, NamesGoWithPorts, OpensOnce, PortsHaveNames}
+use Rattle.one_client.proofs.PortBytes.{had_later, had_now, same_core, the_port}
 
 -- ---- at the opening
 
@@ -179,3 +181,74 @@ names_go_with_ports nodes config g went n end once had =
           let same : n ≡ m = names_stay_apart nodes config g went end.name had.earlier had_d.earlier n m had.among had_d.among (has_name went n end end.name had refl) (has_name went m d end.name had_d is) in
           (sym same, one_port went n d end (subst (λ k. HadConnection went k d) (sym same) had_d) had is);
     }
+
+-- ---- each port has a name
+
+same_ports : (a b : Port) → a.0 ≡ b.0 → a ≡ b
+same_ports a b e = ap (λ n. let q : Port = record { 0 = n } in q) e
+
+-- a connection was at the port at some time, or none ever was
+data EverAt {nodes : ℕ} {config : Config} {g : Group} (went : GroupTrace nodes config g) (n : ℕ) (port : Port) : Type 0 where
+  was_at : (d : NodesEnd) → HadConnection went n d → d.port.0 ≡ port.0 → EverAt went n port
+  never_at : ((d : NodesEnd) → HadConnection went n d → d.port.0 ≡ port.0 → ⊥) → EverAt went n port
+
+-- if none was before a step, whether one is after it
+after_none : {nodes : ℕ} {config : Config} {g h : Group} (went : GroupTrace nodes config g) (step : GroupStep g h) (n : ℕ) (port : Port) → ((d : NodesEnd) → HadConnection went n d → d.port.0 ≡ port.0 → ⊥)
+    → EverAt (then_went went step) n port
+after_none {h = h} went step n port none = by (slice_get h.nodes n) refl
+  where
+    -- the nodes after the step have none
+    still_none : ((core : CoreState) (d : NodesEnd) → slice_get h.nodes n ≡ Some core → In d core.connections → d.port.0 ≡ port.0 → ⊥) → EverAt (then_went went step) n port
+    still_none now = never_at (λ d had same. on d same had.core had.listed had.earlier had.among had.stands)
+      where
+        on : (d : NodesEnd) → d.port.0 ≡ port.0 → (core : CoreState) → In d core.connections → (e : Group) → In e (h ∷ groups_on_trace went) → slice_get e.nodes n ≡ Some core → ⊥
+        on d same core listed e here at = now core d at listed same
+        on d same core listed e (there i) at = none d (record { earlier = e; among = i; core = core; stands = at; listed = listed }) same
+
+    no_node : (core : CoreState) → (let o : Option CoreState = None in o) ≡ Some core → ⊥
+    no_node core e = cc
+
+    in_core : (core : CoreState) → slice_get h.nodes n ≡ Some core → (o : Option NodesEnd) → find (is_at port) core.connections ≡ o → EverAt (then_went went step) n port
+    in_core core at (Some d) e = let f = listed_there port core d e in was_at d (had_now (then_went went step) n core d at f.among) f.at
+    in_core core at None e =
+        still_none (λ other d stands listed same.
+        both_ways (is_at port d)
+        (of_each (λ (z : NodesEnd). is_at port z ≡ false) (none_found (is_at port) core.connections e)
+        (subst (λ (k : CoreState). In d k.connections) (same_core other core (sym stands ∙ at)) listed)) (is_the_port port d same))
+
+    by : (o : Option CoreState) → slice_get h.nodes n ≡ o → EverAt (then_went went step) n port
+    by None e = still_none (λ core d at listed same. no_node core (sym e ∙ at))
+    by (Some core) e = in_core core e (find (is_at port) core.connections) refl
+
+ever_at : {nodes : ℕ} {config : Config} {g : Group} (went : GroupTrace nodes config g) (n : ℕ) (port : Port) → EverAt went n port
+ever_at (opened greatest can) n port = never_at (λ d had same. not_yet (opened greatest can) n port refl d had same)
+ever_at (then_went went step) n port = by (ever_at went n port)
+  where
+    by : EverAt went n port → EverAt (then_went went step) n port
+    by (was_at d had same) = was_at d (had_later went step n d had) same
+    by (never_at none) = after_none went step n port none
+
+-- a name that a node gave is in its ranges
+had_named : {nodes : ℕ} {config : Config} {g : Group} (went : GroupTrace nodes config g) (n : ℕ) (d : NodesEnd) → HadConnection went n d → IsConnectionName d.name
+had_named went n d had = names_fit went d.name had.earlier n had.among (has_name went n d d.name had refl)
+
+pub ports_have_names : PortsHaveNames
+ports_have_names nodes config g went n port spare once out = by (ever_at went n port)
+  where
+    by : EverAt went n port → HasNameAt went n port spare
+    by (was_at d had same) =
+        let is = same_ports d.port port same in
+        record {
+          name = d.name;
+          is = subst (IsNameAt went d.name n) is (names_go_with_ports nodes config g went n d (subst (λ (q : Port). OpensOnce n q (calls_on went)) (sym is) once) had);
+          given = inl (had_named went n d had);
+        }
+    by (never_at none) =
+        record {
+          name = spare;
+          is = record {
+            named = λ d had same. absurd (none d had same);
+            alone = λ m d had is. absurd (both_ways (is_connection_name spare) out (ap is_connection_name (sym is) ∙ had_named went m d had));
+          };
+          given = inr refl;
+        }

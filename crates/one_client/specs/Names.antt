@@ -1,8 +1,8 @@
 -- The names by which the list of commands knows the connections of a client.
-use Rattle.std.specs.Prelude.{◌≡◌, ℕ, true, false, List, [], ◌∷◌, Option, Some, slice_get}
+use Rattle.std.specs.Prelude.{◌≡◌, ◌⊎◌, ℕ, true, false, List, [], ◌∷◌, Option, Some, slice_get}
 use Rattle.std.specs.List.{list_any}
 use Rattle.ballot_base.specs.declared.config.Config.{Config}
-use Rattle.broker_spec.specs.Connection.{ConnectionName}
+use Rattle.broker_spec.specs.Connection.{ConnectionName, is_connection_name}
 use Rattle.lists.specs.Lists.{In}
 use Rattle.exactly_once.specs.Sides.{ClientConnection}
 use Rattle.world_base.specs.declared.node_connections.connection.Connection.{Connection as NodesEnd}
@@ -55,3 +55,20 @@ NamesGoWithPorts =
     (nodes : ℕ) (config : Config) (group : Group) (went : GroupTrace nodes config group)
     (node : ℕ) (end : NodesEnd) → OpensOnce node end.port (calls_on went) →
     HadConnection went node end → IsNameAt went end.name node end.port
+
+-- A name by which the connection at this port is known, if there ever was one: the name that its
+-- node gave it, or, if the node accepted none there, this spare one.
+pub record HasNameAt {nodes : ℕ} {config : Config} {group : Group}
+    (went : GroupTrace nodes config group) (node : ℕ) (port : Port) (spare : ConnectionName) :
+    Type 0 where
+  pub name : ConnectionName
+  pub is : IsNameAt went name node port
+  pub given : (is_connection_name name ≡ true) ⊎ (name ≡ spare)
+
+-- if a port of a node is used for one connection at most, it has a name; a spare one is any that no
+-- connection may have
+abbrev pub PortsHaveNames : Type 0
+PortsHaveNames =
+    (nodes : ℕ) (config : Config) (group : Group) (went : GroupTrace nodes config group)
+    (node : ℕ) (port : Port) (spare : ConnectionName) → OpensOnce node port (calls_on went) →
+    is_connection_name spare ≡ false → HasNameAt went node port spare

@@ -3,8 +3,10 @@
 //! functions with an empty body.
 #![tactic(auto)]
 
-mod proposal_theorems;
+mod connection_theorems;
 mod theorems;
 
-pub use proposal_theorems::{names_connect_once, names_go_with_ports, proposals_are_in_range};
+pub use connection_theorems::{
+    names_connect_once, names_go_with_ports, ports_have_names, proposals_are_in_range,
+};
 pub use theorems::one_client_is_promised;

@@ -1,13 +1,19 @@
 // Theorems about connections on which any bytes come: the contracts of functions with an empty
 // body.
 
-ghost use Rattle.one_client.specs.Names.{NamesGoWithPorts};
+ghost use Rattle.one_client.specs.Names.{NamesGoWithPorts, PortsHaveNames};
 ghost use Rattle.one_client.specs.Proposals.{NamesConnectOnce, ProposalsAreInRange};
 
 /// States that if a node is told only once that a connection was opened at a port, then at any time
 /// the name that the node gave it belongs to that connection and to no other of any node.
 pub fn names_go_with_ports()
     ensures { NamesGoWithPorts }
+{}
+
+/// States that the connection at a port of which a node is told at most once has a name: the one
+/// that its node gave it, or, if it never accepted one there, a spare one.
+pub fn ports_have_names()
+    ensures { PortsHaveNames }
 {}
 
 /// States that, whatever bytes come to the nodes of a group, each packet that they propose is in

@@ -1,5 +1,5 @@
 use Rattle.one_client.proofs.ProposedInRange.{proposals_are_in_range}
-use Rattle.one_client.proofs.proposal_theorems.proposals_are_in_range.Goals as goal
+use Rattle.one_client.proofs.connection_theorems.proposals_are_in_range.Goals as goal
 
 pub returns : goal.returns
 returns c = proposals_are_in_range

@@ -1,5 +1,5 @@
 use Rattle.one_client.proofs.ConnectsOnce.{names_connect_once}
-use Rattle.one_client.proofs.proposal_theorems.names_connect_once.Goals as goal
+use Rattle.one_client.proofs.connection_theorems.names_connect_once.Goals as goal
 
 pub returns : goal.returns
 returns c = names_connect_once

@@ -1,5 +1,5 @@
 use Rattle.one_client.proofs.PortNames.{names_go_with_ports}
-use Rattle.one_client.proofs.proposal_theorems.names_go_with_ports.Goals as goal
+use Rattle.one_client.proofs.connection_theorems.names_go_with_ports.Goals as goal
 
 pub returns : goal.returns
 returns c = names_go_with_ports
