@@ -9,3 +9,6 @@ pub mod PipesAlong
 pub mod GoesAlong
 pub mod OwnPublished
 pub mod ClientPromised
+pub mod RowNode
+pub mod RowAlong
+pub mod AcceptedBeside

@@ -228,7 +228,7 @@ pub record IsUpTo {nodes : ℕ} {config : Config} {g : Group} (went : GroupTrace
   pub early : was_opened n port went ≡ false → later ≡ up
   pub still : (core : CoreState) (d : NodesEnd) → slice_get g.nodes n ≡ Some core → In d core.connections → d.port.0 ≡ port.0 → live d ≡ true → later ≡ up
 
-dropped : {X : Type 0} (xs ys : List X) → drop (length xs) (xs ++ ys) ≡ ys
+pub dropped : {X : Type 0} (xs ys : List X) → drop (length xs) (xs ++ ys) ≡ ys
 dropped [] ys = refl
 dropped (x ∷ xs) ys = dropped xs ys
 

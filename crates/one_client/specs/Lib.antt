@@ -3,3 +3,4 @@ pub mod Along
 pub mod Names
 pub mod Proposals
 pub mod Promised
+pub mod Rows

@@ -4,9 +4,11 @@
 #![tactic(auto)]
 
 mod connection_theorems;
+mod rows;
 mod theorems;
 
 pub use connection_theorems::{
     names_connect_once, names_go_with_ports, ports_have_names, proposals_are_in_range,
 };
+pub use rows::accepts_beside_a_stranger;
 pub use theorems::one_client_is_promised;
