@@ -3,7 +3,7 @@ use Rattle.std.specs.List.{All, list_all}
 use Rattle.std.specs.Prelude.{nat_lt, nat_le}
 use Rattle.std.specs.Str.{chars, is_utf8}
 use lib.Utf8.{encode}
-use Rattle.std.proofs.Common.{◌≡◌, ◌<◌, ◌≤◌, ◌&&◌, ℕ, zero, suc, Bool, true, false, List, [], ◌∷◌, ◌++◌, Option, Some, refl, sym, ap, ◌∙◌, subst, arith}
+use Rattle.std.proofs.Common.{◌≡◌, ◌<◌, ◌≤◌, ◌&&◌, ℕ, zero, suc, Bool, true, false, List, [], map, ◌∷◌, ◌++◌, Option, Some, refl, sym, ap, ◌∙◌, subst, arith}
 use Rattle.std.proofs.lemmas.Bool.{both_ways}
 use Rattle.std.proofs.lemmas.List.{append-nil}
 use Rattle.lists.specs.Lists.{Each, In}
@@ -22,7 +22,7 @@ use Rattle.exactly_once.specs.Rows.{asks_for_news, news, writer}
 use Rattle.exactly_once.specs.Acceptance.{accepted_on}
 use Rattle.exactly_once.specs.Sides.{ClientConnection}
 use Rattle.exactly_once.specs.Story.{Story}
-use Rattle.exactly_once.specs.Story.StoryStep.{publishes_one, subscribes}
+use Rattle.exactly_once.specs.Story.StoryStep.{loses, publishes_one, subscribes}
 use Rattle.session_base.specs.Identifiers.{least_free}
 use Rattle.broker_spec.specs.Connection.{ConnectionName}
 use Rattle.ballot_base.specs.LawfulConfig.{max_node}
@@ -37,13 +37,13 @@ use Rattle.headline.specs.node_moves.Puts.{spelled}
 use Rattle.headline.specs.node_group.Group.{opening_group}
 use Rattle.headline.specs.byte_world.World.{ClientPipes, packets_of}
 use Rattle.headline.proofs.ServedNode.{both, connack, connect, core_at_first, publish, suback, subscribe}
-use Rattle.one_client.specs.Along.Along.{connects, opens}
+use Rattle.one_client.specs.Along.Along.{calls, connects, opens}
 use Rattle.one_client.specs.Calls.{IsByte}
 use Rattle.one_client.specs.Names.{AreNamed, IsNameAt}
-use Rattle.one_client.specs.Rows.{AcceptsBesideAStranger, noise, other_port, own_port, second_connection}
+use Rattle.one_client.specs.Rows.{AcceptsBesideAStranger, lost_port, name_of, noise, other_port, own_port, second_connection, spare_name}
 use Rattle.one_client.proofs.PortBytes.{had_now}
-use Rattle.one_client.proofs.PortNames.{names_go_with_ports}
-use Rattle.one_client.proofs.RowAlong.{Row, client_with, pipe_with, row_arrives, row_calls, row_goes, row_handles}
+use Rattle.one_client.proofs.PortNames.{names_go_with_ports, untold_name}
+use Rattle.one_client.proofs.RowAlong.{Row, client_with, lost_connection, pipe_with, row_arrives, row_calls, row_goes, row_handles}
 use Rattle.one_client.proofs.RowNode.{client_comes, client_there, it_completes, it_connects, it_grants, it_hands, it_releases, it_takes, list_connected, list_done, list_published, list_released, list_subscribed, serving, stranger_comes, stranger_errs, stranger_gone, stranger_there}
 
 -- ---- what is written can be spelled
@@ -156,20 +156,21 @@ row_connects =
       group = opening_group max_node 1 one_node;
       went = _;
       one = _;
-      along = connects (opens max_node refl) second_connection 0 own_port refl tt connect_whole;
+      along = connects (calls (connects (opens max_node refl) spare_name 0 lost_port refl tt connect_whole) _ loses refl tt) second_connection 0 own_port refl tt connect_whole;
       is = refl;
       stands = refl;
       calls_are = refl;
       once = tt;
+      untold = refl;
       said = refl;
     }
 
 -- the node is told of it after the stranger
 row_told : Row client_there (client_with keeper_opens its_connection (pipe_with (spelled (packets_of its_connection.written)) [] [])) calls_at_first []
 row_told =
-    let came = row_goes row_connects (takes (Opened other_port 0)) stranger_there (spelled (packets_of its_connection.written)) tt stranger_comes tt (λ e. never e) (λ e. refl) refl in
-    let gone = row_goes came (takes (Bytes other_port noise 0)) stranger_gone (spelled (packets_of its_connection.written)) tt stranger_errs noise_bytes (λ e. never e) (λ e. refl) refl in
-    row_goes gone (takes (Opened own_port 0)) client_there (spelled (packets_of its_connection.written)) tt client_comes tt (λ e. refl) (λ e. refl) refl
+    let came = row_goes row_connects (takes (Opened other_port 0)) stranger_there (spelled (packets_of its_connection.written)) tt stranger_comes tt (λ e. never e) (λ e. refl) refl (record { untold = refl; nothing = refl; handed = refl }) in
+    let gone = row_goes came (takes (Bytes other_port noise 0)) stranger_gone (spelled (packets_of its_connection.written)) tt stranger_errs noise_bytes (λ e. never e) (λ e. refl) refl (record { untold = refl; nothing = refl; handed = refl }) in
+    row_goes gone (takes (Opened own_port 0)) client_there (spelled (packets_of its_connection.written)) tt client_comes tt (λ e. refl) (λ e. refl) refl (record { untold = refl; nothing = refl; handed = refl })
 
 abbrev brings : List ℕ → Option (ℕ × NodeCall)
 brings bytes = Some (0, takes (Bytes own_port bytes 0))
@@ -186,8 +187,8 @@ connection_served = record its_connection { handled = 1; confirmed = true }
 -- its CONNECT is answered
 row_served : Row (serving list_connected []) (client_with keeper_served connection_served (pipe_with [] [] [])) (given ∷ brings (spelling connect) ∷ calls_at_first) []
 row_served =
-    let read = row_goes row_told (takes (Bytes own_port (spelling connect) 0)) (serving list_connected (spelling connack)) [] tt it_connects connect_bytes (λ e. never e) (λ e. not_both e) refl in
-    let handed = row_goes read (hands_out own_port) (serving list_connected []) [] tt (it_hands list_connected (spelling connack)) tt (λ e. never e) (λ e. not_both e) refl in
+    let read = row_goes row_told (takes (Bytes own_port (spelling connect) 0)) (serving list_connected (spelling connack)) [] tt it_connects connect_bytes (λ e. never e) (λ e. not_both e) refl (record { untold = refl; nothing = refl; handed = refl }) in
+    let handed = row_goes read (hands_out own_port) (serving list_connected []) [] tt (it_hands list_connected (spelling connack)) tt (λ e. never e) (λ e. not_both e) refl (record { untold = refl; nothing = refl; handed = refl }) in
     let came = row_arrives handed (spelling connack) [] (sym (append-nil (spelling connack))) in
     row_handles came connack [] _ refl refl connack_whole (sym (append-nil (spelling connack))) tt
 
@@ -209,7 +210,7 @@ calls_at_last =
 
 -- all that the row says, if it ends so
 row_ends : (keeper : Keeper) (κ : ClientConnection) (last : Row (serving list_done []) (client_with keeper κ (pipe_with [] [] [])) calls_at_last (news ∷ [])) → κ.name ≡ second_connection
-    → accepted_on (κ ∷ []) ≡ news ∷ [] → AcceptsBesideAStranger
+    → accepted_on (κ ∷ lost_connection ∷ []) ≡ news ∷ [] → AcceptsBesideAStranger
 row_ends keeper κ last name accepted =
     let end : NodesEnd = record (fresh own_port second_connection) { stage = Proposed } in
     let known : IsNameAt last.went second_connection 0 own_port = names_go_with_ports 1 one_node last.group last.went 0 end last.once (had_now last.went 0 (serving list_done []) end last.stands here) in
@@ -218,7 +219,10 @@ row_ends keeper κ last name accepted =
       went = last.went;
       one = last.one;
       along = last.along;
-      named = subst (λ (z : ClientPipes). AreNamed last.went z.connections z.pipes) (sym last.is) (subst (λ (x : ConnectionName). IsNameAt last.went x 0 own_port) (sym name) known, tt);
+      names = ap (λ (z : ClientPipes). map name_of z.connections) last.is ∙ ap (λ (x : ConnectionName). x ∷ spare_name ∷ []) name;
+      named = subst (λ (z : ClientPipes). AreNamed last.went z.connections z.pipes) (sym last.is)
+          (subst (λ (x : ConnectionName). IsNameAt last.went x 0 own_port) (sym name) known, (untold_name last.went 0 lost_port spare_name last.untold refl, tt));
+      untold = last.untold;
       stranger = subst (In (let o : Option (ℕ × NodeCall) = Some (0, takes (Bytes other_port noise 0)) in o)) (sym last.calls_are)
           (there (there (there (there (there (there (there (there (there (there here))))))))));
       asked = last.said;
@@ -229,22 +233,22 @@ pub accepts_beside_a_stranger : AcceptsBesideAStranger
 accepts_beside_a_stranger =
     let asks = row_calls row_served then_subscribes _ (subscribes asks_for_news (ap (λ (z : ClientPipes). z.keeper.is_online) row_served.is) (sym (ap (λ (z : ClientPipes). least_free (ids_in_use z.keeper)) row_served.is))) [] refl refl refl
     (subscribe_whole, tt) in
-    let asked = row_goes asks (takes (Bytes own_port (spelling subscribe) 0)) (serving list_subscribed (spelling suback)) [] tt it_grants subscribe_bytes (λ e. never e) (λ e. not_both e) refl in
-    let granted = row_goes asked (hands_out own_port) (serving list_subscribed []) [] tt (it_hands list_subscribed (spelling suback)) tt (λ e. never e) (λ e. not_both e) refl in
+    let asked = row_goes asks (takes (Bytes own_port (spelling subscribe) 0)) (serving list_subscribed (spelling suback)) [] tt it_grants subscribe_bytes (λ e. never e) (λ e. not_both e) refl (record { untold = refl; nothing = refl; handed = refl }) in
+    let granted = row_goes asked (hands_out own_port) (serving list_subscribed []) [] tt (it_hands list_subscribed (spelling suback)) tt (λ e. never e) (λ e. not_both e) refl (record { untold = refl; nothing = refl; handed = refl }) in
     let told = row_arrives granted (spelling suback) [] (sym (append-nil (spelling suback))) in
     let subscribed = row_handles told suback [] _ refl refl suback_whole (sym (append-nil (spelling suback))) tt in
     let writes = row_calls subscribed then_publishes _ (publishes_one news (λ e. ap (λ (z : ClientPipes). z.keeper.is_online) subscribed.is)) (news ∷ []) refl refl refl (publish_whole, tt) in
     let answers : List ℕ = spelling (packets.Pubrec 1) ++ spelling publish in
-    let taken = row_goes writes (takes (Bytes own_port (spelling publish) 0)) (serving list_published answers) [] tt it_takes publish_bytes (λ e. never e) (λ e. not_both e) refl in
-    let handed = row_goes taken (hands_out own_port) (serving list_published []) [] tt (it_hands list_published answers) tt (λ e. never e) (λ e. not_both e) refl in
+    let taken = row_goes writes (takes (Bytes own_port (spelling publish) 0)) (serving list_published answers) [] tt it_takes publish_bytes (λ e. never e) (λ e. not_both e) refl (record { untold = refl; nothing = refl; handed = refl }) in
+    let handed = row_goes taken (hands_out own_port) (serving list_published []) [] tt (it_hands list_published answers) tt (λ e. never e) (λ e. not_both e) refl (record { untold = refl; nothing = refl; handed = refl }) in
     let came = row_arrives handed answers [] (sym (append-nil answers)) in
     let first = row_handles came (packets.Pubrec 1) (spelling publish) _ refl refl pubrec_whole refl (pubrel_whole, tt) in
     let second = row_handles first publish [] _ refl refl publish_whole (sym (append-nil (spelling publish))) (pubrec_whole, tt) in
     let ends : List ℕ = spelling (packets.Pubcomp 1) ++ spelling (packets.Pubrel 1) in
-    let released = row_goes second (takes (Bytes own_port both 0)) (serving list_released ends) [] tt it_releases both_bytes (λ e. never e) (λ e. not_both e) one_piece in
-    let returned = row_goes released (hands_out own_port) (serving list_released []) [] tt (it_hands list_released ends) tt (λ e. never e) (λ e. not_both e) refl in
+    let released = row_goes second (takes (Bytes own_port both 0)) (serving list_released ends) [] tt it_releases both_bytes (λ e. never e) (λ e. not_both e) one_piece (record { untold = refl; nothing = refl; handed = refl }) in
+    let returned = row_goes released (hands_out own_port) (serving list_released []) [] tt (it_hands list_released ends) tt (λ e. never e) (λ e. not_both e) refl (record { untold = refl; nothing = refl; handed = refl }) in
     let back = row_arrives returned ends [] (sym (append-nil ends)) in
     let third = row_handles back (packets.Pubcomp 1) (spelling (packets.Pubrel 1)) _ refl refl pubcomp_whole refl tt in
     let fourth = row_handles third (packets.Pubrel 1) [] _ refl refl pubrel_whole (sym (append-nil (spelling (packets.Pubrel 1)))) (pubcomp_whole, tt) in
-    let last = row_goes fourth (takes (Bytes own_port (spelling (packets.Pubcomp 1)) 0)) (serving list_done []) [] tt it_completes pubcomp_bytes (λ e. never e) (λ e. not_both e) refl in
+    let last = row_goes fourth (takes (Bytes own_port (spelling (packets.Pubcomp 1)) 0)) (serving list_done []) [] tt it_completes pubcomp_bytes (λ e. never e) (λ e. not_both e) refl (record { untold = refl; nothing = refl; handed = refl }) in
     row_ends _ _ last refl refl

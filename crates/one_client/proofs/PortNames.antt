@@ -232,6 +232,20 @@ ever_at (then_went went step) n port = by (ever_at went n port)
 had_named : {nodes : ℕ} {config : Config} {g : Group} (went : GroupTrace nodes config g) (n : ℕ) (d : NodesEnd) → HadConnection went n d → IsConnectionName d.name
 had_named went n d had = names_fit went d.name had.earlier n had.among (has_name went n d d.name had refl)
 
+-- any spare name is that of a port at which no connection ever was
+spare_at : {nodes : ℕ} {config : Config} {g : Group} (went : GroupTrace nodes config g) (n : ℕ) (port : Port) (spare : ConnectionName) → ((d : NodesEnd) → HadConnection went n d → d.port.0 ≡ port.0 → ⊥)
+    → is_connection_name spare ≡ false → IsNameAt went spare n port
+spare_at went n port spare none out =
+    record {
+      named = λ d had same. absurd (none d had same);
+      alone = λ m d had is. absurd (both_ways (is_connection_name spare) out (ap is_connection_name (sym is) ∙ had_named went m d had));
+    }
+
+-- as if the node was never told of one
+pub untold_name : {nodes : ℕ} {config : Config} {g : Group} (went : GroupTrace nodes config g) (n : ℕ) (port : Port) (spare : ConnectionName) → was_opened n port went ≡ false → is_connection_name spare ≡ false
+    → IsNameAt went spare n port
+untold_name went n port spare untold out = spare_at went n port spare (λ d had same. not_yet went n port untold d had same) out
+
 pub ports_have_names : PortsHaveNames
 ports_have_names nodes config g went n port spare once out = by (ever_at went n port)
   where
@@ -246,9 +260,6 @@ ports_have_names nodes config g went n port spare once out = by (ever_at went n 
     by (never_at none) =
         record {
           name = spare;
-          is = record {
-            named = λ d had same. absurd (none d had same);
-            alone = λ m d had is. absurd (both_ways (is_connection_name spare) out (ap is_connection_name (sym is) ∙ had_named went m d had));
-          };
+          is = spare_at went n port spare none out;
           given = inr refl;
         }
