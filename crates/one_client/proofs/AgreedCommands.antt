@@ -24,7 +24,7 @@ use Rattle.headline.proofs.of_node_group.CarriedInOrder.{CarriedSo, IsAgreedSo}
 use Rattle.headline.proofs.of_node_group.NamesInGroups.{all_well}
 use Rattle.headline.proofs.of_node_group.Ordered.{in_agreed}
 use Rattle.one_client.specs.Calls.{AreFaithful, BringsBytes, calls_on}
-use Rattle.one_client.specs.Proposals.{IsInRange}
+use Rattle.one_client.specs.Proposals.{AgreedPacketsWereProposed, IsInRange}
 use Rattle.one_client.proofs.ConnectsOnce.{connect_named, names_connect_once}
 use Rattle.one_client.proofs.ProposedInRange.{proposals_are_in_range}
 
@@ -104,16 +104,21 @@ named_in (commands.Lost x) own = absurd (both_ways false refl own)
 named_in (commands.Start ballot) own = absurd (both_ways false refl own)
 named_in (commands.Expel c) own = absurd (both_ways false refl own)
 
+pub agreed_packets_were_proposed : AgreedPacketsWereProposed
+agreed_packets_were_proposed nodes config g went of agreed is command i own =
+    let z = named_in command own in
+    let put = commands_of (all_proposed went) in
+    passed (of_name z.0) put command
+    (in_prefix command (packet_commands z.0 agreed) (packet_commands z.0 put) (in_agreed config g (groups_on_trace went) (all_proposed went) of (all_well nodes config g went).1 z.0 agreed is)
+    (passing (of_name z.0) agreed command i z.1))
+
 module _ {nodes : ℕ} {config : Config} (g : Group) (went : GroupTrace nodes config g) (so : CarriedSo went) (agreed : List Command) (is : IsAgreedSo so agreed) (faithful : AreFaithful went)
     (brings : Each BringsBytes (calls_on went)) where
   front : (x : ConnectionName) → IsPrefixOf (packet_commands x agreed) (packet_commands x (commands_of (all_proposed went)))
   front x = in_agreed config g (groups_on_trace went) (all_proposed went) so.of (all_well nodes config g went).1 x agreed is
 
   was_proposed : (command : Command) → In command agreed → is_of_connection command ≡ true → In command (commands_of (all_proposed went))
-  was_proposed command i own =
-      let z = named_in command own in
-      passed (of_name z.0) (commands_of (all_proposed went)) command
-      (in_prefix command (packet_commands z.0 agreed) (packet_commands z.0 (commands_of (all_proposed went))) (front z.0) (passing (of_name z.0) agreed command i z.1))
+  was_proposed command i own = agreed_packets_were_proposed nodes config g went so.of agreed is command i own
 
   pub agreed_in_range : Each IsInRange agreed
   agreed_in_range = each_among IsInRange agreed by

@@ -2,7 +2,7 @@
 // body.
 
 ghost use Rattle.one_client.specs.Names.{NamesGoWithPorts, PortsHaveNames};
-ghost use Rattle.one_client.specs.Proposals.{NamesConnectOnce, ProposalsAreInRange};
+ghost use Rattle.one_client.specs.Proposals.{AgreedPacketsWereProposed, NamesConnectOnce, ProposalsAreInRange};
 
 /// States that if a node is told only once that a connection was opened at a port, then at any time
 /// the name that the node gave it belongs to that connection and to no other of any node.
@@ -26,4 +26,10 @@ pub fn proposals_are_in_range()
 /// each name (MQTT 3.1).
 pub fn names_connect_once()
     ensures { NamesConnectOnce }
+{}
+
+/// States that each packet in a list on which nodes agree was proposed by a node. So nobody else
+/// uses a client's identifier there, if no node proposes a Connect with it on another connection.
+pub fn agreed_packets_were_proposed()
+    ensures { AgreedPacketsWereProposed }
 {}
