@@ -7,6 +7,7 @@ use Rattle.agreement.specs.MasterState.{MasterState, refusal, ballots_spent}
 -- the 4,294,967,296th ballot is given, and none after it
 abbrev pub MaxBallotIs : Type 0
 MaxBallotIs =
-    (master : MasterState) (config : Config) → is_lawful config.members config.primary ≡ true →
+    (master : MasterState) (config : Config) →
+    is_lawful master.greatest config.members config.primary ≡ true →
     (master.given ≡ 4294967295 → refusal master config ≡ None)
     × (master.given ≡ 4294967296 → refusal master config ≡ Some ballots_spent)

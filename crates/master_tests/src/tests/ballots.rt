@@ -163,7 +163,10 @@ fn answers_at_the_bound(alloc: Global) -> Option<[Option<Result<u64, AssignError
 #[test]
 fn a_master_keeps_its_bound(rt: HostRuntime) {
     let answers = answers_at_the_bound(rt.alloc());
-    assert_eq!(rt; answers, Some([Some(Ok(2)), Some(Err(AssignError::BadMembers))]));
+    assert_eq!(rt;
+        answers,
+        Some([Some(Ok(2)), Some(Err(AssignError::BadMembers))])
+    );
 }
 
 // Why no ballot is given, with the numbers of docs/MANUAL.md and what a user is told.
