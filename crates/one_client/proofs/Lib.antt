@@ -9,6 +9,10 @@ pub mod PipesAlong
 pub mod GoesAlong
 pub mod OwnPublished
 pub mod ClientPromised
+pub mod HandledUnderNames
+pub mod CallsUnderNames
+pub mod AlongUnderNames
+pub mod OwnPorts
 pub mod RowNode
 pub mod RowAlong
 pub mod AcceptedBeside

@@ -184,11 +184,11 @@ names_go_with_ports nodes config g went n end once had =
 
 -- ---- each port has a name
 
-same_ports : (a b : Port) → a.0 ≡ b.0 → a ≡ b
+pub same_ports : (a b : Port) → a.0 ≡ b.0 → a ≡ b
 same_ports a b e = ap (λ n. let q : Port = record { 0 = n } in q) e
 
 -- a connection was at the port at some time, or none ever was
-data EverAt {nodes : ℕ} {config : Config} {g : Group} (went : GroupTrace nodes config g) (n : ℕ) (port : Port) : Type 0 where
+pub data EverAt {nodes : ℕ} {config : Config} {g : Group} (went : GroupTrace nodes config g) (n : ℕ) (port : Port) : Type 0 where
   was_at : (d : NodesEnd) → HadConnection went n d → d.port.0 ≡ port.0 → EverAt went n port
   never_at : ((d : NodesEnd) → HadConnection went n d → d.port.0 ≡ port.0 → ⊥) → EverAt went n port
 
@@ -220,7 +220,7 @@ after_none {h = h} went step n port none = by (slice_get h.nodes n) refl
     by None e = still_none (λ core d at listed same. no_node core (sym e ∙ at))
     by (Some core) e = in_core core e (find (is_at port) core.connections) refl
 
-ever_at : {nodes : ℕ} {config : Config} {g : Group} (went : GroupTrace nodes config g) (n : ℕ) (port : Port) → EverAt went n port
+pub ever_at : {nodes : ℕ} {config : Config} {g : Group} (went : GroupTrace nodes config g) (n : ℕ) (port : Port) → EverAt went n port
 ever_at (opened greatest can) n port = never_at (λ d had same. not_yet (opened greatest can) n port refl d had same)
 ever_at (then_went went step) n port = by (ever_at went n port)
   where
@@ -229,11 +229,11 @@ ever_at (then_went went step) n port = by (ever_at went n port)
     by (never_at none) = after_none went step n port none
 
 -- a name that a node gave is in its ranges
-had_named : {nodes : ℕ} {config : Config} {g : Group} (went : GroupTrace nodes config g) (n : ℕ) (d : NodesEnd) → HadConnection went n d → IsConnectionName d.name
+pub had_named : {nodes : ℕ} {config : Config} {g : Group} (went : GroupTrace nodes config g) (n : ℕ) (d : NodesEnd) → HadConnection went n d → IsConnectionName d.name
 had_named went n d had = names_fit went d.name had.earlier n had.among (has_name went n d d.name had refl)
 
 -- any spare name is that of a port at which no connection ever was
-spare_at : {nodes : ℕ} {config : Config} {g : Group} (went : GroupTrace nodes config g) (n : ℕ) (port : Port) (spare : ConnectionName) → ((d : NodesEnd) → HadConnection went n d → d.port.0 ≡ port.0 → ⊥)
+pub spare_at : {nodes : ℕ} {config : Config} {g : Group} (went : GroupTrace nodes config g) (n : ℕ) (port : Port) (spare : ConnectionName) → ((d : NodesEnd) → HadConnection went n d → d.port.0 ≡ port.0 → ⊥)
     → is_connection_name spare ≡ false → IsNameAt went spare n port
 spare_at went n port spare none out =
     record {

@@ -3,4 +3,5 @@ pub mod Along
 pub mod Names
 pub mod Proposals
 pub mod Promised
+pub mod Ports
 pub mod Rows

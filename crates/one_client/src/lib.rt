@@ -12,4 +12,4 @@ pub use connection_theorems::{
     proposals_are_in_range,
 };
 pub use rows::accepts_beside_a_stranger;
-pub use theorems::one_client_is_promised;
+pub use theorems::{clients_with_own_ports_are_promised, one_client_is_promised};

@@ -1,5 +1,6 @@
-// The theorem about one client among others: the contract of a function with an empty body.
+// The theorems about one client among others: the contracts of functions with an empty body.
 
+ghost use Rattle.one_client.specs.Ports.{ClientsWithOwnPortsArePromised};
 ghost use Rattle.one_client.specs.Promised.{OneClientIsPromised};
 
 /// States that in all steps of any group a client that keeps its side gets what is promised, by
@@ -7,4 +8,10 @@ ghost use Rattle.one_client.specs.Promised.{OneClientIsPromised};
 /// connections bring may be any bytes (MQTT 4.3.3, 4.4, 4.6).
 pub fn one_client_is_promised()
     ensures { OneClientIsPromised }
+{}
+
+/// States that it gets the same by ports alone: if each of its connections has a port that is used
+/// for no other, and nobody else uses its identifier, the names of its connections follow.
+pub fn clients_with_own_ports_are_promised()
+    ensures { ClientsWithOwnPortsArePromised }
 {}
