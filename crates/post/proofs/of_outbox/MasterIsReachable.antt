@@ -1,6 +1,9 @@
 -- MasterIsReachable.antt: a master continues by its answers, and what it sends is one of these.
 use Rattle.std.proofs.Common.{◌≡◌, ℕ, ◌+◌, if◌then◌else◌, List, Option, Some, None, Ok, Err, refl, ◌∙◌, ap, sym, subst, true≢false}
+use Rattle.std.specs.Prelude.{Result}
 use Rattle.std.specs.Result.{is_ok}
+use Rattle.post.specs.declared.outbox.order_error.OrderError.{OrderError}
+use Rattle.post.specs.declared.outbox.order_error.OrderError.TheVariants.{Refused}
 use Rattle.agreement.specs.MasterState.{AssignRefusal, MasterState, activating, is_granted, master_after, opening_master, refusal}
 use Rattle.agreement.specs.cut_logs.Masters.{activated, assigned}
 use Rattle.agreement.specs.MasterState.AssignRefusal.{bad_members, ballots_spent}
@@ -32,6 +35,11 @@ pub not_refused : (why : Option AssignRefusal) → (why ≡ Some bad_members →
 not_refused None bad spent = refl
 not_refused (Some bad_members) bad spent = absurd (bad refl)
 not_refused (Some ballots_spent) bad spent = absurd (spent refl)
+
+-- why an order is refused, if the master refuses it
+abbrev pub cause_in : {T : Type 0} → Result T OrderError → Result ℕ AssignError
+cause_in (Err (Refused error)) = Err error
+cause_in _ = Ok 0
 
 pub reachable_by_order : (old new : MasterState) (config : Config) → IsReachable old → refusal old config ≡ None
     → new ≡ master_after old config (refusal old config) → IsReachable new
