@@ -1,15 +1,14 @@
 -- Accounted.antt: what becomes of the messages that a queue is asked to queue.
-use Rattle.std.proofs.Common.{◌≡◌, ℕ, ◌+◌, ◌-◌, ◌<◌, ◌≤◌, Bool, true, false, if◌then◌else◌, List, [], ◌∷◌, ◌++◌, length, take, drop, map, Option, Some, None, refl, sym, ap, ap₂, ◌∙◌, subst, arith, append_assoc}
+use Rattle.std.proofs.Common.{◌≡◌, ℕ, ◌-◌, Bool, true, false, if◌then◌else◌, List, [], ◌∷◌, ◌++◌, length, take, refl, sym, ap, ap₂, ◌∙◌, subst, append_assoc}
 use Rattle.std.proofs.lemmas.List.{append-nil, map-append}
 use Rattle.ballot_base.specs.declared.message.Message.{Message}
 use Rattle.link_queue.specs.declared.queue.Waiting.{Waiting}
-use Rattle.link_queue.specs.Covering.{covers}
-use Rattle.link_queue.specs.Queues.{covers_newest, covers_one, still_waiting}
-use Rattle.link_queue.specs.Theorems.{Ran, IsWithin, Accounts, ComesOutInOrder, NothingElseIsLost, messages}
+use Rattle.link_queue.specs.Queues.{covers_newest, still_waiting}
+use Rattle.link_queue.specs.Theorems.{IsWithin, Accounts, ComesOutInOrder, NothingElseIsLost, messages}
 use Rattle.link_queue.specs.Theorems.Ran.{opens, queues, drops, takes}
 use Rattle.link_queue.specs.Theorems.IsWithin.{nothing, keeps, skips}
 use Rattle.link_queue.specs.Theorems.Accounts.{begins, stands, replaces, loses}
-use Rattle.link_queue.proofs.Kept.{Covered, covered_last}
+use Rattle.link_queue.proofs.Kept.{covered_last}
 
 -- ---- what is accounted for is in order
 

@@ -1,5 +1,5 @@
 -- Kept.antt: what still waits when a message is queued.
-use Rattle.std.proofs.Common.{◌≡◌, ℕ, zero, suc, ◌+◌, ◌-◌, ◌<◌, ◌≤◌, Bool, true, false, if◌then◌else◌, List, [], ◌∷◌, ◌++◌, length, take, drop, map, Option, Some, None, refl, sym, ap, ap₂, ◌∙◌, subst, arith, append_assoc, length-append, get_or, set, nat_lt, nat_le, ◌&&◌, ltb-true, leb-true, ◌==◌}
+use Rattle.std.proofs.Common.{◌≡◌, ℕ, suc, ◌+◌, ◌-◌, ◌≤◌, Bool, true, false, if◌then◌else◌, List, [], ◌∷◌, ◌++◌, length, take, Option, Some, None, refl, sym, ap, ◌∙◌, subst, arith, length-append, get_or, set, nat_lt, nat_le, ◌&&◌, ltb-true, leb-true, ◌==◌}
 use Rattle.std.proofs.lemmas.List.{get_or_at, take_all, take_more_set, length-set}
 use Rattle.std.specs.Prelude.{slice_get}
 use Rattle.ballot_base.specs.declared.message.Message.{Message}

@@ -1,5 +1,5 @@
 -- LogsThere.antt: the names of a queue are those of the logs that wait or are in transit, each of them there once.
-use Rattle.std.proofs.Common.{◌≡◌, ℕ, zero, suc, ◌+◌, ◌-◌, ◌≤◌, Bool, true, false, not, ◌&&◌, ◌||◌, ◌==◌, cond, if◌then◌else◌, List, [], ◌∷◌, ◌++◌, length, take, map, filter, Option, Some, None, refl, sym, ap, ap₂, ◌∙◌, subst, arith, append_assoc, length-append}
+use Rattle.std.proofs.Common.{◌≡◌, ℕ, suc, ◌+◌, ◌-◌, ◌≤◌, Bool, true, false, not, ◌&&◌, ◌||◌, ◌==◌, cond, if◌then◌else◌, List, [], ◌∷◌, ◌++◌, length, take, filter, Option, Some, None, refl, sym, ap, ap₂, ◌∙◌, subst, arith, append_assoc, length-append}
 use Rattle.std.specs.List.{list_any}
 use Rattle.std.proofs.lemmas.List.{append-nil, map-append}
 use Rattle.std.proofs.lemmas.List.Folds.{list_any-append}
@@ -11,12 +11,11 @@ use Rattle.link_queue.specs.declared.queue.Waiting.{Waiting}
 use Rattle.link_queue.specs.declared.queue.Fate.{Fate}
 use Rattle.link_queue.specs.declared.queue.Fate.TheVariants.{Queued, Repeated, Full}
 use Rattle.link_queue.specs.Logs.{is_name, is_named, is_same, log_name}
-use Rattle.link_queue.specs.Covering.{covers}
 use Rattle.link_queue.specs.Queues.{QueueView, covers_newest, fate_of, fits, has_name, has_waiting, is_repeated, is_there, stays, still_waiting, with_log, with_message}
 use Rattle.link_queue.specs.Theorems.{messages}
 use Rattle.link_queue.specs.Transit.{Linked, EachLogIsThereOnce, WhatIsRepeatedIsThere, carries_log, named}
 use Rattle.link_queue.specs.Transit.Linked.{opens, queues, drops, takes, leaves, breaks, clears}
-use Rattle.link_queue.proofs.Kept.{Covered, covered_last, covered_without_log}
+use Rattle.link_queue.proofs.Kept.{covered_last, covered_without_log}
 
 -- ---- names
 

@@ -1,6 +1,5 @@
 -- The logs that are sent, by the kind of their message and their ballot.
-use Rattle.std.specs.Prelude.{ℕ, Bool, true, false, ◌==◌, not, List, Option, Some, None, filter}
-use Rattle.std.specs.List.{list_any}
+use Rattle.std.specs.Prelude.{Bool, false, ◌==◌, Option, Some, None}
 use Rattle.ballot_base.specs.declared.message.Message.{Message}
 use Rattle.ballot_base.specs.declared.message.Body.{Body}
 use Rattle.ballot_base.specs.declared.message.Body.TheVariants as bodies
