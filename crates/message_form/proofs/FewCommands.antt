@@ -1,5 +1,6 @@
 -- As many commands are read as their count says; if they are read, the first one is.
-use Rattle.std.proofs.Common.{◌≡◌, ℕ, zero, suc, ◌+◌, ◌≤◌, Bool, true, false, nat_le, List, [], ◌∷◌, ◌++◌, length, Result, Ok, Err, refl, ap, subst, arith, inl, inr}
+use Rattle.std.proofs.Math.Dec.{eqb-suc-zero}
+use Rattle.std.proofs.Common.{◌∙◌, if◌then◌else◌, ◌≡◌, ℕ, zero, suc, ◌+◌, ◌≤◌, Bool, true, false, nat_le, List, [], ◌∷◌, ◌++◌, length, Result, Ok, Err, refl, ap, subst, arith, inl, inr}
 use Rattle.std.specs.Prelude.{IfOk, ◌||◌, ◌==◌, is_ok}
 use Rattle.std.proofs.lemmas.List.{length-append}
 use Rattle.packet_base.specs.declared.stop.Stop.{Stop}
@@ -42,7 +43,7 @@ read_few view (Err stop) many most rest bytes e small = tt
 
 -- ---- the first of the commands
 
-or_left : (a b : Bool) → a ≡ true → (a || b) ≡ true
+pub or_left : (a b : Bool) → a ≡ true → (a || b) ≡ true
 or_left true b e = refl
 or_left false b e = absurd cc
 
@@ -55,25 +56,26 @@ goes_on : {A B : Type 0} (r : Result A Stop) (f : A → Result B Stop) (x : B) �
 goes_on (Ok y) f x e = refl
 goes_on (Err stop) f x e = absurd cc
 
-from_test : (test : Bool) (n : ℕ) (rest : List ℕ) (x : List Command × List ℕ) → (check_form test >> items_after anything sized_command_at n [] rest) ≡ Ok x →
-    (check_form test >> Ok ((n == 0) || first_asks rest)) ≡ Ok true
+from_test : (copies test : Bool) (n : ℕ) (rest : List ℕ) (x : List Command × List ℕ) → copies ≡ true → (check_form test >> items_after anything sized_command_at n [] rest) ≡ Ok x →
+    (check_form test >> Ok (if n == 0 then copies else first_asks rest)) ≡ Ok true
 unfolding items_after
-from_test true zero rest x e = refl
-from_test true (suc n) rest x e =
+from_test copies true zero rest x is e = ap (λ (b : Bool). Ok b) is
+from_test copies true (suc n) rest x is e =
     let first = or_left (is_ok (sized_command_at rest)) (is_asked (sized_asks rest)) (goes_on (sized_command_at rest) _ x e) in
-    ap (λ (b : Bool). Ok b) (or_right (suc n == 0) (first_asks rest) first)
-from_test false n rest x e = absurd cc
+    let some : (suc n == 0) ≡ false = eqb-suc-zero n in
+    ap (λ (b : Bool). Ok (if b then copies else first_asks rest)) some ∙ ap (λ (b : Bool). Ok b) first
+from_test copies false n rest x is e = absurd cc
 
-from_count : (r : Result (ℕ × List ℕ) Stop) (most : ℕ) (x : List Command × List ℕ) →
+from_count : (copies : Bool) (r : Result (ℕ × List ℕ) Stop) (most : ℕ) (x : List Command × List ℕ) → copies ≡ true →
     (r >>= (λ many. check_form (nat_le many.0 most) >> items_after anything sized_command_at many.0 [] many.1)) ≡ Ok x →
-    (r >>= (λ count. check_form (nat_le count.0 most) >> Ok ((count.0 == 0) || first_asks count.1))) ≡ Ok true
-from_count (Ok (n, rest)) most x e = from_test (nat_le n most) n rest x e
-from_count (Err stop) most x e = absurd cc
+    (r >>= (λ count. check_form (nat_le count.0 most) >> Ok (if count.0 == 0 then copies else first_asks count.1))) ≡ Ok true
+from_count copies (Ok (n, rest)) most x is e = from_test copies (nat_le n most) n rest x is e
+from_count copies (Err stop) most x is e = absurd cc
 
--- if all commands are read, memory is needed
-pub asked_all : (most : ℕ) (bytes : List ℕ) (x : List Command × List ℕ) → counted_items_at wide_number_at anything sized_command_at most bytes ≡ Ok x → commands_ask most bytes ≡ Ok true
+-- if all commands are read, memory is needed, if only for a snapshot
+pub asked_all : (copies : Bool) (most : ℕ) (bytes : List ℕ) (x : List Command × List ℕ) → copies ≡ true → counted_items_at wide_number_at anything sized_command_at most bytes ≡ Ok x → commands_ask copies most bytes ≡ Ok true
 unfolding counted_items_at commands_ask
-asked_all most bytes x e = from_count (wide_number_at bytes) most x e
+asked_all copies most bytes x is e = from_count copies (wide_number_at bytes) most x is e
 
 -- ---- in the loop
 

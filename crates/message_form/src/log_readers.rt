@@ -3,14 +3,15 @@
 // No room is made for a count or a length that was only read: a vector of commands grows by the
 // commands that were read, and the snapshot is copied last, once all else is there.
 
-ghost use Rattle.std.specs.Prelude.{◌≡◌, ◌≤◌, [], Ok, true, IfOk, IsOk, OnErr, length};
+ghost use Rattle.std.specs.Prelude.{◌≡◌, ◌<◌, ◌≤◌, [], Ok, Bool, true, IfOk, OnErr, length};
 ghost use Rattle.packet_base.specs.Outcome.{Gives, IsOutOfMemory, Reads};
 ghost use Rattle.session_base.specs.Counted.{counted_items_at, items_after, AddsItem};
 ghost use Rattle.message_form.specs.Numbers.{wide_number_at};
 ghost use Rattle.message_form.specs.LogReading.{anything, log_at, sized_command_at};
 ghost use Rattle.message_form.specs.LogReading.{whole_command};
 ghost use Rattle.message_form.specs.CommandReading.{command_asks};
-ghost use Rattle.message_form.specs.Growth.{commands_ask, first_asks, log_asks, sized_asks};
+ghost use Rattle.message_form.specs.Growth.{commands_ask, first_asks, has_some, log_asks};
+ghost use Rattle.message_form.specs.Growth.{sized_asks};
 
 use crate::command_readers::read_command;
 use crate::numbers::{read_long_number, read_wide_number};
@@ -39,7 +40,7 @@ pub(crate) fn read_log(alloc: Global, reader: &mut Reader) -> Result<Log<Command
 fn shared(alloc: Global, bytes: &[u8]) -> Result<Bytes, Stop>
     ensures value { IfOk result (λ copy. copy ≡ bytes.now) }
     ensures memory { OnErr result (IsOutOfMemory result) }
-    ensures none { bytes.now ≡ [] → IsOk result }
+    ensures some { OnErr result (has_some bytes.now ≡ true) }
 {
     if bytes.is_empty() {
         return Ok(Bytes::new());
@@ -56,7 +57,8 @@ fn read_commands(alloc: Global, most: u64, reader: &mut Reader) -> Result<Vec<Co
     ensures exact { Reads (λ commands. commands.items) result reader.new
         (counted_items_at wide_number_at anything sized_command_at most reader.old) }
     ensures few { IfOk result (λ commands. length commands.items ≤ most) }
-    ensures memory { IsOutOfMemory result → commands_ask most reader.old ≡ Ok true }
+    ensures memory { (copies : Bool) → IsOutOfMemory result
+        → commands_ask copies most reader.old ≡ Ok true }
 {
     let count = read_wide_number(reader)?;
     if count > most {
@@ -70,6 +72,7 @@ fn read_counted(alloc: Global, count: u64, reader: &mut Reader) -> Result<Vec<Co
     ensures exact { Reads (λ commands. commands.items) result reader.new
         (items_after anything sized_command_at count [] reader.old) }
     ensures memory { IsOutOfMemory result → first_asks reader.old ≡ true }
+    ensures some { IsOutOfMemory result → 0 < count }
 {
     let mut commands = Vec::new(alloc);
     for _ in 0..count {

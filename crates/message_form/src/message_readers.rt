@@ -1,14 +1,13 @@
 // Reading a message from its bytes.
 
-ghost use Rattle.std.specs.Prelude.{◌≡◌, Ok, true, IfOk, IsErrOf};
+ghost use Rattle.std.specs.Prelude.{◌≡◌, Ok, true, IfOk, IsErrOf, OnErr};
 ghost use Rattle.packet_base.specs.Outcome.{Gives, IsOutOfMemory, Reads, TakesNoMemory};
 ghost use Rattle.message_form.specs.MessageReading.{append_at, ballot_log_at, body_of_kind};
 ghost use Rattle.message_form.specs.MessageReading.{message_at, new_ballot_at, numbers_of_kind};
 ghost use Rattle.message_form.specs.MessageReading.{pair_at, whole_message};
 ghost use Rattle.message_form.specs.LogReading.{members_at};
-ghost use Rattle.message_form.specs.CommandReading.{if_faultless};
 ghost use Rattle.message_form.specs.Growth.{append_asks, ballot_log_asks, body_asks, message_asks};
-ghost use Rattle.message_form.specs.Growth.{MayNeedMemory};
+ghost use Rattle.message_form.specs.Growth.{has_some, new_ballot_asks, MayNeedMemory};
 ghost use Rattle.message_form.specs.Outcome.{fault_of, message_of, IsReadFrom, ReadsWhatIsWritten};
 ghost use Rattle.message_form.specs.Outcome.{Yields};
 
@@ -146,10 +145,10 @@ fn read_pair(reader: &mut Reader) -> Result<(u64, u64), Stop>
     Ok((first, second))
 }
 
-#[tactic(auto, unfolding(crate::specs::MessageReading::new_ballot_at))]
+#[tactic(auto, unfolding(crate::specs::MessageReading::new_ballot_at, crate::specs::Growth::new_ballot_asks), using(crate::proofs::FewCommands::or_left, crate::proofs::FewCommands::or_right))]
 fn read_new_ballot(alloc: Global, reader: &mut Reader) -> Result<Body<Command>, Stop>
     ensures exact { Reads (λ value. value) result reader.new (new_ballot_at reader.old) }
-    ensures memory { IsOutOfMemory result → if_faultless (new_ballot_at reader.old) ≡ Ok true }
+    ensures memory { IsOutOfMemory result → new_ballot_asks reader.old ≡ Ok true }
 {
     let ballot = read_wide_number(reader)?;
     let members = read_members(reader)?;
@@ -172,8 +171,12 @@ fn read_members<'a>(reader: &mut Reader<'a>) -> Result<&'a [u8], Stop>
 
 // Returns the members of these numbers. The only error is that memory ran out.
 fn members_of(alloc: Global, numbers: &[u8]) -> Result<Members, Stop>
-    ensures { Gives (λ members. members) result (Ok numbers.now) }
+    ensures exact { Gives (λ members. members) result (Ok numbers.now) }
+    ensures some { OnErr result (has_some numbers.now ≡ true) }
 {
+    if numbers.is_empty() {
+        return Ok(Members::new(alloc));
+    }
     match Members::from_slice(alloc, numbers) {
         Ok(members) => Ok(members),
         Err(_) => Err(OUT_OF_MEMORY),
