@@ -1,5 +1,5 @@
 -- The run of the row: a client publishes at QoS 2 to itself beside a stranger, and accepts its publication once.
-use Rattle.std.specs.List.{All, list_all}
+use Rattle.std.specs.List.{All, list_all, list_any}
 use Rattle.std.specs.Prelude.{nat_lt, nat_le}
 use Rattle.std.specs.Str.{chars, is_utf8}
 use lib.Utf8.{encode}
@@ -8,6 +8,7 @@ use Rattle.std.proofs.lemmas.Bool.{both_ways}
 use Rattle.std.proofs.lemmas.List.{append-nil}
 use Rattle.lists.specs.Lists.{Each, In}
 use Rattle.lists.specs.Lists.In.{here, there}
+use Rattle.lists.proofs.Tests.{or_none}
 use Rattle.packet.specs.declared.packet.Packet.TheVariants as packets
 use Rattle.packet.specs.Spelling.{IsPacket, spelling}
 use Rattle.packet.specs.Subscribe.{FitsSubscription}
@@ -27,6 +28,7 @@ use Rattle.session_base.specs.Identifiers.{least_free}
 use Rattle.broker_spec.specs.Connection.{ConnectionName}
 use Rattle.ballot_base.specs.LawfulConfig.{max_node}
 use Rattle.world_base.specs.declared.node_connections.connection.Connection.{Connection as NodesEnd}
+use Rattle.world_base.specs.declared.node_connections.port.Port.{Port}
 use Rattle.world_base.specs.declared.node_connections.connection.ConnectionStage.TheVariants.{Proposed}
 use Rattle.world_base.specs.node_connections.Connections.{fresh}
 use Rattle.world_base.specs.declared.node_core.item.Item.TheVariants.{Opened, Bytes}
@@ -38,8 +40,9 @@ use Rattle.headline.specs.node_group.Group.{opening_group}
 use Rattle.headline.specs.byte_world.World.{ClientPipes, packets_of}
 use Rattle.headline.proofs.ServedNode.{both, connack, connect, core_at_first, publish, suback, subscribe}
 use Rattle.one_client.specs.Along.Along.{calls, connects, opens}
-use Rattle.one_client.specs.Calls.{IsByte}
-use Rattle.one_client.specs.Names.{AreNamed, IsNameAt}
+use Rattle.one_client.specs.Calls.{IsByte, calls_on, opens_at}
+use Rattle.one_client.specs.Names.{AreNamed, IsNameAt, OpensOnce}
+use Rattle.one_client.specs.Ports.{HasOwnPorts}
 use Rattle.one_client.specs.Rows.{AcceptsBesideAStranger, lost_port, name_of, noise, other_port, own_port, second_connection, spare_name}
 use Rattle.one_client.proofs.PortBytes.{had_now}
 use Rattle.one_client.proofs.PortNames.{names_go_with_ports, untold_name}
@@ -208,6 +211,13 @@ abbrev calls_at_last : List (Option (ℕ × NodeCall))
 calls_at_last =
     brings (spelling (packets.Pubcomp 1)) ∷ given ∷ brings both ∷ given ∷ brings (spelling publish) ∷ given ∷ brings (spelling subscribe) ∷ given ∷ brings (spelling connect) ∷ calls_at_first
 
+-- a port of which a node was not told was opened once at most
+opened_never : (n : ℕ) (port : Port) (node_calls : List (Option (ℕ × NodeCall))) → list_any (opens_at n port) node_calls ≡ false → OpensOnce n port node_calls
+opened_never n port [] none = tt
+opened_never n port (node_call ∷ node_calls) none =
+    let parts = or_none (opens_at n port node_call) (list_any (opens_at n port) node_calls) none in
+    (λ opens. parts.1, opened_never n port node_calls parts.1)
+
 -- all that the row says, if it ends so
 row_ends : (keeper : Keeper) (κ : ClientConnection) (last : Row (serving list_done []) (client_with keeper κ (pipe_with [] [] [])) calls_at_last (news ∷ [])) → κ.name ≡ second_connection
     → accepted_on (κ ∷ lost_connection ∷ []) ≡ news ∷ [] → AcceptsBesideAStranger
@@ -222,6 +232,7 @@ row_ends keeper κ last name accepted =
       names = ap (λ (z : ClientPipes). map name_of z.connections) last.is ∙ ap (λ (x : ConnectionName). x ∷ spare_name ∷ []) name;
       named = subst (λ (z : ClientPipes). AreNamed last.went z.connections z.pipes) (sym last.is)
           (subst (λ (x : ConnectionName). IsNameAt last.went x 0 own_port) (sym name) known, (untold_name last.went 0 lost_port spare_name last.untold refl, tt));
+      own_ports = subst (λ (z : ClientPipes). HasOwnPorts last.went z.pipes) (sym last.is) (last.once, refl, (opened_never 0 lost_port (calls_on last.went) last.untold, refl, tt));
       untold = last.untold;
       stranger = subst (In (let o : Option (ℕ × NodeCall) = Some (0, takes (Bytes other_port noise 0)) in o)) (sym last.calls_are)
           (there (there (there (there (there (there (there (there (there (there here))))))))));

@@ -15,6 +15,7 @@ use Rattle.headline.specs.node_moves.Moves.NodeCall.{takes}
 use Rattle.one_client.specs.Along.{Along, published_along}
 use Rattle.one_client.specs.Calls.{calls_on, was_opened}
 use Rattle.one_client.specs.Names.{AreNamed}
+use Rattle.one_client.specs.Ports.{HasOwnPorts}
 
 -- the port of the client's connection
 abbrev pub own_port : Port
@@ -55,6 +56,7 @@ pub record AcceptsBesideAStranger : Type 0 where
   pub along : Along 1 one_node writer group went one
   pub names : map name_of one.connections ≡ second_connection ∷ spare_name ∷ []
   pub named : AreNamed went one.connections one.pipes
+  pub own_ports : HasOwnPorts went one.pipes
   pub untold : was_opened 0 lost_port went ≡ false
   pub stranger : In (Some (0, takes (Bytes other_port noise 0))) (calls_on went)
   pub asked : published_along along ≡ news ∷ []
