@@ -1,0 +1,11 @@
+pub mod ParcelsAgain
+pub mod ParcelsFound
+pub mod Opening
+pub mod WritesJoin
+pub mod Framing
+pub mod Handing
+pub mod Shorter
+pub mod Stepping
+pub mod HandedOver
+pub mod Hellos
+pub mod Meeting

@@ -1,0 +1,13 @@
+pub mod Parcels
+pub mod ParcelReading
+pub mod Room
+pub mod ParcelTheorems
+pub mod Ways
+pub mod Faults
+pub mod Devices
+pub mod Links
+pub mod Inside
+pub mod Reading
+pub mod Written
+pub mod Handshakes
+pub mod Runs
