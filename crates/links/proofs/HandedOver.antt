@@ -5,7 +5,8 @@ use Rattle.std.specs.Io.KnownBytes.{Consumes}
 use Rattle.links.specs.declared.parcel.Parcel.{Parcel}
 use Rattle.links.specs.declared.link_fault.LinkFault.{LinkFault}
 use Rattle.links.specs.declared.link_fault.LinkFault.TheVariants as faults
-use Rattle.links.specs.Links.{LinkView, Hands, IsDry, Refuses, Stands, with_bytes}
+use Rattle.links.specs.Links.{LinkView, Hands, IsDry, with_bytes}
+use Rattle.links.specs.Stands.{Refuses, Stands}
 use Rattle.links.specs.Reading.{AddsSo, HandsOver, ReadsPiece}
 use Rattle.links.proofs.Handing.{hands_join}
 use Rattle.links.proofs.Stepping.{hands_none}

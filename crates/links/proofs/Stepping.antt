@@ -9,7 +9,8 @@ use Rattle.links.specs.declared.parcel.Way.{Way}
 use Rattle.links.specs.declared.link_fault.LinkFault.{LinkFault}
 use Rattle.links.specs.declared.link_fault.LinkFault.TheVariants as faults
 use Rattle.links.specs.Parcels.{parcel_bytes}
-use Rattle.links.specs.Links.{LinkView, Comes, FrameStands, Hands, IsRefused, PartsStand, Refuses, Stands, max_frame, max_parcel}
+use Rattle.links.specs.Links.{LinkView, Comes, Hands, max_frame, max_parcel}
+use Rattle.links.specs.Stands.{FrameStands, IsRefused, PartsStand, Refuses, Stands}
 use Rattle.links.specs.Inside.{Opens, Takes}
 use Rattle.links.proofs.Opening.{none_after, opens_join}
 

@@ -2,10 +2,12 @@ pub mod Parcels
 pub mod ParcelReading
 pub mod Room
 pub mod ParcelTheorems
+pub mod Rows
 pub mod Ways
 pub mod Faults
 pub mod Devices
 pub mod Links
+pub mod Stands
 pub mod Inside
 pub mod Reading
 pub mod Written

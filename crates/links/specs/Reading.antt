@@ -6,7 +6,8 @@ use Rattle.links.specs.declared.link_fault.LinkFault.{LinkFault}
 use Rattle.links.specs.declared.link_fault.LinkFault.TheVariants.{Memory}
 use Rattle.links.specs.declared.reading.LinkReadError.{LinkReadError}
 use Rattle.links.specs.declared.reading.LinkReadError.TheVariants.{Device, Link}
-use Rattle.links.specs.Links.{LinkView, Hands, IsDry, Stands, with_bytes}
+use Rattle.links.specs.Links.{LinkView, Hands, IsDry, with_bytes}
+use Rattle.links.specs.Stands.{Stands}
 
 -- how a handing over ends: with all parcels that are whole, or at a fault, which is final
 abbrev pub EndsSo : Result (Unit {0}) LinkFault → LinkView → LinkView → Type 0

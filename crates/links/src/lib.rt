@@ -11,6 +11,7 @@ mod parcel;
 mod parcel_readers;
 mod parcel_writers;
 mod reading;
+mod rows;
 mod sink;
 mod theorems;
 
@@ -23,6 +24,7 @@ pub use parcel::{Parcel, Way, WayFault};
 pub use parcel_readers::read_parcel;
 pub use parcel_writers::write_parcel;
 pub use reading::{LinkReadError, read_link};
+pub use rows::{each_parcel_has_its_bytes, first_fault_of_a_parcel_counts};
 pub use sink::ParcelSink;
 pub use theorems::{
     accepted_frames_are_tagged, ends_have_one_place, links_hand_over_what_was_given,

@@ -10,9 +10,11 @@ ghost use Rattle.frames.specs.Fronts.{Begins};
 ghost use Rattle.frames.specs.Fronts.Front.{unfinished};
 ghost use Rattle.seal.specs.FrameStreams.{IsUnfinished};
 ghost use Rattle.links.specs.Parcels.{parcel_bytes};
-ghost use Rattle.links.specs.Links.{Comes, FrameStands, Hands, IsDry, IsRefused, PartsStand};
+ghost use Rattle.links.specs.Links.{Comes, Hands, IsDry};
+ghost use Rattle.links.specs.Stands.{FrameStands, IsRefused, PartsStand};
 ghost use Rattle.links.specs.Links.{max_frame, max_parcel};
-ghost use Rattle.links.specs.Links.{Refuses, with_bytes};
+ghost use Rattle.links.specs.Links.{with_bytes};
+ghost use Rattle.links.specs.Stands.{Refuses};
 ghost use Rattle.links.specs.Inside.{OpensOne, Takes};
 
 use crate::link_fault::LinkFault;
