@@ -46,7 +46,7 @@ of_longer : {X : Type 0} (x z : X) (zs xs : List X) → In x (z ∷ zs) → (In 
 of_longer x z zs xs here rest = here
 of_longer x z zs xs (there j) rest = there (rest j)
 
-passed : {X : Type 0} (test : X → Bool) (xs : List X) (x : X) → In x (filter test xs) → In x xs
+pub passed : {X : Type 0} (test : X → Bool) (xs : List X) (x : X) → In x (filter test xs) → In x xs
 passed test [] x i = elim i [ ]
 passed test (y ∷ xs) x i = by (test y) i (passed test xs x)
   where

@@ -65,7 +65,7 @@ use Rattle.headline.proofs.of_byte_world.NodesGoOn.{came_so, of_each}
 use Rattle.headline.proofs.of_byte_world.PipesHold.{found_there, none_found}
 use Rattle.one_client.specs.Calls.{AreFaithful, BringsBytes, IsByte, calls_on}
 use Rattle.one_client.specs.Proposals.{NamesConnectOnce}
-use Rattle.one_client.proofs.Followers.{IsFollowed, each_taken, kept, move_kept}
+use Rattle.one_client.proofs.Followers.{IsFollowed, bytes_kept, each_taken, kept}
 use Rattle.one_client.proofs.PortBytes.{now_there, same_core}
 use Rattle.one_client.proofs.ProposedInRange.{call_brings}
 
@@ -74,11 +74,11 @@ use Rattle.one_client.proofs.ProposedInRange.{call_brings}
 abbrev connects_in : ConnectionName → List Command → List Command
 connects_in x commands = filter (is_connect_of x) commands
 
-rows_joined : (rows more : List (ℕ × Command)) → commands_of (rows ++ more) ≡ commands_of rows ++ commands_of more
+pub rows_joined : (rows more : List (ℕ × Command)) → commands_of (rows ++ more) ≡ commands_of rows ++ commands_of more
 rows_joined [] more = refl
 rows_joined (row ∷ rows) more = ap (λ l. row.1 ∷ l) (rows_joined rows more)
 
-rows_of : (ballot : ℕ) (commands : List Command) → commands_of (map (λ (command : Command). (ballot, command)) commands) ≡ commands
+pub rows_of : (ballot : ℕ) (commands : List Command) → commands_of (map (λ (command : Command). (ballot, command)) commands) ≡ commands
 rows_of ballot [] = refl
 rows_of ballot (command ∷ commands) = ap (λ l. command ∷ l) (rows_of ballot commands)
 
@@ -120,7 +120,7 @@ if_serving : (x : ConnectionName) (b : Bool) (command : Command) → is_connect_
 if_serving x true command other = rw other refl
 if_serving x false command other = refl
 
-same_connects : (x : ConnectionName) {core : CoreState} {outcome : StepOutcome} (m : NodeMoveOrLost core outcome) → connects_in x (commands_put m) ≡ connects_in x (move_proposal m)
+pub same_connects : (x : ConnectionName) {core : CoreState} {outcome : StepOutcome} (m : NodeMoveOrLost core outcome) → connects_in x (commands_put m) ≡ connects_in x (move_proposal m)
 same_connects x {core = core} (exactly (loses_one port c at asked)) = if_serving x (serves core) (commands.Lost c.name) refl
 same_connects x {core = core} (exactly (loses_next c at)) = if_serving x (serves core) (commands.Lost c.name) refl
 same_connects x {core = core} (exactly (expels_one client)) = if_serving x (serves core) (commands.Expel client) refl
@@ -162,7 +162,7 @@ pub none_before : {X : Type 0} (xs : List X) → IsPrefixOf xs [] → xs ≡ []
 none_before [] front = refl
 none_before (x ∷ xs) front = absurd (no_cons x (xs ++ front.rest) (sym front.is))
 
-silent_run : (x : ConnectionName) (core : CoreState) (outcome : StepOutcome) (run : MoveTraceOrLost core outcome) → IsOrderly core → IsEnd x core [] [] [] → bytes_on x run ≡ []
+pub silent_run : (x : ConnectionName) (core : CoreState) (outcome : StepOutcome) (run : MoveTraceOrLost core outcome) → IsOrderly core → IsEnd x core [] [] [] → bytes_on x run ≡ []
     → count x (put_in_run run) ≡ 0
 silent_run x core outcome rests o end none = refl
 silent_run x core outcome (goes_on {first = first} {next = next} m run) o end none =
@@ -177,7 +177,7 @@ silent_run x core outcome (goes_on {first = first} {next = next} m run) o end no
     omega (arith, first_count, rest, both)
 
 -- it is still to come, or was closed
-no_end : (x : ConnectionName) (core : CoreState) → listed_named x core ≡ None → IsEnd x core [] [] []
+pub no_end : (x : ConnectionName) (core : CoreState) → listed_named x core ≡ None → IsEnd x core [] [] []
 no_end x core none = by (cases_name core.last_name x)
   where
     by : Precedes core.last_name x ⊎ IsGiven core.last_name x → IsEnd x core [] [] []
@@ -246,7 +246,7 @@ asked_move : (x : ConnectionName) (core : CoreState) (outcome : StepOutcome) (m 
 asked_move x core outcome m o brings asked =
     record {
       given = stays_given x core outcome m o asked.given;
-      past = move_kept (IsPast x) (follows_past x) core outcome m
+      past = bytes_kept (IsPast x) (follows_past x) (λ piece c brings_so past. past) core outcome m
           (λ port fits is waits. not_both core.last_name (next_name core) (next_precedes core o.within) (subst (IsGiven core.last_name) (sym is) asked.given)) brings asked.past;
     }
 
@@ -391,7 +391,7 @@ data AskedOnce (x : ConnectionName) {nodes : ℕ} {config : Config} {g : Group} 
       → ((core : CoreState) → slice_get g.nodes n ≡ Some core → WasAsked x core) → AskedOnce x went
 
 -- bytes that come on a connection of the name come to a node that has it
-unlisted_silent : (x : ConnectionName) (node_call : NodeCall) (core : CoreState) → listed_named x core ≡ None → coming_with x node_call core ≡ []
+pub unlisted_silent : (x : ConnectionName) (node_call : NodeCall) (core : CoreState) → listed_named x core ≡ None → coming_with x node_call core ≡ []
 unlisted_silent x (takes (Bytes port piece now)) core none = by (open_at port core) refl
   where
     by : (o : Option Connection) → open_at port core ≡ o → piece_on x piece o ≡ []

@@ -2,6 +2,7 @@
 use Rattle.std.proofs.Common.{◌≡◌, inl, inr, ℕ, zero, suc, Bool, true, false, not, ◌&&◌, ◌+◌, nat_le, if◌then◌else◌, length, List, [], ◌∷◌, ◌++◌, Option, Some, None, Ok, refl, sym, ap, ◌∙◌, subst, arith}
 use Rattle.std.specs.List.{find, fold, list_any}
 use Rattle.std.specs.Prelude.{get_or, ◌<◌}
+use Rattle.std.proofs.lemmas.Bool.{both_ways}
 use Rattle.std.proofs.lemmas.Result.{IfOk-at_ok}
 use Rattle.lists.specs.Lists.{Each}
 use Rattle.lists.proofs.OfEach.{each_append, each_right}
@@ -40,6 +41,7 @@ use Rattle.headline.specs.node_moves.LossyParts.{came_on}
 use Rattle.headline.specs.node_moves.Moves.{NodeMove}
 use Rattle.headline.specs.node_moves.Moves.NodeMove.{hears, opens_one, holds, reads_first, reads_later, closes, refuses, loses_one, loses_next, expels_one, cuts_log, crashes, settles, hands}
 use Rattle.headline.proofs.of_node_moves.EachKept.{IsKept, each_proposed, each_settled}
+use Rattle.headline.proofs.of_node_moves.StepsMove.{twice}
 use Rattle.headline.proofs.of_node_moves.Views.{each_filtered, each_kept, none_changes, same_some}
 use Rattle.one_client.specs.Calls.{IsByte}
 
@@ -67,38 +69,38 @@ pub record Follows (c d : Connection) : Type 0 where
   pub name : d.name ≡ c.name
   pub waits : awaits_first_packet d.stage ≡ true → awaits_first_packet c.stage ≡ true
   pub bytes : Each IsByte c.unread → Each IsByte d.unread
+  pub same : awaits_first_packet d.stage ≡ true → d.unread ≡ c.unread
 
 shut : (c : Connection) → Follows c (closed_connection c)
-shut c = record { name = refl; waits = λ e. absurd cc; bytes = λ all. tt }
+shut c = record { name = refl; waits = λ e. absurd cc; bytes = λ all. tt; same = λ e. absurd cc }
 
 failed : (c : Connection) → Follows c (failing c)
-failed c = record { name = refl; waits = waits (is_proposed c.stage); bytes = λ all. tt }
+failed c = record { name = refl; waits = λ e. absurd (waits (is_proposed c.stage) e); bytes = λ all. tt; same = λ e. absurd (waits (is_proposed c.stage) e) }
   where
-    waits : (b : Bool) → awaits_first_packet (if b then Failed else Closed) ≡ true → awaits_first_packet c.stage ≡ true
-    waits true e = absurd cc
-    waits false e = absurd cc
+    waits : (b : Bool) → awaits_first_packet (if b then Failed else Closed) ≡ true → ⊥
+    waits true e = cc
+    waits false e = cc
 
 queued : (bytes : List ℕ) (c : Connection) → Follows c (with_queued bytes c)
 queued bytes c = by (nat_le (length c.pending + length bytes) max_pending)
   where
     by : (b : Bool) → Follows c (let d : Connection = if b then putting bytes c else failing c in d)
-    by true = record { name = refl; waits = λ e. e; bytes = λ all. all }
+    by true = record { name = refl; waits = λ e. e; bytes = λ all. all; same = λ e. refl }
     by false = failed c
 
-noted : (keep_alive : ℕ) (c : Connection) → Follows c (noted_proposed keep_alive c)
-noted keep_alive c = record { name = refl; waits = λ e. absurd cc; bytes = λ all. all }
+first_read : (keep_alive now : ℕ) (c : Connection) (packet : Packet) (rest : List ℕ) → verdict c.unread ≡ Ok (packet, rest) → Follows c (noted_proposed keep_alive (left_with now rest c))
+first_read keep_alive now c packet rest is =
+    record { name = refl; waits = λ e. absurd cc; bytes = left_bytes c.unread packet rest is; same = λ e. absurd cc }
 
 emptied : (c : Connection) → Follows c (nothing_pending c)
-emptied c = record { name = refl; waits = λ e. e; bytes = λ all. all }
+emptied c = record { name = refl; waits = λ e. e; bytes = λ all. all; same = λ e. refl }
 
 refused : (code : RefusalCode) (c : Connection) → Follows c (connect_refused code c)
-refused code c = record { name = refl; waits = λ e. absurd cc; bytes = λ all. tt }
+refused code c = record { name = refl; waits = λ e. absurd cc; bytes = λ all. tt; same = λ e. absurd cc }
 
-held : (piece : List ℕ) (c : Connection) → Each IsByte piece → Follows c (with_unread piece c)
-held piece c brings = record { name = refl; waits = λ e. e; bytes = λ all. each_append IsByte c.unread piece all brings }
-
-pub left : (now : ℕ) (c : Connection) (packet : Packet) (rest : List ℕ) → verdict c.unread ≡ Ok (packet, rest) → Follows c (left_with now rest c)
-left now c packet rest is = record { name = refl; waits = λ e. e; bytes = left_bytes c.unread packet rest is }
+left : (now : ℕ) (c : Connection) (packet : Packet) (rest : List ℕ) → awaits_first_packet c.stage ≡ false → verdict c.unread ≡ Ok (packet, rest) → Follows c (left_with now rest c)
+left now c packet rest later is =
+    record { name = refl; waits = λ e. e; bytes = left_bytes c.unread packet rest is; same = λ e. absurd (both_ways (awaits_first_packet c.stage) later e) }
 
 -- ---- what connections keep, if each that follows one keeps it
 
@@ -130,19 +132,13 @@ module _ (P : Connection → Type 0) (follows : IsFollowed P) where
   unfolding changes
   each_found port f core c found so all = found_changed P (is_open_at port) f core.connections c found (follows c (f c) so) all
 
-  each_held : (port : Port) (piece : List ℕ) (core : CoreState) → ((x : ConnectionName) → Each IsByte (piece_on x piece (open_at port core))) → AllOf core → AllOf (changes port (with_unread piece) core)
+  each_first : (port : Port) (keep_alive now : ℕ) (core : CoreState) (c : Connection) (packet : Packet) (rest : List ℕ) → open_at port core ≡ Some c → verdict c.unread ≡ Ok (packet, rest) → AllOf core
+      → AllOf (changes port (noted_proposed keep_alive) (changes port (left_with now rest) core))
   unfolding changes
-  each_held port piece core brings all = by (open_at port core) refl
-    where
-      by : (o : Option Connection) → open_at port core ≡ o → Each P (changed_where (is_open_at port) (with_unread piece) core.connections)
-      by None none = subst (Each P) (sym (none_changes (is_open_at port) (with_unread piece) core.connections none)) all
-      by (Some c) found =
-          found_changed P (is_open_at port) (with_unread piece) core.connections c found
-          (follows c (with_unread piece c)
-          (held piece c
-          (subst (Each IsByte)
-          (ap (piece_on c.name piece) found ∙ ap (λ (b : Bool). let l : List ℕ = if b then piece else [] in l) (same_name_self c.name))
-          (brings c.name)))) all
+  each_first port keep_alive now core c packet rest found is all =
+      subst (Each P) (sym (twice (is_open_at port) (noted_proposed keep_alive) (left_with now rest) core.connections (λ d e. e)))
+      (found_changed P (is_open_at port) (λ d. noted_proposed keep_alive (left_with now rest d)) core.connections c found
+      (follows c (noted_proposed keep_alive (left_with now rest c)) (first_read keep_alive now c packet rest is)) all)
 
   -- ---- the replica
 
@@ -208,19 +204,20 @@ module _ (P : Connection → Type 0) (follows : IsFollowed P) where
   abbrev pub IsNew : CoreState → Type 0
   IsNew core = (port : Port) → is_connection_name (next_name core) ≡ true → P (fresh port (next_name core))
 
-  abbrev pub Brings : {core : CoreState} {outcome : StepOutcome} → NodeMoveOrLost core outcome → Type 0
-  Brings m = (x : ConnectionName) → Each IsByte (came_on x m)
+  -- what is asked of a move in which bytes come
+  abbrev pub HoldsSo : {core : CoreState} {outcome : StepOutcome} → NodeMoveOrLost core outcome → Type 0
+  HoldsSo {core = core} (exactly (holds port piece)) = AllOf (changes port (with_unread piece) core)
+  HoldsSo _ = Unit {0}
 
-  exact_kept : (core : CoreState) (outcome : StepOutcome) (m : NodeMove core outcome) → IsNew core → Brings (exactly m) → AllOf core → AllOf outcome.core
+  exact_kept : (core : CoreState) (outcome : StepOutcome) (m : NodeMove core outcome) → IsNew core → HoldsSo (exactly m) → AllOf core → AllOf outcome.core
   exact_kept core outcome (hears input other) new brings all = each_driven input core all
   exact_kept core outcome (opens_one port) new brings all = opens_kept port core (new port) all
-  exact_kept core outcome (holds port piece) new brings all = each_held port piece core brings all
+  exact_kept core outcome (holds port piece) new brings all = brings
   exact_kept core outcome (reads_first now port c connect rest at first is room) new brings all =
-      let read : CoreState = changes port (left_with now rest) core in
-      each_proposed P kept (commands.Connect c.name connect.client connect.clean) (changes port (noted_proposed connect.keep_alive) read)
-      (each_at port (noted_proposed connect.keep_alive) read (noted connect.keep_alive) (each_found port (left_with now rest) core c at (left now c _ rest is) all))
+      each_proposed P kept (commands.Connect c.name connect.client connect.clean) (changes port (noted_proposed connect.keep_alive) (changes port (left_with now rest) core))
+      (each_first port connect.keep_alive now core c _ rest at is all)
   exact_kept core outcome (reads_later now port c packet rest at later is room) new brings all =
-      each_proposed P kept (commands.Packet c.name packet) (changes port (left_with now rest) core) (each_found port (left_with now rest) core c at (left now c packet rest is) all)
+      each_proposed P kept (commands.Packet c.name packet) (changes port (left_with now rest) core) (each_found port (left_with now rest) core c at (left now c packet rest later is) all)
   exact_kept core outcome (closes port) new brings all = each_at port closed_connection core shut all
   exact_kept core outcome (refuses port c code at first is) new brings all = each_at port (connect_refused code) core (refused code) all
   exact_kept core outcome (loses_one port c at asked) new brings all =
@@ -232,16 +229,15 @@ module _ (P : Connection → Type 0) (follows : IsFollowed P) where
   exact_kept core outcome settles new brings all = each_settled P kept.shut core all
   exact_kept core outcome (hands port) new brings all = handed_kept port core all
 
-  pub move_kept : (core : CoreState) (outcome : StepOutcome) (m : NodeMoveOrLost core outcome) → IsNew core → Brings m → AllOf core → AllOf outcome.core
+  pub move_kept : (core : CoreState) (outcome : StepOutcome) (m : NodeMoveOrLost core outcome) → IsNew core → HoldsSo m → AllOf core → AllOf outcome.core
   move_kept core outcome (exactly m) new brings all = exact_kept core outcome m new brings all
   move_kept core outcome (hears_losing input account other drives_so) new brings all =
       handles_kept account.given (record core { replica = drives_so.replica }) account.core account.messages drives_so.handles all
   move_kept core outcome (first_losing now port c connect rest account at first is taken) new brings all =
-      let read : CoreState = changes port (left_with now rest) core in
-      each_taken (commands.Connect c.name connect.client connect.clean) (changes port (noted_proposed connect.keep_alive) read) account taken
-      (each_at port (noted_proposed connect.keep_alive) read (noted connect.keep_alive) (each_found port (left_with now rest) core c at (left now c _ rest is) all))
+      each_taken (commands.Connect c.name connect.client connect.clean) (changes port (noted_proposed connect.keep_alive) (changes port (left_with now rest) core)) account taken
+      (each_first port connect.keep_alive now core c _ rest at is all)
   move_kept core outcome (later_losing now port c packet rest account at later is taken) new brings all =
-      each_taken (commands.Packet c.name packet) (changes port (left_with now rest) core) account taken (each_found port (left_with now rest) core c at (left now c packet rest is) all)
+      each_taken (commands.Packet c.name packet) (changes port (left_with now rest) core) account taken (each_found port (left_with now rest) core c at (left now c packet rest later is) all)
   move_kept core outcome (tells_losing name account taken) new brings all = each_taken (commands.Lost name) core account taken all
   move_kept core outcome (expels_losing client account taken) new brings all = each_taken (commands.Expel client) core account taken all
   move_kept core outcome forgets new brings all = all
@@ -249,3 +245,28 @@ module _ (P : Connection → Type 0) (follows : IsFollowed P) where
   move_kept core outcome (fails port) new brings all = each_at port failing core failed all
   move_kept core outcome unheard new brings all = failed_kept core all
   move_kept core outcome (drops port piece) new brings all = each_at port closed_connection core shut all
+
+-- ---- bytes that come are held
+
+module _ (P : Connection → Type 0) (follows : IsFollowed P) (holds_so : (piece : List ℕ) (c : Connection) → Each IsByte piece → P c → P (with_unread piece c)) where
+  each_held : (port : Port) (piece : List ℕ) (core : CoreState) → ((x : ConnectionName) → Each IsByte (piece_on x piece (open_at port core))) → Each P core.connections
+      → Each P (changes port (with_unread piece) core).connections
+  unfolding changes
+  each_held port piece core brings all = by (open_at port core) refl
+    where
+      by : (o : Option Connection) → open_at port core ≡ o → Each P (changed_where (is_open_at port) (with_unread piece) core.connections)
+      by None none = subst (Each P) (sym (none_changes (is_open_at port) (with_unread piece) core.connections none)) all
+      by (Some c) found =
+          found_changed P (is_open_at port) (with_unread piece) core.connections c found
+          (holds_so piece c
+          (subst (Each IsByte)
+          (ap (piece_on c.name piece) found ∙ ap (λ (b : Bool). let l : List ℕ = if b then piece else [] in l) (same_name_self c.name))
+          (brings c.name))) all
+
+  held_bytes : (core : CoreState) (outcome : StepOutcome) (m : NodeMoveOrLost core outcome) → ((x : ConnectionName) → Each IsByte (came_on x m)) → Each P core.connections → HoldsSo P follows m
+  held_bytes core outcome (exactly (holds port piece)) brings all = each_held port piece core brings all
+  held_bytes core outcome _ brings all = tt
+
+  pub bytes_kept : (core : CoreState) (outcome : StepOutcome) (m : NodeMoveOrLost core outcome) → IsNew P follows core → ((x : ConnectionName) → Each IsByte (came_on x m)) → Each P core.connections
+      → Each P outcome.core.connections
+  bytes_kept core outcome m new brings all = move_kept P follows core outcome m new (held_bytes core outcome m brings all) all

@@ -4,6 +4,8 @@ pub mod Followers
 pub mod ProposedInRange
 pub mod ConnectsOnce
 pub mod AgreedCommands
+pub mod RunsHold
+pub mod ConnectsFirst
 pub mod LifeGrows
 pub mod PipesAlong
 pub mod GoesAlong

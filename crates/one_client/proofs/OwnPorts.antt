@@ -17,13 +17,15 @@ use Rattle.headline.specs.Promise.{Promise}
 use Rattle.headline.specs.byte_world.World.{Pipe, leads_to}
 use Rattle.headline.specs.node_group.Group.{Group}
 use Rattle.headline.specs.node_group.Steps.{GroupTrace}
-use Rattle.one_client.specs.Calls.{calls_on}
+use Rattle.one_client.specs.Calls.{AreFaithful, calls_on}
 use Rattle.one_client.specs.Names.{AreNamed, HadConnection, IsNameAt, OpensOnce}
 use Rattle.one_client.specs.Ports.{ClientsWithOwnPortsArePromised, HasOwnPorts, under_names}
 use Rattle.one_client.proofs.AgreedCommands.{agreed_packets_were_proposed}
 use Rattle.one_client.proofs.AlongUnderNames.{AreApart, along_under, as_many, client_under}
 use Rattle.one_client.proofs.CallsUnderNames.{accepted_under}
 use Rattle.one_client.proofs.ClientPromised.{one_client_is_promised}
+use Rattle.one_client.proofs.ConnectsFirst.{connects_came_first}
+use Rattle.one_client.proofs.GoesAlong.{goes_along}
 use Rattle.one_client.proofs.PortBytes.{the_port}
 use Rattle.one_client.proofs.PortNames.{EverAt, ever_at, had_named, names_go_with_ports, same_ports, spare_at}
 use Rattle.one_client.proofs.PortNames.EverAt.{was_at, never_at}
@@ -151,6 +153,7 @@ clients_with_own_ports_are_promised nodes config client g went one along own nob
     let long : length z.0 ≡ length one.connections = long_chosen went z.0 one.pipes z.1 ∙ sym (as_many along) in
     let s = along_under client went one along z.0 long (apart_chosen went z.0 one.pipes z.1 own) in
     let named = named_chosen went one.connections z.0 one.pipes z.1 in
+    let faithful : AreFaithful went = (goes_along client g went (client_under z.0 one) s.along named).faithful in
     let p = one_client_is_promised nodes config client g went (client_under z.0 one) s.along named in
     record {
       names = z.0;
@@ -162,7 +165,8 @@ clients_with_own_ports_are_promised nodes config client g went one along own nob
           subst (λ l. Promise (under_names one.connections z.0) l list state) s.is
           (p.promises list is
           (λ x clean i.
-          let w = nobody x clean (agreed_packets_were_proposed nodes config g went p.of list is (commands.Connect x client clean) i refl) in
+          let w = nobody x
+          (connects_came_first nodes config g went x client clean faithful (agreed_packets_were_proposed nodes config g went p.of list is (commands.Connect x client clean) i refl)) in
           found went x w.pipe w.end w.had w.at w.is one.connections z.0 one.pipes z.1 long w.leads)
           state (record { keeper = shown.keeper; accepted = shown.accepted ∙ sym (accepted_under one.connections z.0) }));
     }

@@ -110,7 +110,7 @@ one_name {g = h} (then_went {group = g} went step) n port once c d had_c had_d a
 -- ---- one name
 
 -- a name that the node gave stays given
-had_given : {nodes : ℕ} {config : Config} {g : Group} (went : GroupTrace nodes config g) (n : ℕ) (core : CoreState) (d : NodesEnd) → slice_get g.nodes n ≡ Some core → HadConnection went n d
+pub had_given : {nodes : ℕ} {config : Config} {g : Group} (went : GroupTrace nodes config g) (n : ℕ) (core : CoreState) (d : NodesEnd) → slice_get g.nodes n ≡ Some core → HadConnection went n d
     → IsGiven core.last_name d.name
 had_given {nodes = nodes} {config = config} {g = g} (opened greatest can) n core d at had = by had.earlier had.among had.stands
   where
@@ -160,7 +160,7 @@ one_port {nodes = nodes} {config = config} {g = h} (then_went {group = g} went s
 -- ---- the law
 
 -- a connection of a name is found by it
-named_there : (x : ConnectionName) (cs : List NodesEnd) (d : NodesEnd) → In d cs → d.name ≡ x → (c : NodesEnd) × (find (named x) cs ≡ Some c)
+pub named_there : (x : ConnectionName) (cs : List NodesEnd) (d : NodesEnd) → In d cs → d.name ≡ x → (c : NodesEnd) × (find (named x) cs ≡ Some c)
 named_there x cs d i is = by (find (named x) cs) refl
   where
     by : (o : Option NodesEnd) → find (named x) cs ≡ o → (c : NodesEnd) × (find (named x) cs ≡ Some c)

@@ -17,6 +17,7 @@ use Rattle.world_base.specs.declared.node_connections.connection.Connection.{Con
 use Rattle.world_base.specs.declared.node_connections.port.Port.{Port}
 use Rattle.world_base.specs.declared.node_core.item.Item.TheVariants.{Peer, Tick, Opened, Bytes, Ended, Expel, Cut, Crash}
 use Rattle.world_base.specs.node_connections.Connections.{is_open_at}
+use Rattle.world_base.specs.node_connections.ConnectionChanges.{with_unread}
 use Rattle.world_base.specs.node_core.Core.{CoreState, StepOutcome, serves}
 use Rattle.world_base.specs.node_core.PacketInput.{open_at}
 use Rattle.headline.specs.node_moves.Ends.{piece_on}
@@ -44,7 +45,7 @@ use Rattle.headline.proofs.of_node_group.LosingNone.{losing_none, same_bytes, sa
 use Rattle.headline.proofs.of_node_group.NamesInGroups.{each_got}
 use Rattle.one_client.specs.Calls.{AreFaithful, BringsBytes, IsByte, calls_on}
 use Rattle.one_client.specs.Proposals.{IsInRange, ProposalsAreInRange}
-use Rattle.one_client.proofs.Followers.{IsFollowed, begins, move_kept}
+use Rattle.one_client.proofs.Followers.{IsFollowed, begins, bytes_kept}
 
 -- ---- one connection
 
@@ -55,6 +56,9 @@ record IsSound (c : Connection) : Type 0 where
 
 follows_sound : IsFollowed IsSound
 follows_sound c d f sound = record { name = subst IsConnectionName (sym f.name) sound.name; unread = f.bytes sound.unread }
+
+holds_sound : (piece : List ℕ) (c : Connection) → Each IsByte piece → IsSound c → IsSound (with_unread piece c)
+holds_sound piece c brings sound = record { name = sound.name; unread = each_append IsByte c.unread piece sound.unread brings }
 
 abbrev AreSound : CoreState → Type 0
 AreSound core = Each IsSound core.connections
@@ -123,7 +127,7 @@ record RunsInRange {core : CoreState} {outcome : StepOutcome} (run : MoveTraceOr
 run_in_range : (core : CoreState) (outcome : StepOutcome) (run : MoveTraceOrLost core outcome) → ((x : ConnectionName) → Each IsByte (bytes_on x run)) → AreSound core → RunsInRange run
 run_in_range core outcome rests brings all = record { sound = all; rows = tt }
 run_in_range core outcome (goes_on {first = first} {next = next} m run) brings all =
-    let sound = move_kept IsSound follows_sound core first m (λ port fits. record { name = fits; unread = tt }) (λ x. each_left IsByte (came_on x m) (bytes_on x run) (brings x)) all in
+    let sound = bytes_kept IsSound follows_sound holds_sound core first m (λ port fits. record { name = fits; unread = tt }) (λ x. each_left IsByte (came_on x m) (bytes_on x run) (brings x)) all in
     let rest = run_in_range first.core next run (λ x. each_right IsByte (came_on x m) (bytes_on x run) (brings x)) sound in
     record {
       sound = rest.sound;

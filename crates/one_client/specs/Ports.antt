@@ -1,16 +1,14 @@
 -- What is promised to a client each of whose connections has a port of its own: then its
 -- connections need no names in the premises.
-use Rattle.std.specs.Prelude.{◌≡◌, ℕ, Bool, false, List, [], ◌∷◌}
+use Rattle.std.specs.Prelude.{◌≡◌, ℕ, false, List, [], ◌∷◌}
 use Rattle.std.specs.List.{list_any}
 use Rattle.lists.specs.Lists.{In}
 use Rattle.ballot_base.specs.declared.config.Config.{Config}
 use Rattle.broker_spec.specs.Connection.{ConnectionName}
 use Rattle.broker_spec.specs.Place.{Client}
 use Rattle.broker_spec.specs.declared.command.Command.{Command}
-use Rattle.broker_spec.specs.declared.command.Command.TheVariants as commands
 use Rattle.client_base.specs.State.{ClientState}
 use Rattle.exactly_once.specs.Sides.{ClientConnection}
-use Rattle.agreement.specs.Proposals.{commands_of}
 use Rattle.agreement.specs.cut_logs.Moments.{IsAgreed}
 use Rattle.world_base.specs.declared.node_connections.connection.Connection.{Connection as NodesEnd}
 use Rattle.headline.specs.Exact.{IsShownBy}
@@ -19,8 +17,10 @@ use Rattle.headline.specs.byte_world.World.{ClientPipes, Pipe, leads_to}
 use Rattle.headline.specs.node_group.Group.{Group, moment_of_nodes}
 use Rattle.headline.specs.node_group.GroupMoments.{HasMoments}
 use Rattle.headline.specs.node_group.Steps.{GroupTrace, all_proposed, groups_on_trace}
+use Rattle.headline.specs.node_group.Streams.{came_up}
 use Rattle.one_client.specs.Along.{Along, published_along}
 use Rattle.one_client.specs.Calls.{calls_on}
+use Rattle.one_client.specs.ConnectsFirst.{ConnectsAs}
 use Rattle.one_client.specs.Names.{AreNamed, HadConnection, OpensOnce}
 
 -- ---- the premises
@@ -46,14 +46,12 @@ pub record WasGivenAt {nodes : ℕ} {config : Config} {group : Group}
   pub at : end.port.0 ≡ pipe.port.0
   pub is : end.name ≡ name
 
--- nobody else uses the client's identifier: each Connect with it that a node proposed is for what
--- it took at one of the client's ports
+-- nobody else uses the client's identifier: each connection on which a CONNECT with it came first
+-- is at one of the client's ports
 abbrev pub NobodyElseConnects : Client → {nodes : ℕ} {config : Config} {group : Group} →
     GroupTrace nodes config group → List Pipe → Type 0
 NobodyElseConnects client went pipes =
-    (name : ConnectionName) (clean : Bool) →
-    In (commands.Connect name client clean) (commands_of (all_proposed went)) →
-    WasGivenAt went name pipes
+    (name : ConnectionName) → ConnectsAs (came_up name went) client → WasGivenAt went name pipes
 
 -- ---- the promise
 

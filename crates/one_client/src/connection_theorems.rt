@@ -1,6 +1,7 @@
 // Theorems about connections on which any bytes come: the contracts of functions with an empty
 // body.
 
+ghost use Rattle.one_client.specs.ConnectsFirst.{ConnectsCameFirst};
 ghost use Rattle.one_client.specs.Names.{NamesGoWithPorts, PortsHaveNames};
 ghost use Rattle.one_client.specs.Proposals.{AgreedPacketsWereProposed, NamesConnectOnce, ProposalsAreInRange};
 
@@ -26,6 +27,12 @@ pub fn proposals_are_in_range()
 /// each name (MQTT 3.1).
 pub fn names_connect_once()
     ensures { NamesConnectOnce }
+{}
+
+/// States that, whatever bytes come to the nodes of a group, they propose a Connect only for a
+/// connection on which a CONNECT of this client came first (MQTT 3.1).
+pub fn connects_came_first()
+    ensures { ConnectsCameFirst }
 {}
 
 /// States that each packet in a list on which nodes agree was proposed by a node. So nobody else

@@ -8,8 +8,8 @@ mod rows;
 mod theorems;
 
 pub use connection_theorems::{
-    agreed_packets_were_proposed, names_connect_once, names_go_with_ports, ports_have_names,
-    proposals_are_in_range,
+    agreed_packets_were_proposed, connects_came_first, names_connect_once, names_go_with_ports,
+    ports_have_names, proposals_are_in_range,
 };
 pub use rows::accepts_beside_a_stranger;
 pub use theorems::{clients_with_own_ports_are_promised, one_client_is_promised};
