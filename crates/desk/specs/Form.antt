@@ -15,12 +15,9 @@ use Rattle.desk.specs.States.{DeskState, is_sound}
 abbrev pub version : ℕ
 version = 1
 
--- bytes before the check sum, and with it
+-- bytes before the check sum
 abbrev pub summed_length : ℕ
 summed_length = 59
-
-abbrev pub form_length : ℕ
-form_length = 67
 
 -- a number of eight bytes, the high one first
 abbrev pub wide : ℕ → List ℕ
@@ -101,7 +98,7 @@ sum_checked bytes =
     then shape_checked bytes else Err Sum
 
 abbrev pub length_checked : List ℕ → Result DeskState FormFault
-length_checked bytes = if length bytes == form_length then sum_checked bytes else Err Length
+length_checked bytes = if length bytes == summed_length + 8 then sum_checked bytes else Err Length
 
 -- what bytes say: a state, or the first fault
 abbrev pub desk_of : List ℕ → Result DeskState FormFault
