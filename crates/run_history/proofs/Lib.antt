@@ -1,6 +1,8 @@
 pub mod Prefixes
 pub mod Openings
 pub mod LongerLogs
+pub mod TakenItems
+pub mod Outside
 pub mod StepsOfEvents
 pub mod MayLater
 pub mod Adding

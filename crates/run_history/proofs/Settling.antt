@@ -19,6 +19,7 @@ use Rattle.run_history.specs.Masters.{MasterView}
 use Rattle.run_history.specs.Parties.{NodeView}
 use Rattle.run_history.proofs.LongerLogs.{events_grow, master_stays, stays}
 use Rattle.run_history.proofs.Openings.{opening_length}
+use Rattle.run_history.proofs.TakenItems.{items_stay}
 
 -- a node by a mark that has all that it knows, if it has no more events later
 pub settled : (nodes : ℕ) (config : Config) (own mark later : List RunEvent) (index : ℕ) (node : CountedCore) (count : ℕ) → IsNodeOf nodes config own index node.core count → IsPrefix own mark → IsPrefix mark later
@@ -30,6 +31,7 @@ settled nodes config own mark later index node count is p q same =
     let at = stays nodes config own mark index node.core count p is here in record {
       state = at.has;
       no_more = here ∙ sym is.counted;
+      items = items_stay (index + 1) own mark p (here ∙ sym is.counted);
     }
 
 -- the master by a mark that has all that it knows, if it has no more events later

@@ -6,15 +6,17 @@ use Rattle.ballot_base.specs.declared.config.Config.{Config}
 use Rattle.world_base.specs.node_core.Core.{CoreState}
 use Rattle.run_history.specs.declared.event.RunEvent.{RunEvent}
 use Rattle.run_history.specs.History.{IsHistory}
-use Rattle.run_history.specs.Log.{events_by, master_in, nodes_in}
+use Rattle.run_history.specs.Log.{events_by, items_taken, master_in, nodes_in}
 use Rattle.run_history.specs.Masters.{MasterView}
 use Rattle.run_history.specs.Parties.{NodeView}
 
--- by the log the node has the state that it has, and has no more events than it knows
+-- by the log the node has the state that it has, and has no more events than it knows, so it took
+-- just the items that it knows
 pub record IsSettled (nodes : ℕ) (config : Config) (log : List RunEvent)
     (node : NodeView) : Type 0 where
   pub state : slice_get (nodes_in nodes config log) node.index ≡ Some node.node.core
   pub no_more : events_by (node.index + 1) log ≡ events_by (node.index + 1) node.log
+  pub items : items_taken (node.index + 1) log ≡ items_taken (node.index + 1) node.log
 
 -- by the log the master has the state that it has, and has no more events than it knows
 pub record IsMasterSettled (config : Config) (log : List RunEvent)

@@ -9,8 +9,11 @@ use Rattle.ballot_base.specs.declared.message.Message.{Message}
 use Rattle.broker_spec.specs.declared.command.Command.{Command}
 use Rattle.agreement.specs.MasterState.{MasterState, opening_master}
 use Rattle.agreement.specs.cut_logs.World.{messages}
+use Rattle.world_base.specs.declared.node_core.item.Item.{Item}
 use Rattle.world_base.specs.node_core.Core.{CoreState}
 use Rattle.headline.specs.node_group.Group.{opening_cores}
+use Rattle.run_history.specs.declared.event.NodeAct.{NodeAct}
+use Rattle.run_history.specs.declared.event.NodeAct.TheVariants.{Takes, HandsOver}
 use Rattle.run_history.specs.declared.event.RunEvent.{RunEvent}
 use Rattle.run_history.specs.declared.event.RunEvent.TheVariants.{Opens, ByNode, ByMaster}
 
@@ -80,3 +83,21 @@ abbrev pub events_by : ℕ → List RunEvent → ℕ
 events_by party (event ∷ events) =
     (if is_by party event then 1 else 0) + events_by party events
 events_by party [] = 0
+
+-- ---- items
+
+-- the item on which an act is a step, if it is one
+abbrev pub item_of_act : NodeAct → List Item
+item_of_act (Takes item) = item ∷ []
+item_of_act (HandsOver port) = []
+
+-- the item on which an event is a step of a node, if it is one
+abbrev pub item_of : RunEvent → List Item
+item_of (ByNode event) = item_of_act event.act
+item_of event = []
+
+-- the items that the node of this number took, in order
+abbrev pub items_taken : ℕ → List RunEvent → List Item
+items_taken number (event ∷ events) =
+    (if is_by number event then item_of event else []) ++ items_taken number events
+items_taken number [] = []

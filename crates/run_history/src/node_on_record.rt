@@ -22,13 +22,11 @@ use crate::event::RunEvent;
 use crate::naming::RunNaming;
 use crate::rule::RunRule;
 use crate::seen_run::SeenRun;
-use crate::sent_effects::SentEffects;
 use crate::sent_item::SentItem;
 use crate::told;
 use crate::told::Told;
 use crate::waiting::{wait_unless_below, wait_unless_equal};
 use logbook::Word;
-use std::alloc::Global;
 use std::marker::Model;
 use std::snapshot::Snapshot;
 use std::sync::Wait;
@@ -101,6 +99,13 @@ impl<H: RunNaming> NodeOnRecord<H> {
         self.seen.again()
     }
 
+    /// Returns its state.
+    pub fn core(&self) -> &NodeCore
+        ensures { result.now ≡ self.now.node }
+    {
+        &self.core
+    }
+
     /// Proves that by the log the node has the state that it has.
     pub fn is_of_run(&self)
         ensures { slice_get (nodes_in H.nodes H.config self.now.log) self.now.index
@@ -151,6 +156,21 @@ impl<H: RunNaming> NodeOnRecord<H> {
         self.seen = seen;
     }
 
+    /// Handles an item that was sent to it, as [`NodeOnRecord::take`]. Waits for ever if the item
+    /// is for another node.
+    pub fn take_sent<R: Wait>(
+        &mut self,
+        rt: &R,
+        sent: SentItem<H>,
+        effects: &mut Vec<Effect<Command, Output>>,
+    )
+        ensures { TookItem self.old sent self.new effects.old.items effects.new.items }
+    {
+        let (number, item, known) = sent.into_parts();
+        wait_unless_equal(rt, u64::from(number), u64::from(self.index) + 1);
+        self.take(rt, item, &known, effects);
+    }
+
     /// Hands over the pending output of a port as [`NodeCore::outgoing`], as an event of the run.
     pub fn outgoing<R: Wait>(
         &mut self,
@@ -183,21 +203,4 @@ impl<H: RunNaming> NodeOnRecord<H> {
         self.seen = seen;
         Ok(handed)
     }
-}
-
-/// Lets a node handle an item that was sent to it, and returns what it gave. Waits for ever if the
-/// item is for another node.
-pub fn take_sent<H: RunNaming, R: Wait>(
-    rt: &R,
-    alloc: Global,
-    node: &mut NodeOnRecord<H>,
-    sent: SentItem<H>,
-) -> SentEffects<H>
-    ensures { TookItem node.old sent node.new [] result }
-{
-    let (index, item, known) = sent.into_parts();
-    wait_unless_equal(rt, u64::from(index), u64::from(node.index()));
-    let mut effects = Vec::new(alloc);
-    node.take(rt, item, &known, &mut effects);
-    SentEffects::new(effects, node.seen())
 }

@@ -2,7 +2,7 @@
 //
 // The words are made before the run has a name, so that a program can pick the name by them.
 
-ghost use Rattle.std.specs.Prelude.{◌≡◌, ◌+◌, ◌<◌, true};
+ghost use Rattle.std.specs.Prelude.{◌≡◌, ◌+◌, ◌<◌, IfOk, IsErrOf, OnOk, false, true};
 ghost use Rattle.agreement.specs.MasterState.{opening_master};
 ghost use Rattle.agreement.specs.World.{can_open};
 ghost use Rattle.ballot_base.specs.LawfulConfig.{max_node};
@@ -15,8 +15,11 @@ use crate::naming::RunNaming;
 use crate::node_on_record::NodeOnRecord;
 use crate::rule::{Begin, RunRule};
 use crate::seen_run::SeenRun;
+use ballot_base::Config;
+use ballot_base::errors::OpeningError;
 use logbook::{Pens, Seen, Start, Word};
-use master::Master;
+use master::{Master, can_open, config_of};
+use std::alloc::Global;
 use std::marker::{Model, PhantomData};
 use world_base::NodeCore;
 
@@ -54,6 +57,37 @@ impl OpenedRun {
         let words = usize::from(group.nodes) + 1;
         let (seen, pens) = Seen::open_row::<OpenedGroup, Begin>(&group, Start::alone(), words);
         OpenedRun { seen, pens, group }
+    }
+
+    /// Opens a run of a group with this many nodes in this configuration, as [`OpenedRun::new`], if
+    /// such a group can open. Returns it with its master. Fails with `BadMembers` if it cannot: there
+    /// are more than 15 nodes, no ballot may have the configuration, or a member is none of the
+    /// nodes. The other error is that memory ran out.
+    pub fn open(
+        alloc: Global,
+        nodes: u8,
+        config: &Config,
+    ) -> Result<(OpenedRun, Master), OpeningError>
+        ensures group { IfOk result (λ opened.
+            opened.0.group ≡ record { nodes = nodes; config = config.now }) }
+        ensures master { IfOk result (λ opened.
+            opened.1 ≡ opening_master max_node config.now) }
+        ensures can { OnOk result (can_open max_node nodes config.now ≡ true) }
+        ensures bad { IsErrOf result OpeningError.BadMembers →
+            can_open max_node nodes config.now ≡ false }
+    {
+        if !can_open(nodes, config) {
+            return Err(OpeningError::BadMembers);
+        }
+        let first = config_of(alloc, config)?;
+        let Ok(master) = Master::new(first.members, first.primary) else {
+            unreachable!()
+        };
+        let group = OpenedGroup {
+            nodes,
+            config: config_of(alloc, config)?,
+        };
+        Ok((OpenedRun::new(group), master))
     }
 
     /// Gives the run its name. Returns its one master on record, what puts the nodes on record, and

@@ -13,6 +13,7 @@ ghost use Rattle.run_history.specs.ToldEvents.{event_of};
 use crate::event::RunEvent;
 use crate::naming::RunNaming;
 use crate::rule::{Add, Look, NoGain, RunRule};
+use crate::run_log::RunLog;
 use crate::told::Told;
 use crate::waiting::wait_for_ever;
 use logbook::{Offer, Seen, Word};
@@ -68,6 +69,14 @@ impl<H: RunNaming> SeenRun<H> {
         ensures that { IsPrefix other.now self.new }
     {
         self.seen.learn(&other.seen);
+    }
+
+    /// Returns the same events without the name of the run.
+    pub fn into_log(self) -> RunLog
+        ensures { result ≡ self }
+    {
+        let SeenRun { seen, of: _of } = self;
+        RunLog::new(seen)
     }
 
     /// Proves that the events are a run of the model.

@@ -1,7 +1,6 @@
 // A message on its way.
 
 ghost use Rattle.std.specs.Prelude.{◌≡◌};
-ghost use Rattle.ballot_base.specs.StepOutcome.{master};
 ghost use Rattle.lists.specs.Lists.{In};
 ghost use Rattle.world_base.specs.declared.node_core.item.Item.TheVariants.{Peer};
 ghost use Rattle.run_history.specs.Log.{sent_in};
@@ -69,9 +68,15 @@ impl<H: RunNaming> SentMessage<H> {
         (receiver, message, seen)
     }
 
-    /// Returns the message as an item for its receiver, which is a node.
+    /// Returns the message.
+    pub fn message(&self) -> &Message<Command>
+        ensures { result.now ≡ self.now.message }
+    {
+        &self.message
+    }
+
+    /// Returns the message as an item for its receiver.
     pub fn into_item(self) -> SentItem<H>
-        requires { self.receiver ≡ master → ⊥ }
         ensures { result ≡ Peer self.message }
     {
         let SentMessage {
@@ -79,6 +84,6 @@ impl<H: RunNaming> SentMessage<H> {
             message,
             seen,
         } = self;
-        SentItem::new(receiver - 1, Item::Peer(message), seen)
+        SentItem::new(receiver, Item::Peer(message), seen)
     }
 }
