@@ -7,7 +7,6 @@ use Rattle.lists.proofs.Members.{in_append}
 use Rattle.ballot_base.specs.declared.config.Config.{Config}
 use Rattle.agreement.specs.MasterState.{refusal}
 use Rattle.agreement.specs.Proposals.{commands_of}
-use Rattle.broker_spec.specs.declared.command.Command.{Command}
 use Rattle.broker_spec.specs.Connection.{ConnectionName}
 use Rattle.broker_spec.specs.EndingTheorems.{is_connect_of}
 use Rattle.broker_spec.specs.Place.{Client}
@@ -39,12 +38,11 @@ use Rattle.headline.proofs.of_byte_world.NodesGoOn.{came_so}
 use Rattle.headline.proofs.of_byte_world.PipesHold.{found_in}
 use Rattle.one_client.specs.Calls.{AreFaithful}
 use Rattle.one_client.specs.ConnectsFirst.{ConnectsAs, ConnectsCameFirst}
-use Rattle.one_client.specs.Names.{HadConnection}
 use Rattle.one_client.proofs.AgreedCommands.{passing}
 use Rattle.one_client.proofs.ConnectsOnce.{no_end, rows_joined, silent_run, unlisted_silent}
 use Rattle.one_client.proofs.PortBytes.{now_there, same_core}
 use Rattle.one_client.proofs.PortNames.{had_given, named_there}
-use Rattle.one_client.proofs.RunsHold.{HoldsAll, RunHolds, StaysKnown, connect_of, is_its, longer_connects, run_holds}
+use Rattle.one_client.proofs.RunsHold.{HoldsAll, StaysKnown, connect_of, is_its, longer_connects, run_holds}
 
 -- some node had a connection of the name
 record WasSomewhere (x : ConnectionName) {nodes : ℕ} {config : Config} {g : Group} (went : GroupTrace nodes config g) : Type 0 where

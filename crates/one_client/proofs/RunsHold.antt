@@ -1,5 +1,5 @@
 -- Whatever bytes come to nodes, a Connect that they propose came first on its connection.
-use Rattle.std.proofs.Common.{◌≡◌, ◌⊎◌, inl, inr, ◌+◌, ℕ, Bool, true, false, if◌then◌else◌, List, [], ◌∷◌, ◌++◌, filter, length, Option, Some, None, Ok, Result, slice_get, slice_set, refl, sym, ap, ◌∙◌, subst, arith}
+use Rattle.std.proofs.Common.{◌≡◌, ◌⊎◌, inl, inr, ◌+◌, ℕ, Bool, true, false, if◌then◌else◌, List, [], ◌∷◌, ◌++◌, Option, Some, None, Ok, Result, refl, sym, ap, ◌∙◌, subst}
 use Rattle.std.specs.List.{find}
 use Rattle.std.proofs.lemmas.Bool.{both_ways}
 use Rattle.std.proofs.lemmas.List.{append-nil, append_assoc}
@@ -14,15 +14,12 @@ use Rattle.packet.specs.declared.packet.Packet.TheVariants as packets
 use Rattle.packet.proofs.MoreBytes.{verdict_grows}
 use Rattle.packet_base.proofs.Growing.{StandsWithMore}
 use Rattle.packet_base.specs.declared.stop.Stop.{Stop}
-use Rattle.ballot_base.specs.declared.config.Config.{Config}
-use Rattle.agreement.specs.MasterState.{refusal}
 use Rattle.agreement.specs.Proposals.{commands_of}
 use Rattle.broker_spec.specs.declared.command.Command.{Command}
 use Rattle.broker_spec.specs.declared.command.Command.TheVariants as commands
 use Rattle.broker_spec.specs.Connection.{ConnectionName, is_connection_name, same_connection}
 use Rattle.broker_spec.specs.EndingTheorems.{is_connect_of}
 use Rattle.broker_spec.specs.Place.{Client}
-use Rattle.broker_spec.proofs.ConnectionNames.{same_name}
 use Rattle.exactly_once.proofs.Takes.{same_name_self}
 use Rattle.world_base.specs.declared.node_connections.connection.Connection.{Connection}
 use Rattle.world_base.specs.declared.node_connections.port.Port.{Port}
@@ -31,7 +28,6 @@ use Rattle.world_base.specs.node_connections.ConnectionChanges.{changed_where, c
 use Rattle.world_base.specs.node_core.Core.{CoreState, StepOutcome}
 use Rattle.world_base.specs.node_core.PacketInput.{changes, open_at}
 use Rattle.world_base.specs.node_core.Step.{next_name}
-use Rattle.headline.specs.node_moves.Closed.{listed_named}
 use Rattle.headline.specs.node_moves.Ends.{AtMostOne, IsGiven, IsOrderly, piece_on}
 use Rattle.headline.specs.node_moves.LossyMoves.{NodeMoveOrLost}
 use Rattle.headline.specs.node_moves.LossyMoves.NodeMoveOrLost.{exactly, hears_losing, first_losing, later_losing, tells_losing, expels_losing, forgets, halts, fails, unheard, drops}
@@ -42,32 +38,14 @@ use Rattle.headline.specs.node_moves.Moves.NodeMove.{hears, opens_one, holds, re
 use Rattle.headline.proofs.of_node_moves.Kept.{named}
 use Rattle.headline.proofs.of_node_moves.LossyReads.{losses_read_in_order}
 use Rattle.headline.proofs.of_node_moves.NamesInOrder.{next_precedes, not_both}
-use Rattle.headline.proofs.of_node_moves.Views.{found_each, found_passes}
-use Rattle.headline.proofs.of_packet_world.Lists.{same_or_other}
-use Rattle.headline.specs.node_group.Group.{Group, opening_cores, replica_of}
+use Rattle.headline.proofs.of_node_moves.Views.{found_each}
+use Rattle.headline.specs.node_group.Group.{replica_of}
 use Rattle.headline.specs.node_group.Losses.{commands_put, put_in_move, put_in_run}
-use Rattle.headline.specs.node_group.Steps.{GroupStep, GroupTrace, all_proposed, groups_on_trace, put_in_step}
-use Rattle.headline.specs.node_group.Steps.GroupStep.{node_acts, node_loses, master_assigns, master_hears, assigns_unheard, answers_unheard}
-use Rattle.headline.specs.node_group.Steps.GroupTrace.{opened, then_went}
-use Rattle.headline.specs.node_group.Streams.{came_up, comes_up}
-use Rattle.headline.proofs.of_node_group.CarriedInOrder.{assigned_nodes, no_connections}
 use Rattle.headline.proofs.of_node_group.Given.{stays_given}
-use Rattle.headline.proofs.of_node_group.LosingNone.{losing_none, same_bytes, same_put}
-use Rattle.headline.proofs.of_node_group.NamesInGroups.{all_well, each_got}
-use Rattle.headline.proofs.of_node_group.Placed.{get_of_set}
-use Rattle.headline.proofs.of_node_group.States.{set_back}
-use Rattle.headline.specs.byte_world.Apart.{HasName}
-use Rattle.headline.specs.byte_world.Transport.{IsFaithful, node_call_of}
-use Rattle.headline.proofs.of_byte_world.NamesApart.{names_stay_apart}
-use Rattle.headline.proofs.of_byte_world.NodesGoOn.{came_so}
-use Rattle.headline.proofs.of_byte_world.PipesHold.{found_in, none_found}
-use Rattle.one_client.specs.Calls.{AreFaithful}
-use Rattle.one_client.specs.ConnectsFirst.{ConnectsAs, ConnectsCameFirst}
-use Rattle.one_client.specs.Names.{HadConnection}
+use Rattle.one_client.specs.ConnectsFirst.{ConnectsAs}
 use Rattle.one_client.proofs.AgreedCommands.{passed, passing}
-use Rattle.one_client.proofs.ConnectsOnce.{no_end, rows_joined, rows_of, same_connects, silent_run, unlisted_silent}
+use Rattle.one_client.proofs.ConnectsOnce.{rows_joined, rows_of, same_connects}
 use Rattle.one_client.proofs.Followers.{IsFollowed, move_kept}
-use Rattle.one_client.proofs.PortBytes.{had_now, now_there, same_core}
 
 -- ---- a CONNECT at the front stays there
 

@@ -1,6 +1,6 @@
 -- A node proposes a Connect only for a connection on which that CONNECT came first.
-use Rattle.std.specs.Prelude.{◌≡◌, ℕ, Bool, List, ◌∷◌, Ok}
-use Rattle.lists.specs.Lists.{Each, In}
+use Rattle.std.specs.Prelude.{◌≡◌, ℕ, Bool, List, Ok}
+use Rattle.lists.specs.Lists.{In}
 use Rattle.packet.specs.Verdict.{verdict}
 use Rattle.packet.specs.declared.connect.Connect.{Connect}
 use Rattle.packet.specs.declared.packet.Packet.TheVariants as packets
