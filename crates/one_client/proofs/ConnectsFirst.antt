@@ -134,7 +134,7 @@ module _ (x : ConnectionName) {nodes : ℕ} {config : Config} {g h : Group} (wen
           holds = holds_then (subst (λ l. Each (HoldsAll x (came_up x went ++ l)) outcome.core.connections) bytes r.holds) others;
           known = known;
           puts = puts_then (λ client clean i.
-          subst (λ l. ConnectsAs (came_up x went ++ l) client) bytes (r.puts client clean (subst (λ l. In (connect_of x client clean) (commands_of l)) (sym rows) i)));
+              subst (λ l. ConnectsAs (came_up x went ++ l) client) bytes (r.puts client clean (subst (λ l. In (connect_of x client clean) (commands_of l)) (sym rows) i)));
         }
 
     -- it has the name
@@ -183,10 +183,10 @@ module _ (x : ConnectionName) {nodes : ℕ} {config : Config} {g h : Group} (wen
                   (has_it x h m outcome.core c (ap (λ l. slice_get l m) are ∙ get_of_set g.nodes m core outcome.core at) i is))))) others;
               known = inr (later_somewhere w);
               puts = puts_then (λ client clean i.
-              absurd
-              (none_in (connect_of x client clean) _ (silent_run x core outcome run o (no_end x core none) (silent none))
-              (passing (is_connect_of x) (commands_of (put_in_run run)) (connect_of x client clean)
-              (subst (λ l. In (connect_of x client clean) (commands_of l)) (sym rows) i) (is_its x client clean))));
+                  absurd
+                  (none_in (connect_of x client clean) _ (silent_run x core outcome run o (no_end x core none) (silent none))
+                  (passing (is_connect_of x) (commands_of (put_in_run run)) (connect_of x client clean)
+                  (subst (λ l. In (connect_of x client clean) (commands_of l)) (sym rows) i) (is_its x client clean))));
             }
 
         by : (came_up x went ≡ []) ⊎ WasSomewhere x went → ComesFirst x (then_went went step)

@@ -95,22 +95,20 @@ module _ (x : ConnectionName) (came piece : List ℕ) (test : Connection → Boo
 
       by : (a b : Bool) → named x d ≡ b → Each (HoldsAll x (came ++ piece_on x piece (find test cs))) (changed_where test f cs)
           → Each (HoldsAll x (came ++ piece_on x piece (if a then Some d else find test cs))) (if a then f d ∷ cs else d ∷ changed_where test f cs)
-      by true b e ih =
-          (
-            λ is waits.
+      by true b e ih = (
+        λ is waits.
             let m = more d waits in
             let mine : d.name ≡ x = sym (same d) ∙ is in
             m.1 ∙ ap (λ l. l ++ piece) (all.0 mine m.0)
             ∙ ap (λ (q : Bool). came ++ (let l : List ℕ = if q then piece else [] in l)) (sym (ap (λ (y : ConnectionName). same_connection y x) mine ∙ same_name_self x)),
-            subst (λ (q : Bool). Each (HoldsAll x (came ++ (let l : List ℕ = if q then piece else [] in l))) cs) (sym e) (rest b e),
-          )
-      by false b e ih =
-          (
-            λ is waits.
+        subst (λ (q : Bool). Each (HoldsAll x (came ++ (let l : List ℕ = if q then piece else [] in l))) cs) (sym e) (rest b e),
+      )
+      by false b e ih = (
+        λ is waits.
             all.0 is waits ∙ sym (append-nil came)
             ∙ ap (λ l. came ++ l) (sym (comes_elsewhere x piece test cs (one.0 (ap (λ (y : ConnectionName). same_connection y x) is ∙ same_name_self x)))),
-            ih,
-          )
+        ih,
+      )
 
 held_at : (x : ConnectionName) (came piece : List ℕ) (port : Port) (core : CoreState) → IsOrderly core → Each (HoldsAll x came) core.connections
     → Each (HoldsAll x (came ++ piece_on x piece (open_at port core))) (changes port (with_unread piece) core).connections
