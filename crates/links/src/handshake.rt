@@ -19,7 +19,7 @@ use seal::{
 };
 use std::error::Error;
 use std::fmt;
-use std::io::{Read, Write};
+use std::io::{ErrorKind, Read, Write};
 
 /// Bytes of a proof.
 const PROOF_BYTES: usize = 32;
@@ -59,6 +59,7 @@ pub struct Met {
 }
 
 /// What an end says of itself, and which ends it accepts.
+#[derive(Drop)]
 pub struct Party<'a> {
     /// Which end it is.
     pub side: Side,
@@ -184,6 +185,9 @@ fn receive_proof<R: Read>(input: &mut R) -> Result<[u8; PROOF_BYTES], HandshakeF
     let mut given = [0; PROOF_BYTES];
     match input.read_exact(&mut given) {
         Ok(()) => Ok(given),
+        Err(error) if error.kind() == ErrorKind::UnexpectedEof => {
+            Err(HandshakeFault::Device(DeviceFault::Ended))
+        }
         Err(_) => Err(HandshakeFault::Device(DeviceFault::Failed)),
     }
 }
