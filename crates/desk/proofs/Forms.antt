@@ -60,7 +60,7 @@ form_written (first ∷ rest) state e =
 
 -- ---- its bytes are read
 
--- what stands behind the cluster
+-- what follows the cluster
 behind : DeskState → List ℕ → List ℕ
 behind s sum = s.next ∷ (wide s.master.given ++ (wide s.master.active ++ (members_bytes s.master.members ++ (waiting_bytes s.master.waiting ++ sum))))
 
@@ -117,14 +117,14 @@ padded_len members few =
     let zeros = length-replicate (7 - length members) zero_number in
     omega (arith, few, length-append members (replicate (7 - length members) zero_number), zeros)
 
--- from a place behind the cluster on
+-- from a place after the cluster on
 past : (k : ℕ) (cluster tail : List ℕ) → length cluster ≡ 16 → drop (16 + k) (cluster ++ tail) ≡ drop k tail
 past k cluster tail size = sym (drop-drop k 16 (cluster ++ tail)) ∙ ap (λ (l : List ℕ). drop k l) (drop_at cluster tail 16 size)
 
 at_past : (k : ℕ) (cluster tail : List ℕ) → length cluster ≡ 16 → get_or (cluster ++ tail) (16 + k) 0 ≡ get_or tail k 0
 at_past k cluster tail size = sym (get_or-drop 16 (cluster ++ tail) k 0) ∙ ap (λ (l : List ℕ). get_or l k 0) (drop_at cluster tail 16 size)
 
--- and behind seven numbers of members
+-- and after seven numbers of members
 past_members : (j : ℕ) (seven rest : List ℕ) → length seven ≡ 7 → drop (7 + j) (seven ++ rest) ≡ drop j rest
 past_members j seven rest size = sym (drop-drop j 7 (seven ++ rest)) ∙ ap (λ (l : List ℕ). drop j l) (drop_at seven rest 7 size)
 
@@ -315,7 +315,7 @@ form_read s is =
     ∙ then_true (is_of (state_at (form s)) (take 59 (form s))) (Ok (state_at (form s))) (Err Shape) shape
     ∙ ap (λ (t : DeskState). Ok t) state
 
--- parts and check sum, written one behind the other
+-- the parts, and then their check sum
 pub placed : (p s z : List ℕ) → length p ≡ 59 → length z ≡ 8 → put_mid 59 8 (p ++ z) s ≡ p ++ s
 placed p s z long short =
     ap (λ (l : List ℕ). l ++ (s ++ drop 8 (drop 59 (p ++ z)))) (take_at p z 59 long)

@@ -153,7 +153,7 @@ fn put(bytes: &mut [u8; SUMMED_BYTES], at: usize, part: &[u8])
     bytes[at..at + part.len()].copy_from_slice(part);
 }
 
-// Returns the parts and their check sum, one behind the other.
+// Returns the parts, followed by their check sum.
 fn joined(parts: &[u8; SUMMED_BYTES], sum: &[u8; SUM_BYTES]) -> [u8; FORM_BYTES]
     ensures { result ≡ parts.now ++ sum.now }
 {

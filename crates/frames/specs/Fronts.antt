@@ -20,7 +20,7 @@ behind bytes (whole message rest) = whole (bytes ++ message) rest
 behind bytes unfinished = unfinished
 behind bytes (broken fault) = broken fault
 
--- the bytes of a part, behind its head, and what follows the part
+-- the bytes of a part after its head, and what follows the part
 abbrev pub bytes_of : ℕ → List ℕ → List ℕ
 bytes_of len stream = take len (drop 5 stream)
 

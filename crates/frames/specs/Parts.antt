@@ -17,7 +17,7 @@ more_flag = 1
 abbrev pub part : ℕ → List ℕ → List ℕ
 part flag bytes = (flag ∷ to_be_bytes w32 (length bytes)) ++ bytes
 
--- so many full parts, and then the last one
+-- this number of full parts, and then the last one
 abbrev pub in_parts : ℕ → List ℕ → List ℕ
 in_parts zero message = part last_flag message
 in_parts (suc full) message =

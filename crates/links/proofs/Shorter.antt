@@ -10,7 +10,7 @@ use Rattle.seal.specs.FrameStreams.{sealed, all_sealed}
 use Rattle.links.specs.declared.parcel.Parcel.{Parcel}
 use Rattle.links.specs.Links.{LinkView, Hands, bytes_in, max_parcel}
 
--- what is left behind a message is shorter
+-- what is left after a message is shorter
 abbrev Shorter : List ℕ → Front → Type 0
 Shorter stream (whole message rest) = length rest + 5 ≤ length stream
 Shorter stream unfinished = Unit {0}

@@ -82,7 +82,7 @@ HelloFails rules membership unread left (faults.Hello fault) =
 HelloFails rules membership unread left faults.Proof = ⊥
 HelloFails rules membership unread left (faults.Device fault) = Unit {0}
 
--- a piece was read behind so many bytes, and ends there
+-- a piece was read after this many bytes, and ends there
 pub record ReadsBehind
     (from : ℕ) (old : List ℕ) (end : ℕ) (new : List ℕ) (unread left : Option (List ℕ))
     : Type 0 where

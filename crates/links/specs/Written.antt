@@ -15,7 +15,7 @@ pub record WriterView : Type 0 where
   pub parts : List ℕ
   pub failed : Bool
 
--- so many full frames, and then the last one
+-- this number of full frames, and then the last one
 abbrev pub in_frames : ℕ → List ℕ → List (List ℕ)
 in_frames zero parts = parts ∷ []
 in_frames (suc full) parts = take max_frame parts ∷ in_frames full (drop max_frame parts)

@@ -98,8 +98,8 @@ impl LinkWriter {
         }
     }
 
-    /// Adds a parcel behind those that were added. `TooLarge` comes exactly if it cannot be written
-    /// or has more than 1 GiB. After an error nothing has changed: the parcel is not sent.
+    /// Adds a parcel after those that were added. `TooLarge` comes only if it cannot be written or
+    /// has more than 1 GiB. After an error nothing has changed: the parcel is not sent.
     pub fn add(&mut self, parcel: &Parcel) -> Result<(), WriteFault>
         ensures ok { OnOk result (self.new ≡ with_parcel self.old parcel.now) }
         ensures carried { OnOk result (IsCarried parcel.now) }
