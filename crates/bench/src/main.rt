@@ -5,9 +5,11 @@
 mod granted;
 mod inbox;
 mod matching;
+mod messages;
 mod packets;
 mod publications;
 mod retained_topics;
+mod seals;
 mod streams;
 mod tree;
 mod windows;
@@ -17,12 +19,14 @@ use bench_base::list;
 use std::env;
 
 /// The benchmarks, each named like its file.
-const NAMES: [&str; 9] = [
+const NAMES: [&str; 11] = [
     "granted",
     "inbox",
     "matching",
+    "messages",
     "packets",
     "retained",
+    "seals",
     "streams",
     "tree",
     "tree-filled",
@@ -44,8 +48,10 @@ fn run(rt: &HostRuntime, name: &str) -> Result<()> {
     match name {
         "granted" => granted::run(rt),
         "matching" => matching::run(rt),
+        "messages" => messages::run(rt),
         "packets" => packets::run(rt),
         "retained" => retained_topics::run(rt),
+        "seals" => seals::run(rt),
         "streams" => streams::run(rt),
         "tree" => tree::run(rt),
         "tree-filled" => tree::fill_only(rt),
