@@ -5,6 +5,7 @@ use crate::{
     FrameError, FrameReader, Hello, HelloFault, Membership, NO_CLUSTER, Opener, SealFault, Sealer,
     Side, Tag, hmac, is_proof, proof, session,
 };
+use std::alloc::Global;
 
 // A key, a message, and the HMAC with SHA-256: cases 1, 2, 3 and 6.
 const DIGESTS: &[(&[u8], &[u8], [u8; 32])] = &[
@@ -151,6 +152,32 @@ fn other_frames_are_refused_and_all_after_them(rt: HostRuntime) {
     }
 }
 
+// The first of these frames, with its length and its tag.
+const SEALED: [u8; 25] = [
+    0x00, 0x00, 0x00, 0x05, 0x66, 0x69, 0x72, 0x73, 0x74, 0x25, 0xD5, 0x69, 0xB2, 0xD2, 0xCF, 0x8D,
+    0x92, 0xD0, 0xB3, 0x58, 0xE6, 0x7F, 0x7D, 0x09, 0xCA,
+];
+
+// Returns the error at the first frame of these bytes, which has at most 5 bytes.
+fn first_error(alloc: Global, bytes: &[u8]) -> Option<FrameError> {
+    let mut reader = FrameReader::new(alloc, Opener::new(KEY), 5);
+    match reader.feed(bytes) {
+        Ok(()) => reader.next().err(),
+        Err(error) => Some(error),
+    }
+}
+
+#[test]
+fn each_turned_bit_is_refused(rt: HostRuntime) {
+    assert!(rt; first_error(rt.alloc(), &SEALED).is_none());
+    for bit in 0..8 * SEALED.len() {
+        let mut turned = SEALED;
+        turned[bit / 8] ^= 1 << (bit % 8);
+        let error = first_error(rt.alloc(), &turned);
+        assert!(rt; matches!(error, Some(FrameError::Tag | FrameError::TooLong)));
+    }
+}
+
 #[test]
 fn a_repeated_frame_is_refused(rt: HostRuntime) {
     let mut opener = Opener::new(KEY);
@@ -262,6 +289,7 @@ fn a_frame_goes_from_end_to_end(rt: HostRuntime) -> Result<(), FrameError> {
             .next()?
             .is_some_and(|frame| frame.as_slice() == b"hello".as_slice())
     );
+    assert!(rt; reader.next()?.is_none());
     reader.feed(&FRAME)?;
     assert!(rt; reader.next().err() == Some(FrameError::Tag));
     assert!(rt; reader.next().err() == Some(FrameError::Failed));
