@@ -5,7 +5,7 @@
 // several; each frame is written by itself, so that no second copy of a log is made. Once a write
 // has failed the other end may have a part of a frame, so that is final.
 
-ghost use Rattle.std.specs.Prelude.{◌≡◌, ◌++◌, ◌<◌, ◌≤◌, ◌↔◌, [], true, false, length, OnOk, OnErr, IsErrOf};
+ghost use Rattle.std.specs.Prelude.{◌≡◌, ◌⊎◌, ◌++◌, ◌<◌, ◌≤◌, ◌↔◌, [], true, false, length, OnOk, OnErr, IsErrOf};
 ghost use Rattle.std.specs.Io.KnownBytes.{Appends, Keeps};
 ghost use Rattle.frames.specs.Parts.{parts_of};
 ghost use Rattle.seal.specs.Frames.{moved_on};
@@ -13,6 +13,7 @@ ghost use Rattle.seal.specs.FrameStreams.{all_sealed, sealed};
 ghost use Rattle.links.specs.declared.parcel.Parcel.TheVariants as parcels;
 ghost use Rattle.links.specs.Devices.{WritesPrefix};
 ghost use Rattle.links.specs.Links.{max_parcel, place_after};
+ghost use Rattle.links.specs.Room.{IsTooLarge};
 ghost use Rattle.links.specs.Written.{IsCarried, IsTooLong, after_write, frames_of, sealed_parts};
 ghost use Rattle.links.specs.Written.{with_parcel};
 
@@ -99,11 +100,15 @@ impl LinkWriter {
     }
 
     /// Adds a parcel after those that were added. `TooLarge` comes only if it cannot be written or
-    /// has more than 1 GiB. After an error nothing has changed: the parcel is not sent.
+    /// has more than 1 GiB, and then always, except that memory may run out for the bytes of a long
+    /// one before all are counted. After an error nothing has changed: the parcel is not sent.
     pub fn add(&mut self, parcel: &Parcel) -> Result<(), WriteFault>
         ensures ok { OnOk result (self.new ≡ with_parcel self.old parcel.now) }
         ensures carried { OnOk result (IsCarried parcel.now) }
         ensures large { IsErrOf result WriteFault.TooLarge → IsTooLong parcel.now }
+        ensures unwritten { IsTooLarge parcel.now → IsErrOf result WriteFault.TooLarge }
+        ensures always { IsTooLong parcel.now
+            → IsErrOf result WriteFault.TooLarge ⊎ IsErrOf result WriteFault.Memory }
         ensures err { OnErr result (self.new ≡ self.old) }
     {
         self.parcel.clear();
@@ -117,6 +122,10 @@ impl LinkWriter {
         ensures carried { OnOk result (IsCarried (parcels.Message message.now)) }
         ensures large { IsErrOf result WriteFault.TooLarge
             → IsTooLong (parcels.Message message.now) }
+        ensures unwritten { IsTooLarge (parcels.Message message.now)
+            → IsErrOf result WriteFault.TooLarge }
+        ensures always { IsTooLong (parcels.Message message.now)
+            → IsErrOf result WriteFault.TooLarge ⊎ IsErrOf result WriteFault.Memory }
         ensures err { OnErr result (self.new ≡ self.old) }
     {
         self.parcel.clear();
