@@ -13,6 +13,8 @@ mod parcel_writers;
 mod reading;
 mod rows;
 mod sink;
+#[cfg(test)]
+mod tests;
 mod theorems;
 
 pub use devices::DeviceFault;
