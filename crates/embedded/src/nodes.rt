@@ -2,19 +2,25 @@
 // them.
 //
 // Each inbox of a run has a number. A function that is generic in a `Naming` or a `NodeNaming`
-// knows by the numbers which lane is of which inbox; its caller passes `Brand`.
+// knows by the numbers which lane is of which inbox; its caller passes `Brand`. What a node does is
+// on record in the log of a run, which has a name of its own, a `RunNaming`.
 
-ghost use Rattle.std.specs.Prelude.{◌≡◌};
+ghost use Rattle.std.specs.Prelude.{◌≡◌, []};
+ghost use Rattle.agreement.specs.MasterState.{opening_master};
+ghost use Rattle.ballot_base.specs.LawfulConfig.{max_node};
+ghost use Rattle.run_history.specs.Log.{items_taken};
 
 use crate::bytes::{ACCEPTED, CONNECT_A};
 use crate::names::Names;
 use crate::node_steps::config_of;
 use anyhow::Result;
 use mailbox::{Inbox, Lane, Naming, Receiver};
+use master::Master;
 use node::{
-    Counted, Gate, Handed, Item, Node, NodeCore, NodeNaming, NodeState, Permit, Piece, Port,
-    Report, WholeWrite,
+    Config, Counted, Gate, Handed, Item, Node, NodeCore, NodeNaming, NodeState, Permit, Piece,
+    Port, Report, WholeWrite,
 };
+use run_history::{NodeOnRecord, OpenedRun, RunNaming, SeenRun, SentItem};
 use std::alloc::Global;
 use std::marker::Brand;
 use std::sync::{Mutex, Wait};
@@ -115,77 +121,113 @@ fn use_node<R: Wait + Clock>(rt: &R, alloc: Global) -> Result<Names> {
     Ok(names)
 }
 
-// Makes an inbox, and the node whose items it is for.
+// Opens the run of a group of one node, the sole member of ballot 1.
 fn use_new<R: Wait + Clock>(rt: &R, alloc: Global, names: &mut Names) -> Result<()> {
-    let inbox = Inbox::new(alloc)?;
+    let config = config_of(alloc, 1)?;
+    let (run, master) = OpenedRun::open(alloc, 1, &config)?;
+    use_run::<Brand, R>(rt, alloc, run, master, &config, names)
+}
+
+// Gives the run its name, and puts its only node on record.
+fn use_run<H: RunNaming, R: Wait + Clock>(
+    rt: &R,
+    alloc: Global,
+    run: OpenedRun,
+    master: Master,
+    config: &Config,
+    names: &mut Names,
+) -> Result<()>
+    requires book { run.book ≡ H.book }
+    requires nodes { run.group.nodes ≡ H.nodes }
+    requires one { H.nodes ≡ 1 }
+    requires config { run.group.config ≡ H.config }
+    requires same { config.now ≡ H.config }
+    requires master { master ≡ opening_master max_node H.config }
+{
+    let (_master, mut maker, log) = run.named::<H>(master);
+    let core = NodeCore::new(alloc, 1, config)?;
+    let node = maker.make(&log, core, 0);
+    use_node_of(rt, alloc, node, &log, names)
+}
+
+// Makes an inbox for the node.
+fn use_node_of<H: RunNaming, R: Wait + Clock>(
+    rt: &R,
+    alloc: Global,
+    node: NodeOnRecord<H>,
+    log: &SeenRun<H>,
+    names: &mut Names,
+) -> Result<()>
+    requires index { node.index ≡ 0 }
+    requires none { items_taken 1 node.log ≡ [] }
+{
     let gate = OpenGate::new();
-    match first_core(alloc) {
-        Ok(core) => use_named::<Brand, R>(rt, alloc, inbox, core, &gate, names),
+    match Inbox::new(alloc) {
+        Ok(inbox) => use_named::<H, Brand, R>(rt, alloc, inbox, node, log, &gate, names),
         Err(error) => {
-            drop(inbox);
-            Err(error)
+            drop(node);
+            Err(error.into())
         }
     }
 }
 
-// Returns node 1, the sole member of ballot 1.
-fn first_core(alloc: Global) -> Result<NodeCore> {
-    let config = config_of(alloc, 1)?;
-    Ok(NodeCore::new(alloc, 1, &config)?)
-}
-
 // Gives the inbox of a node its number and one lane.
-fn use_named<J: NodeNaming, R: Wait + Clock>(
+fn use_named<H: RunNaming, J: NodeNaming, R: Wait + Clock>(
     rt: &R,
     alloc: Global,
-    inbox: Inbox<Item>,
-    core: NodeCore,
+    inbox: Inbox<SentItem<H>>,
+    node: NodeOnRecord<H>,
+    log: &SeenRun<H>,
     gate: &OpenGate,
     names: &mut Names,
 ) -> Result<()>
     requires inbox { inbox ≡ J.inbox_of 1 }
-    requires first { core ≡ J.first_of 1 }
+    requires first { node.node ≡ J.first_of 1 }
+    requires index { node.index ≡ 0 }
+    requires none { items_taken 1 node.log ≡ [] }
 {
     match inbox.named::<J>(1, 1) {
         Ok((receiver, mut lanes)) => {
-            let state = NodeState::new(receiver, core);
+            let state = NodeState::new(receiver, node);
             names.uses("NodeState", state.number() == 1);
-            start(rt, alloc, state, lanes.as_mut_slice(), gate, names)
+            start(rt, alloc, state, lanes.as_mut_slice(), log, gate, names)
         }
         Err(error) => {
-            drop(core);
+            drop(node);
             Err(error.into())
         }
     }
 }
 
 // Starts the node: from now on its state is under a lock.
-fn start<J: NodeNaming, R: Wait + Clock>(
+fn start<H: RunNaming, J: NodeNaming, R: Wait + Clock>(
     rt: &R,
     alloc: Global,
-    state: NodeState<J>,
-    lanes: &mut [Lane<Item, J>],
+    state: NodeState<H, J>,
+    lanes: &mut [Lane<SentItem<H>, J>],
+    log: &SeenRun<H>,
     gate: &OpenGate,
     names: &mut Names,
 ) -> Result<()> {
     let node = Node::start(alloc, state, Some(gate))?;
     names.uses("Node::start", node.number() == 1);
-    let used = use_started(rt, alloc, &node, lanes, names);
+    let used = use_started(rt, alloc, &node, lanes, log, names);
     names.uses("Gate", gate.last(rt) == (2, 2));
     close(rt, node, lanes, names);
     used
 }
 
 // Uses the only lane of a node.
-fn use_started<J: NodeNaming, R: Wait + Clock>(
+fn use_started<H: RunNaming, J: NodeNaming, R: Wait + Clock>(
     rt: &R,
     alloc: Global,
-    node: &Node<'_, J, NodeState<J>, OpenGate>,
-    lanes: &mut [Lane<Item, J>],
+    node: &Node<'_, H, J, NodeState<H, J>, OpenGate>,
+    lanes: &mut [Lane<SentItem<H>, J>],
+    log: &SeenRun<H>,
     names: &mut Names,
 ) -> Result<()> {
     if let [lane] = lanes {
-        send_three(rt, alloc, node, lane, names)?;
+        send_three(rt, alloc, node, lane, log, names)?;
         take_two(rt, alloc, node, lane, names);
     }
     Ok(())
@@ -193,30 +235,42 @@ fn use_started<J: NodeNaming, R: Wait + Clock>(
 
 // Sends that the connection is opened, a CONNECT, and a tick. Meanwhile the state is locked: a lane
 // waits for no lock.
-fn send_three<J: NodeNaming, R: Wait>(
+fn send_three<H: RunNaming, J: NodeNaming, R: Wait>(
     rt: &R,
     alloc: Global,
-    node: &Node<'_, J, NodeState<J>, OpenGate>,
-    lane: &mut Lane<Item, J>,
+    node: &Node<'_, H, J, NodeState<H, J>, OpenGate>,
+    lane: &mut Lane<SentItem<H>, J>,
+    log: &SeenRun<H>,
     names: &mut Names,
 ) -> Result<()> {
     let piece = Piece::from_slice(alloc, CONNECT_A)?;
     let mut state = node.lock(rt);
-    let opened = sends(rt, lane, Item::Opened(PORT, 0));
-    let connected = sends(rt, lane, Item::Bytes(PORT, piece, 0));
-    let ticked = sends(rt, lane, Item::Tick(5));
+    let opened = sends_item(rt, log, lane, Item::Opened(PORT, 0));
+    let connected = sends_item(rt, log, lane, Item::Bytes(PORT, piece, 0));
+    let ticked = sends_item(rt, log, lane, Item::Tick(5));
     names.uses("Item", opened && connected && ticked);
     let is_met = state.number() == lane.number() && state.meet(lane) == 0;
     names.uses("NodeState::meet", is_met);
     Ok(())
 }
 
+// Returns true if a lane sends an item that comes from outside of the run.
+fn sends_item<H: RunNaming, J: NodeNaming, R: Wait>(
+    rt: &R,
+    log: &SeenRun<H>,
+    lane: &mut Lane<SentItem<H>, J>,
+    item: Item,
+) -> bool {
+    let sent = SentItem::from_outside(rt, lane.number(), item, log.again());
+    sends(rt, lane, sent)
+}
+
 // Takes two of the items, after which the CONNECT is answered.
-fn take_two<J: NodeNaming, R: Wait + Clock>(
+fn take_two<H: RunNaming, J: NodeNaming, R: Wait + Clock>(
     rt: &R,
     alloc: Global,
-    node: &Node<'_, J, NodeState<J>, OpenGate>,
-    lane: &mut Lane<Item, J>,
+    node: &Node<'_, H, J, NodeState<H, J>, OpenGate>,
+    lane: &mut Lane<SentItem<H>, J>,
     names: &mut Names,
 ) {
     let first = takes(rt, alloc, node);
@@ -226,17 +280,17 @@ fn take_two<J: NodeNaming, R: Wait + Clock>(
     names.uses("NodeState::take_one", first && second && is_met);
     names.uses("NodeState::status", state.status().held == 1);
     let mut out = Vec::new(alloc);
-    let is_open = state.outgoing(PORT, &mut out) == Ok(Handed::Open);
+    let is_open = state.outgoing(rt, PORT, &mut out) == Ok(Handed::Open);
     names.uses("NodeState::outgoing", is_open && out.as_slice() == ACCEPTED);
     names.uses("NodeState::losses", state.losses() == 0);
 }
 
 // Takes the next item, as the gate lets it. Returns true if there was one, and nothing is to be
 // sent to other nodes.
-fn takes<J: NodeNaming, R: Wait + Clock>(
+fn takes<H: RunNaming, J: NodeNaming, R: Wait + Clock>(
     rt: &R,
     alloc: Global,
-    node: &Node<'_, J, NodeState<J>, OpenGate>,
+    node: &Node<'_, H, J, NodeState<H, J>, OpenGate>,
 ) -> bool {
     let permit = node.begin_taking(rt);
     let is_taken = step(rt, alloc, &mut node.lock(rt), &permit);
@@ -245,10 +299,10 @@ fn takes<J: NodeNaming, R: Wait + Clock>(
 }
 
 // Takes an item and does the step of the node with it.
-fn step<J: NodeNaming, R: Wait>(
+fn step<H: RunNaming, J: NodeNaming, R: Wait>(
     rt: &R,
     alloc: Global,
-    state: &mut NodeState<J>,
+    state: &mut NodeState<H, J>,
     permit: &Permit<'_>,
 ) -> bool {
     let mut effects = Vec::new(alloc);
@@ -257,14 +311,14 @@ fn step<J: NodeNaming, R: Wait>(
 }
 
 // Ends the node: it took two items, and the third is left over.
-fn close<J: NodeNaming, R: Wait>(
+fn close<H: RunNaming, J: NodeNaming, R: Wait>(
     rt: &R,
-    node: Node<'_, J, NodeState<J>, OpenGate>,
-    lanes: &mut [Lane<Item, J>],
+    node: Node<'_, H, J, NodeState<H, J>, OpenGate>,
+    lanes: &mut [Lane<SentItem<H>, J>],
     names: &mut Names,
 ) {
     if node.has_all(lanes) {
-        let report = node.close(rt, lanes);
+        let (report, _node) = node.close(rt, lanes);
         names.uses("Node::close", has_one_left(&report));
         names.uses("Report", report.gate_missed == 0);
         drop(report);

@@ -15,6 +15,7 @@ use command_line::ListeningNode;
 use master::Idle;
 use packet_base::ClientId;
 use post::Cluster;
+use run_history::RunNaming;
 use script::fields_of;
 use std::alloc::Global;
 use std::io::{BufRead, ErrorKind, Write};
@@ -36,14 +37,15 @@ enum Order {
 
 /// Carries out the orders of the input, and prints an answer for each, until `quit` or the end of
 /// the input. Fails only if the input cannot be read.
-pub(crate) fn obey<R, I, O>(
+pub(crate) fn obey<H, R, I, O>(
     rt: &R,
-    cluster: &Cluster,
+    cluster: &Cluster<H>,
     nodes: &[ListeningNode],
     input: &mut I,
     output: &mut O,
 ) -> Result<(), JobError>
 where
+    H: RunNaming,
     R: AllocGlobal + Wait + Clock,
     I: BufRead,
     O: Write,
@@ -122,8 +124,15 @@ fn expel_of(alloc: Global, client: &str) -> Result<Order, WordFault>
 }
 
 // Carries out an order and prints the result. Serving goes on even if nothing can be printed.
-fn answer<R, O>(rt: &R, cluster: &Cluster, nodes: &[ListeningNode], order: Order, output: &mut O)
+fn answer<H, R, O>(
+    rt: &R,
+    cluster: &Cluster<H>,
+    nodes: &[ListeningNode],
+    order: Order,
+    output: &mut O,
+)
 where
+    H: RunNaming,
     R: Wait + Clock,
     O: Write,
 {
@@ -149,8 +158,9 @@ where
 }
 
 // Ends a client's session, and prints that or the refusal.
-fn expel<R, O>(rt: &R, cluster: &Cluster, client: &ClientId, output: &mut O)
+fn expel<H, R, O>(rt: &R, cluster: &Cluster<H>, client: &ClientId, output: &mut O)
 where
+    H: RunNaming,
     R: Wait + Clock,
     O: Write,
 {
@@ -169,8 +179,9 @@ fn print_refusal<O: Write>(output: &mut O, number: u8) {
 }
 
 // Prints the status of each node that is served, in the order of their numbers.
-fn print_all<R, O>(rt: &R, cluster: &Cluster, nodes: &[ListeningNode], output: &mut O)
+fn print_all<H, R, O>(rt: &R, cluster: &Cluster<H>, nodes: &[ListeningNode], output: &mut O)
 where
+    H: RunNaming,
     R: Wait + Clock,
     O: Write,
 {

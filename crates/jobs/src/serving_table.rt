@@ -9,7 +9,9 @@ use crate::orders::obey;
 use crate::whole_input::bytes_of;
 use crate::whole_output::write;
 use command_line::{ListeningNode, NodeTable, Serve, table};
-use server::serve_while;
+use post::Cluster;
+use run_history::{RunNaming, SeenRun};
+use server::{Attendant, serve_while};
 use std::fs::File;
 use std::io::{BufRead, Write};
 use std::net::{Net, TcpListener, TcpStream};
@@ -106,14 +108,50 @@ where
 {
     let nodes = table.nodes.as_slice();
     let listeners = listen_all(rt, nodes, faults)?;
-    serve_while(
+    let orders = Orders {
         rt,
-        rt.alloc(),
-        listeners.as_slice(),
-        &table.config,
-        |cluster| { obey(rt, cluster, nodes, input, output) },
-    )??;
+        nodes,
+        input,
+        output,
+    };
+    let (obeyed, _run) = serve_while(rt, rt.alloc(), listeners.as_slice(), &table.config, orders)?;
+    obeyed?;
     write(b"bye\n", output)
+}
+
+// The orders of an input, and where they are answered.
+#[derive(Drop)]
+struct Orders<'a, R, I, O> {
+    rt: &'a R,
+    nodes: &'a [ListeningNode],
+    input: &'a mut I,
+    output: &'a mut O,
+}
+
+impl<'a, R, I, O> Attendant for Orders<'a, R, I, O>
+where
+    R: AllocGlobal + Wait + Clock,
+    I: BufRead,
+    O: Write,
+{
+    type Answer = Result<(), JobError>;
+
+    // No clause says which orders are obeyed.
+    ghost attends = { λ _ _ _ _. Unit {0} };
+
+    fn attend<H: RunNaming>(
+        self,
+        cluster: &Cluster<H>,
+        _seen: &mut SeenRun<H>,
+    ) -> Result<(), JobError> {
+        let Orders {
+            rt,
+            nodes,
+            input,
+            output,
+        } = self;
+        obey(rt, cluster, nodes, input, output)
+    }
 }
 
 // Opens the listener of each node, and then prints where all listen.

@@ -1,18 +1,14 @@
 -- Replaying.antt: a replay continues.
-use Rattle.std.proofs.Common.{◌≡◌, ℕ, List, [], ◌∷◌, ◌++◌, Ok, Err, OnOk, OnErr, sym, subst}
-use Rattle.std.specs.Prelude.{Result}
+use Rattle.std.proofs.Common.{◌≡◌, ℕ, List, [], ◌∷◌, ◌++◌, sym, subst}
 use Rattle.mailbox.specs.Ends.{ReceiverView}
 use Rattle.broker_spec.specs.declared.command.Command.{Command}
 use Rattle.broker_spec.specs.declared.command.Output.{Output}
 use Rattle.ballot_base.specs.declared.message.Effect.{Effect}
-use Rattle.world_base.specs.declared.node_connections.handed.Handed.{Handed}
 use Rattle.world_base.specs.declared.node_core.item.Item.{Item}
-use Rattle.world_base.specs.declared.node_connections.port.Port.{Port}
 use Rattle.world_base.specs.node_core.Core.{CountedCore}
-use Rattle.world_base.specs.node_core.PortOutput.{hands_over}
 use Rattle.world_base.specs.node_core.Losses.{ItemStepOrLost}
 use Rattle.node.specs.State.{Replays}
-use Rattle.node.specs.State.Replays.{opens, steps, hands}
+use Rattle.node.specs.State.Replays.{opens, steps}
 
 -- nothing was taken yet
 pub opened : (first_of : ℕ → CountedCore) (receiver : ReceiverView Item) (core : CountedCore) → receiver.taken ≡ []
@@ -30,14 +26,3 @@ pub stepped : (first_of : ℕ → CountedCore) (old new : ReceiverView Item) (ta
 stepped first_of old new taken core next before after is replays step =
     subst (λ (t : ReceiverView Item). Replays (first_of t.inbox) t.taken next) (sym is)
     (steps taken next before after replays step)
-
--- what was queued for a port was handed over, or memory ran out
-pub handed : {E : Type 0} (first_of : ℕ → CountedCore) (receiver : ReceiverView Item) (port : Port) (core new : CountedCore)
-    (result : Result Handed E)
-    → OnOk result (new ≡ record core { core = hands_over port core.core })
-    → OnErr result (new ≡ core)
-    → Replays (first_of receiver.inbox) receiver.taken core → Replays (first_of receiver.inbox) receiver.taken new
-handed first_of receiver port core new (Ok h) ok err replays =
-    subst (λ (c : CountedCore). Replays (first_of receiver.inbox) receiver.taken c) (sym ok) (hands port replays)
-handed first_of receiver port core new (Err e) ok err replays =
-    subst (λ (c : CountedCore). Replays (first_of receiver.inbox) receiver.taken c) (sym err) replays

@@ -1,5 +1,6 @@
 -- A node and the items that it took.
-use Rattle.std.specs.Prelude.{◌≡◌, ℕ, ◌+◌, ◌-◌, ◌^◌, [], List, ◌∷◌, ◌++◌, min}
+use Rattle.std.specs.Prelude.{◌≡◌, ℕ, ◌+◌, ◌-◌, ◌<◌, ◌^◌, [], List, ◌∷◌, ◌++◌, map, min, slice_get, Some}
+use Rattle.lists.specs.Lists.{Each}
 use Rattle.mailbox.specs.Ends.{ReceiverView}
 use Rattle.broker_spec.specs.declared.command.Command.{Command}
 use Rattle.broker_spec.specs.declared.command.Output.{Output}
@@ -10,6 +11,10 @@ use Rattle.world_base.specs.declared.node_connections.port.Port.{Port}
 use Rattle.world_base.specs.node_core.Core.{CountedCore, opening_core}
 use Rattle.world_base.specs.node_core.PortOutput.{hands_over}
 use Rattle.world_base.specs.node_core.Losses.{ItemStepOrLost}
+use Rattle.run_history.specs.declared.event.RunEvent.{RunEvent}
+use Rattle.run_history.specs.History.{IsHistory}
+use Rattle.run_history.specs.Log.{items_taken, nodes_in}
+use Rattle.run_history.specs.Parties.{NodeView, TookItem}
 
 -- The fold of `step` over the items that a node took, each with its lane, from its first state on.
 -- In between, queued bytes may have been handed over.
@@ -26,24 +31,51 @@ pub data Replays (first : CountedCore) : List (ℕ × Item) → CountedCore → 
       → Replays first history core
       → Replays first history (record core { core = hands_over port core.core })
 
--- the model of a node: its inbox with all that was taken from it, its core, and how often an item
--- was asked for
+-- the model of a node: its inbox with all that was taken from it, its core, the prefix of the
+-- run's log that it knows, and how often an item was asked for
 pub record NodeStateView : Type 0 where
   pub receiver : ReceiverView Item
   pub node : CountedCore
+  pub log : List RunEvent
   pub takings : ℕ
+
+-- the node as the run has it on record: its inbox has its number
+abbrev pub on_record : NodeStateView → NodeView
+on_record state = record {
+  index = state.receiver.inbox - 1;
+  node = state.node;
+  log = state.log;
+}
+
+-- the items that were taken, without their lanes
+abbrev pub items_of : List (ℕ × Item) → List Item
+items_of taken = map (λ (one : ℕ × Item). one.1) taken
+
+-- each item was taken from one of the inbox's lanes
+abbrev pub AreOfLanes : ReceiverView Item → Type 0
+AreOfLanes receiver = Each (λ (one : ℕ × Item). one.0 < receiver.lanes) receiver.taken
+
+-- The log that the node knows is a run of the model, by which the node of its number has just this
+-- state, and took just the items that were taken from its inbox, in order.
+pub record IsOnRecord (nodes : ℕ) (config : Config) (state : NodeStateView) : Type 0 where
+  pub history : IsHistory nodes config state.log
+  pub core : slice_get (nodes_in nodes config state.log) (state.receiver.inbox - 1)
+      ≡ Some state.node.core
+  pub items : items_taken state.receiver.inbox state.log ≡ items_of state.receiver.taken
 
 -- the number of the next taking, from 1; it saturates at 2^64 - 1
 abbrev pub next_taking : ℕ → ℕ
 next_taking takings = min (takings + 1) (2 ^ 64 - 1)
 
--- one item was taken, and the node's core did one step with it
+-- One item was taken, and the node's core did one step with it. That is the next event of the node
+-- in the run; if the item is a message, an earlier event sent it to this node.
 pub record TakesOne (old new : NodeStateView)
     (before after : List (Effect Command Output)) : Type 0 where
   pub lane : ℕ
   pub item : Item
   pub taken : new.receiver ≡ record old.receiver { taken = old.receiver.taken ++ (lane, item) ∷ [] }
   pub stepped : ItemStepOrLost old.node item new.node before after
+  pub in_run : TookItem (on_record old) item (on_record new) before after
 
 -- each number names the node that opens under it in this configuration of ballot 1
 abbrev pub EachOpensAs : Config → (ℕ → CountedCore) → Type 0

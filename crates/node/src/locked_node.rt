@@ -17,14 +17,14 @@ use crate::node_state::NodeState;
 use crate::permit::Permit;
 use crate::report::Report;
 use machine::Memory;
-use mailbox::Lane;
+use mailbox::{Lane, MAX_ITEMS};
 use node_base::devices::Gate;
+use run_history::{NodeOnRecord, RunNaming, SentItem};
 use std::alloc::Global;
 use std::marker::{Model, PhantomData};
 use std::sync::{Mutex, MutexGuard, Wait};
 use std::thread;
 use std::time::{Clock, Duration};
-use world_base::node_core::Item;
 
 /// How many times a gate is asked before one taking, at most.
 const GATE_ASKS: u32 = 10_000;
@@ -34,13 +34,13 @@ const ASK_MILLIS: u64 = 1;
 
 /// What the lock of a node holds. Code that starts threads is generic in this type, so it is proved
 /// once that the whole may be handed from thread to thread, not at each thread that is started.
-pub trait HasState<J: NodeNaming>: Drop {
+pub trait HasState<H: RunNaming, J: NodeNaming>: Drop {
     /// Returns the node's state.
-    fn state(&mut self) -> &mut NodeState<J>;
+    fn state(&mut self) -> &mut NodeState<H, J>;
 }
 
-impl<J: NodeNaming> HasState<J> for NodeState<J> {
-    fn state(&mut self) -> &mut NodeState<J> {
+impl<H: RunNaming, J: NodeNaming> HasState<H, J> for NodeState<H, J> {
+    fn state(&mut self) -> &mut NodeState<H, J> {
         self
     }
 }
@@ -48,7 +48,7 @@ impl<J: NodeNaming> HasState<J> for NodeState<J> {
 /// A node under a lock, with the gate before each of its takings. It has no thread of its own:
 /// whoever sent it an item takes what waits, one thread at a time.
 #[derive(Drop)]
-pub struct Node<'g, J: NodeNaming, S: HasState<J>, G: Gate> {
+pub struct Node<'g, H: RunNaming, J: NodeNaming, S: HasState<H, J>, G: Gate> {
     // The node with its receiver.
     state: Mutex<S>,
     // The number of the node and of its inbox.
@@ -59,14 +59,17 @@ pub struct Node<'g, J: NodeNaming, S: HasState<J>, G: Gate> {
     passing: Mutex<()>,
     // The number of takings for which the gate did not open (saturates at 2^64 - 1).
     missed: Mutex<u64>,
-    // Allocated beforehand, so that closing needs no memory.
+    // Allocated beforehand, so that closing needs no memory: the report, and what is left over as it
+    // lies in the inbox.
     report: Report,
+    envelopes: Vec<(u8, SentItem<H>)>,
     // Which node the number names; the caller chooses it.
     naming: PhantomData<J>,
 }
 
-impl<'g, J: NodeNaming, S: HasState<J>, G: Gate> Model for Node<'g, J, S, G> {
-    ghost use Rattle.std.specs.Prelude.{is_some, length};
+impl<'g, H: RunNaming, J: NodeNaming, S: HasState<H, J>, G: Gate> Model for Node<'g, H, J, S, G> {
+    ghost use Rattle.std.specs.Prelude.{◌≡◌, ◌≤◌, [], is_some, length, vec_capacity};
+    ghost use Rattle.mailbox.specs.Ends.{max_items};
     ghost use Rattle.node.specs.Report.{HasCapacity};
     ghost use Rattle.node.specs.LockedNode.{NodeView};
 
@@ -78,23 +81,25 @@ impl<'g, J: NodeNaming, S: HasState<J>, G: Gate> Model for Node<'g, J, S, G> {
       is_gated = is_some node.gate;
     } };
 
-    ghost invariant = { λ node. HasCapacity (length node.report.taken.items) node.report };
+    ghost invariant = { λ node. HasCapacity (length node.report.taken.items) node.report
+        × (node.envelopes.items ≡ []) × (max_items ≤ vec_capacity node.envelopes) };
 }
 
-impl<'g, J: NodeNaming, G: Gate> Node<'g, J, NodeState<J>, G> {
+impl<'g, H: RunNaming, J: NodeNaming, G: Gate> Node<'g, H, J, NodeState<H, J>, G> {
     /// Returns a node with this state, and a gate or none. Allocates its report. The only error is
     /// that memory ran out: then the state is dropped.
     pub fn start(
         alloc: Global,
-        state: NodeState<J>,
+        state: NodeState<H, J>,
         gate: Option<&'g G>,
-    ) -> Result<Node<'g, J, NodeState<J>, G>, Memory>
+    ) -> Result<Node<'g, H, J, NodeState<H, J>, G>, Memory>
         ensures number { IfOk result (λ node. node.number ≡ state.receiver.inbox) }
         ensures lanes { IfOk result (λ node. node.lanes ≡ state.receiver.lanes) }
         ensures gated { IfOk result (λ node. node.is_gated ≡ is_some gate.entry) }
     {
         let number = state.number();
         let report = Report::with_capacity(alloc, state.lanes())?;
+        let envelopes = Vec::with_capacity(alloc, MAX_ITEMS)?;
         Ok(Node {
             state: Mutex::new(state),
             number,
@@ -102,44 +107,52 @@ impl<'g, J: NodeNaming, G: Gate> Node<'g, J, NodeState<J>, G> {
             passing: Mutex::new(()),
             missed: Mutex::new(0),
             report,
+            envelopes,
             naming: PhantomData,
         })
     }
 
-    /// Ends the node, once its lanes send no more, and reports the fate of everything that they
-    /// sent. Allocates nothing. The state is under a lock, so the call checks again that these are
-    /// all its lanes; it would not return if they were others.
-    pub fn close<R: Wait>(self, rt: &R, lanes: &mut [Lane<Item, J>]) -> Report
+    /// Ends the node, once its lanes send no more. Reports the fate of everything that they sent,
+    /// and returns the node as the run has it on record. Allocates nothing. The state is under a
+    /// lock, so the call checks again that these are all its lanes; it would not return if they were
+    /// others.
+    pub fn close<R: Wait>(
+        self,
+        rt: &R,
+        lanes: &mut [Lane<SentItem<H>, J>],
+    ) -> (Report, NodeOnRecord<H>)
         requires lanes { AreItsLanes self lanes.old }
 
         // Lane by lane, what was taken followed by what is left over is all that was sent, in
         // order.
-        ensures whole { All (ArrivesWhole result.taken.items result.left.items) lanes.new }
+        ensures whole { All (ArrivesWhole result.0.taken.items result.0.left.items) lanes.new }
         ensures lanes { map unmet lanes.new ≡ map unmet lanes.old }
 
-        // The report is about a node that was the replay of what was taken. It has the base of the
-        // node's log, and for each lane how many items were taken: the first ones that the lane
-        // sent.
-        ensures reports { ReportsOn (J.first_of self.entry.number) lanes.new result }
+        // The report is about the node that is returned, which was the replay of what was taken; by
+        // the run it took just that. It has the base of the node's log, and for each lane how many
+        // items were taken: the first ones that the lane sent.
+        ensures reports { ReportsOn
+            (J.first_of self.entry.number) self.entry.number lanes.new result.0 result.1 }
     {
         let Node {
             state,
             number,
             missed,
             report,
+            envelopes,
             ..
         } = self;
         let state = state.into_inner();
         // They are all its lanes, but no clause is about what was under a lock.
         if state.number() == number && state.lanes() == report.taken.len() && state.has_all(lanes) {
-            return state.close(rt, lanes, report, missed.into_inner());
+            return state.close(rt, lanes, report, envelopes, missed.into_inner());
         }
         for _ in rt.forever() {}
         unreachable!()
     }
 }
 
-impl<'g, J: NodeNaming, S: HasState<J>, G: Gate> Node<'g, J, S, G> {
+impl<'g, H: RunNaming, J: NodeNaming, S: HasState<H, J>, G: Gate> Node<'g, H, J, S, G> {
     /// Returns the number of the node and of its inbox.
     pub fn number(&self) -> u8
         ensures { result ≡ self.now.number }
@@ -148,7 +161,7 @@ impl<'g, J: NodeNaming, S: HasState<J>, G: Gate> Node<'g, J, S, G> {
     }
 
     /// Returns true if these are all lanes of the node's inbox, in the order of their numbers.
-    pub fn has_all(&self, lanes: &[Lane<Item, J>]) -> bool
+    pub fn has_all(&self, lanes: &[Lane<SentItem<H>, J>]) -> bool
         ensures { IsTrue result ↔ AreItsLanes self.now lanes.now }
     {
         if lanes.len() != self.report.taken.len() {

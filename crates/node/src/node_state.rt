@@ -3,13 +3,15 @@
 // The invariant: the core is the fold of `NodeCore::step` over the items taken from the inbox, in
 // order. Handing over queued bytes may come in between; nothing else changes the core. Receiver and
 // core are one value, kept under one lock, and no call returns the core to be changed. So no item
-// is taken without its step, and none is stepped twice. `grown` and `takings` are counters beside
-// it: when the size of the log makes a cut due, and what a gate is asked about.
+// is taken without its step, and none is stepped twice. Each of these steps is an event of the run,
+// and by the run the node of the inbox's number took just these items. `grown` and `takings` are
+// counters beside it: when the size of the log makes a cut due, and what a gate is asked about.
 
-ghost use Rattle.std.specs.Prelude.{◌≡◌, ◌≤◌, ◌++◌, ◌*◌, ◌↔◌, [], length, map, slice_index};
+ghost use Rattle.std.specs.Prelude.{◌≡◌, ◌≤◌, ◌+◌, ◌++◌, ◌∷◌, ◌*◌, ◌↔◌, [], length, map, slice_index};
+ghost use Rattle.std.specs.Prelude.{vec_capacity};
 ghost use Rattle.std.specs.Prelude.{take, true, false, All, EachIndex, IfOk, IsOk, IsTrue, OnErr, OnOk};
 ghost use Rattle.mailbox.specs.Delivery.{items_of_lane, no_bounds};
-ghost use Rattle.mailbox.specs.Ends.{AreAllLanes, ArrivesWhole, HasArrived, WasEmpty, unmet};
+ghost use Rattle.mailbox.specs.Ends.{AreAllLanes, ArrivesWhole, HasArrived, WasEmpty, max_items, unmet};
 ghost use Rattle.mailbox.specs.declared.lane.TheConstants.{MAX_SENT};
 ghost use Rattle.ballot_base.specs.Replica.{status_of};
 ghost use Rattle.lists.specs.Lists.{IsPrefixOf};
@@ -18,7 +20,9 @@ ghost use Rattle.world_base.specs.node_connections.PendingOutput.{handed_after, 
 ghost use Rattle.world_base.specs.node_core.PortOutput.{hands_over, idle_ports, listed_at};
 ghost use Rattle.node.specs.Growth.{wants_cut};
 ghost use Rattle.node.specs.Report.{HasCapacity, ReportsAll};
-ghost use Rattle.node.specs.State.{Replays, TakesOne, next_taking};
+ghost use Rattle.node.specs.State.{AreOfLanes, IsOnRecord, Replays, TakesOne, items_of, next_taking, on_record};
+ghost use Rattle.run_history.specs.Log.{items_taken};
+ghost use Rattle.run_history.specs.Parties.{HandedOver};
 
 use crate::growth::{grown, is_large};
 use crate::naming::NodeNaming;
@@ -27,54 +31,84 @@ use ballot_base::{Effect, Status};
 use broker_spec::{Command, Output};
 use machine::Memory;
 use mailbox::{Lane, Receipt, Receiver};
+use run_history::{NodeOnRecord, RunNaming, SeenRun, SentItem};
 use std::marker::Model;
 use std::sync::Wait;
 use world_base::node_connections::{Handed, Port, Standing};
-use world_base::node_core::{Item, NodeCore};
+use world_base::node_core::Item;
 
 /// A node with the receiver of its inbox. Whatever calls come, the node's state is the fold of
 /// `step` over the items taken.
 #[derive(Drop)]
-pub struct NodeState<J: NodeNaming> {
-    receiver: Receiver<Item, J>,
-    core: NodeCore,
+pub struct NodeState<H: RunNaming, J: NodeNaming> {
+    receiver: Receiver<SentItem<H>, J>,
+    // The node as the run has it on record: its steps are events of the run.
+    node: NodeOnRecord<H>,
     // The bytes that the items since the last cut brought (saturates at 2^64 - 1).
     grown: u64,
     // How many times [`NodeState::take_one`] was called (saturates at 2^64 - 1).
     takings: u64,
 }
 
-impl<J: NodeNaming> Model for NodeState<J> {
-    ghost use Rattle.std.specs.Prelude.{◌≡◌};
+impl<H: RunNaming, J: NodeNaming> Model for NodeState<H, J> {
+    ghost use Rattle.std.specs.Prelude.{◌≡◌, ◌+◌};
     ghost use Rattle.node.specs.Growth.{bytes_since_cut, saturated};
-    ghost use Rattle.node.specs.State.{Replays, NodeStateView};
+    ghost use Rattle.node.specs.State.{AreOfLanes, Replays, NodeStateView, items_of};
+    ghost use Rattle.run_history.specs.Log.{items_taken};
 
     ghost Value = { NodeStateView };
 
     ghost view = { λ state. record {
       receiver = state.receiver;
-      node = state.core;
+      node = state.node.node;
+      log = state.node.log;
       takings = state.takings;
     } };
 
     ghost invariant = { λ state.
-        Replays (J.first_of state.receiver.inbox) state.receiver.taken state.core
-        × (state.grown ≡ saturated (bytes_since_cut state.receiver.taken)) };
+        Replays (J.first_of state.receiver.inbox) state.receiver.taken state.node.node
+        × (state.grown ≡ saturated (bytes_since_cut state.receiver.taken))
+        × (state.node.index + 1 ≡ state.receiver.inbox)
+        × (items_taken state.receiver.inbox state.node.log ≡ items_of state.receiver.taken)
+        × AreOfLanes state.receiver };
 }
 
-impl<J: NodeNaming> NodeState<J> {
-    /// Returns a node that has taken no item.
-    pub fn new(receiver: Receiver<Item, J>, core: NodeCore) -> NodeState<J>
+impl<H: RunNaming, J: NodeNaming> NodeState<H, J> {
+    /// Returns a node that has taken no item: the one of the inbox's number in the run.
+    pub fn new(receiver: Receiver<SentItem<H>, J>, node: NodeOnRecord<H>) -> NodeState<H, J>
         requires fresh { receiver.taken ≡ [] }
-        requires first { core ≡ J.first_of receiver.inbox }
-        ensures { result ≡ record { receiver = receiver; node = core; takings = 0 } }
+        requires first { node.node ≡ J.first_of receiver.inbox }
+        requires number { node.index + 1 ≡ receiver.inbox }
+        requires none { items_taken receiver.inbox node.log ≡ [] }
+        ensures { result ≡ record {
+          receiver = receiver;
+          node = node.node;
+          log = node.log;
+          takings = 0;
+        } }
     {
         NodeState {
             receiver,
-            core,
+            node,
             grown: 0,
             takings: 0,
         }
+    }
+
+    /// Proves that the node is on record: by the log that it knows, which is a run of the model, it
+    /// has its state, and took just what was taken from its inbox.
+    pub fn is_on_record(&self)
+        ensures { IsOnRecord H.nodes H.config self.now }
+    {
+        self.node.is_of_run();
+        self.node.seen().is_history();
+    }
+
+    /// Returns the prefix of the run's log that it knows.
+    pub fn seen(&self) -> SeenRun<H>
+        ensures { result ≡ self.now.log }
+    {
+        self.node.seen()
     }
 
     /// Returns the number of its inbox.
@@ -92,7 +126,7 @@ impl<J: NodeNaming> NodeState<J> {
     }
 
     /// Returns true if these are all lanes of its inbox, in the order of their numbers.
-    pub fn has_all(&self, lanes: &[Lane<Item, J>]) -> bool
+    pub fn has_all(&self, lanes: &[Lane<SentItem<H>, J>]) -> bool
         ensures { IsTrue result ↔ AreAllLanes self.now.receiver lanes.now }
     {
         self.receiver.has_all(lanes)
@@ -100,7 +134,7 @@ impl<J: NodeNaming> NodeState<J> {
 
     /// Returns a receipt of how many items it has taken so far, and that each lane sends at most
     /// [`mailbox::MAX_SENT`].
-    pub fn receipt(&mut self) -> Receipt<Item, J>
+    pub fn receipt(&mut self) -> Receipt<SentItem<H>, J>
         ensures says { result ≡ record {
           inbox = self.old.receiver.inbox;
           bounds = record no_bounds {
@@ -128,7 +162,7 @@ impl<J: NodeNaming> NodeState<J> {
         &mut self,
         rt: &R,
         effects: &mut Vec<Effect<Command, Output>>,
-        receipt: Receipt<Item, J>,
+        receipt: Receipt<SentItem<H>, J>,
     ) -> bool
         requires { receipt.inbox ≡ self.old.receiver.inbox }
         ensures took { result ≡ true →
@@ -149,9 +183,9 @@ impl<J: NodeNaming> NodeState<J> {
     {
         self.takings = self.takings.saturating_add(1);
         match self.receiver.take(rt, receipt) {
-            Some((_, item)) => {
-                self.grown = grown(self.grown, &item);
-                self.core.step(item, effects);
+            Some((_, sent)) => {
+                self.grown = grown(self.grown, sent.item());
+                self.node.take_sent(rt, sent, effects);
                 true
             }
             None => false,
@@ -159,7 +193,7 @@ impl<J: NodeNaming> NodeState<J> {
     }
 
     /// Returns how many items of a lane of this inbox were taken. The lane learns it, too.
-    pub fn meet(&mut self, lane: &mut Lane<Item, J>) -> u64
+    pub fn meet(&mut self, lane: &mut Lane<SentItem<H>, J>) -> u64
         requires { lane.old.inbox ≡ self.old.receiver.inbox }
         ensures exact { result ≡ length (items_of_lane lane.old.lane self.old.receiver.taken) }
 
@@ -180,16 +214,26 @@ impl<J: NodeNaming> NodeState<J> {
     }
 
     /// Appends the bytes queued for a port and not yet handed over, and returns whether more may
-    /// come, as [`NodeCore::outgoing`]. No item is taken. If memory runs out, nothing changes;
+    /// come, as [`NodeOnRecord::outgoing`]. No item is taken. If memory runs out, nothing changes;
     /// without bytes to hand over it never does.
-    pub fn outgoing(&mut self, port: Port, out: &mut Vec<u8>) -> Result<Handed, Memory>
+    pub fn outgoing<R: Wait>(
+        &mut self,
+        rt: &R,
+        port: Port,
+        out: &mut Vec<u8>,
+    ) -> Result<Handed, Memory>
         ensures bytes { OnOk result
             (out.new.items ≡ out.old.items ++ pending_bytes (listed_at port self.old.node.core)) }
         ensures answer { IfOk result (λ handed.
             handed ≡ handed_after (listed_at port self.old.node.core)) }
         ensures left { OnOk result (self.new ≡ record self.old {
           node = record self.old.node { core = hands_over port self.old.node.core };
+          log = self.new.log;
         }) }
+
+        // That is the next event of the node in the run.
+        ensures hands { OnOk result (HandedOver (on_record self.old) port (on_record self.new)) }
+
         ensures nothing { pending_bytes (listed_at port self.old.node.core) ≡ [] → IsOk result }
 
         // The node is still the fold of `step` over all items taken.
@@ -200,7 +244,7 @@ impl<J: NodeNaming> NodeState<J> {
         ensures same { OnErr result (self.new ≡ self.old) }
         ensures err { OnErr result (out.new.items ≡ out.old.items) }
     {
-        self.core.outgoing(port, out)
+        self.node.outgoing(rt, port, out)
     }
 
     /// Appends the ports of the connections that are open and have nothing to hand over, as
@@ -210,21 +254,21 @@ impl<J: NodeNaming> NodeState<J> {
             (ports.new.items ≡ ports.old.items ++ idle_ports self.now.node.core) }
         ensures err { OnErr result (IsPrefixOf ports.old.items ports.new.items) }
     {
-        self.core.idle_ports(ports)
+        self.node.core().idle_ports(ports)
     }
 
     /// Returns the state of a port's connection, as [`NodeCore::standing`].
     pub fn standing(&self, port: Port) -> Standing
         ensures { result ≡ standing_of (listed_at port self.now.node.core) }
     {
-        self.core.standing(port)
+        self.node.core().standing(port)
     }
 
     /// Returns the status of the node's replica.
     pub fn status(&self) -> Status
         ensures { result ≡ status_of self.now.node.core.replica.state }
     {
-        self.core.status()
+        self.node.core().status()
     }
 
     /// Returns true if the size of the log makes a cut due: there are commands to drop, and what
@@ -232,9 +276,10 @@ impl<J: NodeNaming> NodeState<J> {
     pub fn wants_cut(&self) -> bool
         ensures { result ≡ wants_cut self.now.receiver.taken self.now.node.core }
     {
-        let (base, snapshot) = self.core.snapshot();
-        let commands = self.core.status().committed - base;
-        self.core.can_cut() && is_large(self.grown, commands, snapshot)
+        let core = self.node.core();
+        let (base, snapshot) = core.snapshot();
+        let commands = core.status().committed - base;
+        core.can_cut() && is_large(self.grown, commands, snapshot)
     }
 
     /// Returns how many steps lost something, because memory ran out or a snapshot could not be
@@ -242,49 +287,91 @@ impl<J: NodeNaming> NodeState<J> {
     pub fn losses(&self) -> u64
         ensures { result ≡ self.now.node.losses }
     {
-        self.core.losses()
+        self.node.core().losses()
     }
 
-    /// Ends the node, once its lanes send no more, and reports the fate of everything that they
-    /// sent. Allocates nothing: `report` has its capacity. `gate_missed` is the count of takings
-    /// for which the gate did not open.
+    /// Ends the node, once its lanes send no more. Reports the fate of everything that they sent,
+    /// and returns the node as the run has it on record. Allocates nothing: `report` and
+    /// `envelopes` have their capacity. `gate_missed` is the count of takings for which the gate did
+    /// not open.
     pub fn close<R: Wait>(
         self,
         rt: &R,
-        lanes: &mut [Lane<Item, J>],
+        lanes: &mut [Lane<SentItem<H>, J>],
         report: Report,
+        envelopes: Vec<(u8, SentItem<H>)>,
         gate_missed: u64,
-    ) -> Report
+    ) -> (Report, NodeOnRecord<H>)
         requires lanes { AreAllLanes self.receiver lanes.old }
         requires capacity { HasCapacity self.receiver.lanes report }
+        requires empty { envelopes.items ≡ [] }
+        requires envelopes { max_items ≤ vec_capacity envelopes }
 
         // Lane by lane, what was taken followed by what is left over is all that was sent, in
         // order.
-        ensures whole { All (ArrivesWhole result.taken.items result.left.items) lanes.new }
+        ensures whole { All (ArrivesWhole result.0.taken.items result.0.left.items) lanes.new }
         ensures lanes { map unmet lanes.new ≡ map unmet lanes.old }
 
         // The same for the items that the node replayed.
-        ensures all { All (ReportsAll self.receiver.taken result.left.items) lanes.new }
+        ensures all { All (ReportsAll self.receiver.taken result.0.left.items) lanes.new }
 
         // The count of each lane is that of the replay.
-        ensures counted { EachIndex result.taken.items (λ lane.
-            slice_index result.taken.items lane ≡ length (items_of_lane lane self.receiver.taken)) }
-        ensures each { length result.taken.items ≡ self.receiver.lanes }
+        ensures counted { EachIndex result.0.taken.items (λ lane.
+            slice_index result.0.taken.items lane
+            ≡ length (items_of_lane lane self.receiver.taken)) }
+        ensures each { length result.0.taken.items ≡ self.receiver.lanes }
+        ensures below { AreOfLanes self.receiver }
         ensures replays { Replays (J.first_of self.receiver.inbox) self.receiver.taken self.node }
 
-        ensures base { result.base ≡ self.node.core.replica.state.log.base }
-        ensures gate { result.gate_missed ≡ gate_missed }
+        ensures base { result.0.base ≡ self.node.core.replica.state.log.base }
+        ensures gate { result.0.gate_missed ≡ gate_missed }
+
+        // The node is as it was, and by its log it took just the items that it replayed.
+        ensures ended { result.1 ≡ on_record self }
+        ensures named { result.1.index + 1 ≡ self.receiver.inbox }
+        ensures items { items_taken self.receiver.inbox self.log ≡ items_of self.receiver.taken }
     {
         let NodeState {
             mut receiver,
-            core,
+            node,
             grown: _grown,
             takings: _takings,
         } = self;
         let mut report = report;
-        report.base = core.snapshot().0;
+        let mut envelopes = envelopes;
+        report.base = node.core().snapshot().0;
         report.gate_missed = gate_missed;
-        receiver.take_rest(rt, lanes, report.taken.as_mut_slice(), &mut report.left);
-        report
+        receiver.take_rest(rt, lanes, report.taken.as_mut_slice(), &mut envelopes);
+        open_all(rt, envelopes, &mut report.left);
+        (report, node)
+    }
+}
+
+// Moves the items that were left over into a list that has capacity for them.
+fn open_all<H: RunNaming, R: Wait>(
+    rt: &R,
+    envelopes: Vec<(u8, SentItem<H>)>,
+    left: &mut Vec<(u8, Item)>,
+)
+    requires { left.old.items ≡ [] }
+    ensures { left.new.items ≡ envelopes.items }
+{
+    for (lane, sent) in envelopes {
+        let (_number, item, _seen) = sent.into_parts();
+        keep(rt, left, lane, item);
+    }
+}
+
+// Appends an item to a list that has capacity for it; waits for ever if it has not, which does not
+// occur, since it has capacity for all that an inbox holds.
+fn keep<R: Wait>(rt: &R, left: &mut Vec<(u8, Item)>, lane: u8, item: Item)
+    ensures { left.new.items ≡ left.old.items ++ (lane, item) ∷ [] }
+{
+    match left.push((lane, item)) {
+        Ok(()) => {}
+        Err(_) => {
+            for _ in rt.forever() {}
+            unreachable!()
+        }
     }
 }

@@ -5,6 +5,7 @@ ghost use Rattle.node.specs.LockedNode.{IsNext};
 
 use crate::naming::NodeNaming;
 use crate::node_state::NodeState;
+use run_history::RunNaming;
 use std::marker::Model;
 use std::sync::MutexGuard;
 
@@ -82,7 +83,7 @@ impl<'n> Permit<'n> {
 
     /// Returns true if `state`'s next taking is the one that the gate was asked about, or if there
     /// is no gate.
-    pub fn is_for<J: NodeNaming>(&self, state: &NodeState<J>) -> bool
+    pub fn is_for<H: RunNaming, J: NodeNaming>(&self, state: &NodeState<H, J>) -> bool
         ensures { IsTrue result ↔ IsNext self.now state.now }
     {
         match self.taking {

@@ -6,6 +6,8 @@ mod engines;
 #[cfg(test)]
 mod memory;
 #[cfg(test)]
+mod opened_run;
+#[cfg(test)]
 mod posts;
 #[cfg(test)]
 mod tests;

@@ -4,6 +4,6 @@ mod echoing;
 mod gates;
 mod inboxes;
 mod nodes;
-mod starts;
+pub(crate) mod starts;
 mod taken;
 mod two_nodes;

@@ -1,11 +1,10 @@
 -- QueuesJoin.antt: what is queued at first and then is what is queued.
-use Rattle.std.proofs.Common.{◌≡◌, ℕ, List, [], ◌∷◌, ◌++◌, refl, ap, sym, subst}
+use Rattle.std.proofs.Common.{◌≡◌, List, [], ◌∷◌, ◌++◌, refl, ap, sym, subst}
 use Rattle.std.proofs.lemmas.List.{append-nil, append_assoc}
 use Rattle.broker_spec.specs.declared.command.Command.{Command}
 use Rattle.broker_spec.specs.declared.command.Output.{Output}
 use Rattle.ballot_base.specs.declared.message.Effect.{Effect}
 use Rattle.ballot_base.specs.declared.message.Effect.TheVariants.{To, Out}
-use Rattle.ballot_base.specs.declared.message.Message.{Message}
 use Rattle.post.specs.outbox.Given.{Addressed}
 use Rattle.post.specs.GivenMessages.{QueuesAll, messages_of}
 use Rattle.post.specs.GivenMessages.QueuesAll.{none, one_more}
@@ -18,7 +17,7 @@ messages_join (To receiver message ∷ first) next =
     ap (λ (messages : List Addressed). record { receiver = receiver; message = message } ∷ messages) (messages_join first next)
 messages_join (Out place output ∷ first) next = messages_join first next
 
-pub queues_join : {X : Type 0} (queues : X → ℕ → Message Command → X → Type 0) (before between after : X)
+pub queues_join : {X : Type 0} (queues : X → Addressed → X → Type 0) (before between after : X)
     (first next : List Addressed)
     → QueuesAll queues before first between → QueuesAll queues between next after
     → QueuesAll queues before (first ++ next) after
@@ -29,7 +28,7 @@ queues_join queues before between _ first _ queued (one_more {messages = message
     (one_more addressed after (queues_join queues before between _ first messages queued rest) last)
 
 -- the messages of one effect more were queued
-pub queues_more : {X : Type 0} (queues : X → ℕ → Message Command → X → Type 0) (before between after : X)
+pub queues_more : {X : Type 0} (queues : X → Addressed → X → Type 0) (before between after : X)
     (effects : List (Effect Command Output)) (effect : Effect Command Output)
     → QueuesAll queues before (messages_of effects) between
     → QueuesAll queues between (messages_of (effect ∷ [])) after

@@ -1,4 +1,3 @@
 pub mod CountsStand
-pub mod MasterIsReachable
-pub mod MayBeGiven
+pub mod Refusing
 pub mod OutboxKept

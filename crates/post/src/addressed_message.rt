@@ -2,59 +2,50 @@
 
 ghost use Rattle.std.specs.Prelude.{◌≡◌, ◌++◌, ◌∷◌, [], false, true};
 ghost use Rattle.lists.specs.Lists.{has_id};
-ghost use Rattle.ballot_base.specs.declared.message.Effect.TheVariants.{To};
 ghost use Rattle.world_base.specs.declared.node_core.item.Item.TheVariants.{Peer};
 ghost use Rattle.post.specs.outbox.Given.{IsMasterNumber};
-ghost use Rattle.post.specs.outbox.Queued.{WasGiven};
 ghost use Rattle.post.specs.outbox.MasterAnswers.{answer_to, master_after_outcome, message_if};
 ghost use Rattle.post.specs.outbox.Replacement.{still_waiting};
 
 use crate::cluster::Cluster;
 use crate::outbox::{Answer, MessagingMaster, Outbox};
-use ballot_base::Message;
-use broker_spec::Command;
+use run_history::{RunNaming, SentMessage};
 use std::marker::Model;
-use world_base::node_core::Item;
+use std::sync::Wait;
 
-/// A message that was produced by a node's step, with the number of its receiver; 0 is the master.
+/// A message that a node's step sent in the run, with the number of its receiver; 0 is the master.
 /// It cannot be dropped: it ends in its receiver's outbox or at the master, or is lost if no node
 /// has the number.
-pub struct AddressedMessage {
-    receiver: u8,
-    message: Message<Command>,
+pub struct AddressedMessage<H: RunNaming> {
+    sent: SentMessage<H>,
 }
 
-impl Model for AddressedMessage {
-    ghost use Rattle.ballot_base.specs.declared.message.Effect.TheVariants.{To};
-    ghost use Rattle.post.specs.outbox.Given.{Addressed, WasGiven};
+impl<H: RunNaming> Model for AddressedMessage<H> {
+    ghost use Rattle.post.specs.outbox.Given.{Addressed};
 
     ghost Value = { Addressed };
 
-    ghost view = { λ addressed.
-        record { receiver = addressed.receiver; message = addressed.message } };
-
-    ghost invariant = { λ addressed. WasGiven (To addressed.receiver addressed.message) };
+    ghost view = { λ addressed. addressed.sent };
 }
 
-impl AddressedMessage {
-    /// Returns a message that was produced by a node's step, with its receiver.
-    pub(crate) fn new(receiver: u8, message: Message<Command>) -> AddressedMessage
-        requires { WasGiven (To receiver message) }
-        ensures { result ≡ record { receiver = receiver; message = message } }
+impl<H: RunNaming> AddressedMessage<H> {
+    /// Returns a message that was sent, with its receiver.
+    pub(crate) fn new(sent: SentMessage<H>) -> AddressedMessage<H>
+        ensures { result ≡ sent }
     {
-        AddressedMessage { receiver, message }
+        AddressedMessage { sent }
     }
 
     /// Returns the number of its receiver.
     pub(crate) fn receiver(&self) -> u8
         ensures { result ≡ self.now.receiver }
     {
-        self.receiver
+        self.sent.receiver()
     }
 
     /// Queues the message in its receiver's outbox, as [`Outbox::queue`]. Returns false if there
     /// was no room or memory: then it is lost.
-    pub(crate) fn queue_in(self, outbox: &mut Outbox) -> bool
+    pub(crate) fn queue_in(self, outbox: &mut Outbox<H>) -> bool
         requires { self.receiver ≡ outbox.old.number }
         ensures queued { result ≡ true → outbox.new ≡ record outbox.old {
           items = still_waiting (Peer self.message) outbox.old.items ++ Peer self.message ∷ [];
@@ -63,15 +54,12 @@ impl AddressedMessage {
           items = still_waiting (Peer self.message) outbox.old.items;
         } }
     {
-        let AddressedMessage {
-            receiver: _receiver,
-            message,
-        } = self;
-        outbox.queue(Item::Peer(message))
+        let AddressedMessage { sent } = self;
+        outbox.queue(sent)
     }
 
     /// Passes the message to the master, and returns its answer, as [`MessagingMaster::answer`].
-    pub(crate) fn ask(self, master: &mut MessagingMaster) -> Option<Answer>
+    pub(crate) fn ask<R: Wait>(self, rt: &R, master: &mut MessagingMaster<H>) -> Option<Answer<H>>
         requires { IsMasterNumber self.receiver }
         ensures answer { result
             ≡ message_if (answer_to master.old self.message.from self.message.body) }
@@ -79,34 +67,25 @@ impl AddressedMessage {
             ≡ master_after_outcome master.old
             (answer_to master.old self.message.from self.message.body) }
     {
-        let AddressedMessage {
-            receiver: _receiver,
-            message,
-        } = self;
-        master.answer(message)
+        let AddressedMessage { sent } = self;
+        master.answer(rt, sent)
     }
 
     /// Drops the message: it is not for the master, and `cluster` has no node of its receiver's
     /// number.
-    pub(crate) fn lose(self, cluster: &Cluster)
+    pub(crate) fn lose(self, cluster: &Cluster<H>)
         requires master { IsMasterNumber self.receiver → ⊥ }
         requires none { has_id self.receiver cluster.now ≡ false }
     {
         let _ = cluster;
-        let AddressedMessage {
-            receiver: _receiver,
-            message: _message,
-        } = self;
+        let AddressedMessage { sent: _sent } = self;
     }
 
     /// Drops the message: `outbox` is not its receiver's.
-    pub(crate) fn lose_at(self, outbox: &Outbox)
+    pub(crate) fn lose_at(self, outbox: &Outbox<H>)
         requires { outbox.now.number ≡ self.receiver → ⊥ }
     {
         let _ = outbox;
-        let AddressedMessage {
-            receiver: _receiver,
-            message: _message,
-        } = self;
+        let AddressedMessage { sent: _sent } = self;
     }
 }

@@ -9,7 +9,7 @@
 // is lost, as the protocol allows; orders fail with an error instead. The master has no thread: it
 // only answers, and whoever asks takes its lock.
 
-ghost use Rattle.std.specs.Prelude.{◌≡◌, ◌&&◌, IfOk, IfSome, IsErrOf, IsOk, None, Ok, OnOk, OnSome, false, is_some, length, nat_lt, true};
+ghost use Rattle.std.specs.Prelude.{◌≡◌, ◌≤◌, ◌&&◌, IfOk, IfSome, IsErrOf, None, Ok, OnOk, OnSome, false, is_some, length, nat_lt, true};
 ghost use Rattle.ballot_base.specs.LawfulConfig.{is_lawful, max_node};
 ghost use Rattle.lists.specs.Lists.{has_id};
 ghost use Rattle.post.specs.outbox.Given.{IsMasterNumber};
@@ -21,12 +21,12 @@ use crate::given_effects::{GivenEffects, Receivers, queue_all};
 use crate::outbox::{Answer, MessagingMaster, OrderError};
 use crate::peer::Peer;
 use crate::recipients::{Shown, primary_of};
-use ballot_base::errors::OpeningError;
 use ballot_base::{Config, MASTER, Status};
 use machine::Memory;
-use master::{AssignError, config_of};
+use master::AssignError;
 use node::{NodeNaming, NodeState};
 use packet_base::ClientId;
+use run_history::{MasterOnRecord, RunNaming, SeenRun};
 use std::alloc::Global;
 use std::marker::Model;
 use std::sync::{Mutex, Wait};
@@ -49,15 +49,15 @@ const STOP_LOOKS: u32 = 40;
 /// their configurations. Outboxes and master are under locks, so no clause of a call says what is
 /// queued, or what changes.
 #[derive(Drop)]
-pub struct Cluster {
+pub struct Cluster<H: RunNaming> {
     // In the order in which their numbers were given.
-    nodes: Vec<Peer>,
+    nodes: Vec<Peer<H>>,
     // Answers orders and nodes, one at a time.
-    master: Mutex<MessagingMaster>,
+    master: Mutex<MessagingMaster<H>>,
     alloc: Global,
 }
 
-impl Model for Cluster {
+impl<H: RunNaming> Model for Cluster<H> {
     ghost use Rattle.std.specs.Prelude.{ℕ, List};
     ghost use Rattle.post.specs.Numbers.{peer_numbers};
 
@@ -66,25 +66,31 @@ impl Model for Cluster {
     ghost view = { λ cluster. peer_numbers cluster.nodes.items };
 }
 
-impl Cluster {
-    /// Returns the nodes of these numbers, and a master whose ballot 1 has this configuration. The
-    /// errors are `BadMembers`, if no ballot may have it, and that memory ran out.
-    pub fn new(alloc: Global, numbers: &[u8], config: &Config) -> Result<Cluster, OpeningError>
-        ensures ok { IfOk result (λ cluster. cluster ≡ numbers.now) }
-        ensures lawful { IsOk result →
-            is_lawful max_node config.now.members config.now.primary ≡ true }
-        ensures bad { IsErrOf result OpeningError.BadMembers →
-            is_lawful max_node config.now.members config.now.primary ≡ false }
+impl<H: RunNaming> Cluster<H> {
+    /// Returns the nodes of these numbers, and the master of their run, which has given the first
+    /// ballot. `opening` is the run's log as it opened. The only error is that memory ran out.
+    pub fn new(
+        alloc: Global,
+        numbers: &[u8],
+        master: MasterOnRecord<H>,
+        opening: &SeenRun<H>,
+    ) -> Result<Cluster<H>, Memory>
+        requires given { 1 ≤ master.state.given }
+        requires numbers { master.state.greatest ≡ max_node }
+        ensures { IfOk result (λ cluster. cluster ≡ numbers.now) }
     {
-        let nodes = peers_of(alloc, numbers)?;
-        let Ok(master) = MessagingMaster::new(config_of(alloc, config)?) else {
-            return Err(OpeningError::BadMembers);
-        };
+        let nodes = peers_of(alloc, numbers, opening)?;
         Ok(Cluster {
             nodes,
-            master: Mutex::new(master),
+            master: Mutex::new(MessagingMaster::new(master)),
             alloc,
         })
+    }
+
+    /// Returns the master as the run has it on record, once nobody asks it any more.
+    pub fn into_master(self) -> MasterOnRecord<H> {
+        let Cluster { master, .. } = self;
+        master.into_inner().into_record()
     }
 
     /// Assigns the next ballot to a configuration, and queues the order for its primary. Returns
@@ -202,7 +208,7 @@ impl Cluster {
     }
 
     /// Returns the node of this number.
-    pub fn node(&self, number: u8) -> Option<&Peer>
+    pub fn node(&self, number: u8) -> Option<&Peer<H>>
         ensures some { IfSome result (λ node. node.now.number ≡ number) }
         ensures is { is_some result ≡ is_node self.now number }
         ensures none { result ≡ None → has_id number self.now ≡ false }
@@ -218,8 +224,8 @@ impl Cluster {
     pub fn queue_given<J: NodeNaming, R: Wait>(
         &self,
         rt: &R,
-        giver: &NodeState<J>,
-        given: GivenEffects,
+        giver: &NodeState<H, J>,
+        given: GivenEffects<H>,
     ) {
         // Evidence alone: nothing of it is read.
         let _ = giver;
@@ -234,7 +240,7 @@ impl Cluster {
     }
 
     // Queues a node's message for another node.
-    fn queue<R: Wait>(&self, rt: &R, addressed: AddressedMessage)
+    fn queue<R: Wait>(&self, rt: &R, addressed: AddressedMessage<H>)
         requires { IsMasterNumber addressed.receiver → ⊥ }
     {
         match self.node(addressed.receiver()) {
@@ -244,7 +250,7 @@ impl Cluster {
     }
 
     // Passes a node's message to the master, and queues the answer.
-    fn ask_master<R: Wait>(&self, rt: &R, addressed: AddressedMessage)
+    fn ask_master<R: Wait>(&self, rt: &R, addressed: AddressedMessage<H>)
         requires { IsMasterNumber addressed.receiver }
     {
         match self.answer(rt, addressed) {
@@ -254,15 +260,15 @@ impl Cluster {
     }
 
     // Returns the master's answer to a node's message.
-    fn answer<R: Wait>(&self, rt: &R, addressed: AddressedMessage) -> Option<Answer>
+    fn answer<R: Wait>(&self, rt: &R, addressed: AddressedMessage<H>) -> Option<Answer<H>>
         requires { IsMasterNumber addressed.receiver }
     {
         let mut master = self.master.lock(rt);
-        addressed.ask(&mut master)
+        addressed.ask(rt, &mut master)
     }
 
     // Queues an answer of the master for its receiver, and wakes that.
-    fn queue_answer<R: Wait>(&self, rt: &R, answer: Answer) {
+    fn queue_answer<R: Wait>(&self, rt: &R, answer: Answer<H>) {
         match self.node(answer.receiver()) {
             Some(node) => node.queue_answer(rt, answer),
             None => self.lose(answer),
@@ -270,16 +276,16 @@ impl Cluster {
     }
 
     // Drops an answer of the master: no node has its receiver's number.
-    fn lose(&self, answer: Answer)
+    fn lose(&self, answer: Answer<H>)
         requires { has_id answer.receiver self.now ≡ false }
     {
-        let _lost = answer.into_message();
+        let _lost = answer.into_sent();
     }
 }
 
 // Waits until a node has crashed or the deadline has passed. Each look sleeps a millisecond, and on
 // a busy machine longer, so mostly the deadline ends it, not the number of looks.
-fn await_stop<R: Wait + Clock>(rt: &R, node: &Peer) {
+fn await_stop<H: RunNaming, R: Wait + Clock>(rt: &R, node: &Peer<H>) {
     let Ok(start) = Instant::now(rt) else {
         return;
     };
@@ -291,7 +297,7 @@ fn await_stop<R: Wait + Clock>(rt: &R, node: &Peer) {
     }
 }
 
-fn has_stopped<R: Wait>(rt: &R, node: &Peer) -> bool {
+fn has_stopped<H: RunNaming, R: Wait>(rt: &R, node: &Peer<H>) -> bool {
     matches!(node.status(rt), Some(status) if status.stopped)
 }
 
@@ -304,27 +310,33 @@ fn had_its_time<R: Clock>(rt: &R, start: Instant) -> bool {
     }
 }
 
-fn peers_of(alloc: Global, numbers: &[u8]) -> Result<Vec<Peer>, Memory>
+fn peers_of<H: RunNaming>(
+    alloc: Global,
+    numbers: &[u8],
+    opening: &SeenRun<H>,
+) -> Result<Vec<Peer<H>>, Memory>
     ensures { IfOk result (λ nodes. peer_numbers nodes.items ≡ numbers.now) }
 {
     let mut nodes = Vec::with_capacity(alloc, numbers.len())?;
     for number in numbers {
-        nodes.push(Peer::new(alloc, *number))?;
+        nodes.push(Peer::new(alloc, *number, opening.again()))?;
     }
     Ok(nodes)
 }
 
 // The nodes and the master, as receivers of messages.
 #[derive(Drop)]
-struct NodesAndMaster<'a> {
-    cluster: &'a Cluster,
+struct NodesAndMaster<'a, H: RunNaming> {
+    cluster: &'a Cluster<H>,
 }
 
-impl<'a> Receivers for NodesAndMaster<'a> {
+impl<'a, H: RunNaming> Receivers<AddressedMessage<H>> for NodesAndMaster<'a, H> {
     // It queues under the locks of outboxes, of which no clause speaks.
-    ghost queues = { λ _ _ _ _. Unit {0} };
+    ghost queues = { λ _ _ _. Unit {0} };
 
-    fn queue<R: Wait>(&mut self, rt: &R, addressed: AddressedMessage) {
+    fn queue<R: Wait>(&mut self, rt: &R, addressed: AddressedMessage<H>)
+        ensures { Unit {0} }
+    {
         let cluster = self.cluster;
         if addressed.receiver() == MASTER {
             cluster.ask_master(rt, addressed);

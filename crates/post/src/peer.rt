@@ -12,7 +12,7 @@ ghost use Rattle.std.specs.Prelude.{◌≡◌, ◌≤◌, IfOk, IfSome, IsErrOf,
 ghost use Rattle.ballot_base.specs.LawfulConfig.{is_lawful, max_node};
 ghost use Rattle.lists.specs.Lists.{Each};
 ghost use Rattle.post.specs.outbox.MasterAnswers.{MayGet};
-ghost use Rattle.post.specs.outbox.Queued.{IsPosted, IsQueued};
+ghost use Rattle.post.specs.outbox.Queued.{IsOrder, IsQueued};
 
 use crate::addressed_message::AddressedMessage;
 use crate::outbox::{Answer, MessagingMaster, OrderError, Outbox, Waker, is_urgent};
@@ -22,6 +22,7 @@ use master::AssignError;
 use node::Intake;
 use node_base::devices::PIECE_BYTES;
 use packet_base::ClientId;
+use run_history::{RunNaming, SeenRun, SentItem};
 use std::alloc::Global;
 use std::marker::Model;
 use std::sync::{Mutex, Wait};
@@ -55,12 +56,12 @@ impl Model for AdmittedBytes {
 /// comes; another thread may take it, too, if it holds the node's lane. All but the number is under
 /// locks, so no clause of a call says what waits, or what was shown.
 #[derive(Drop)]
-pub struct Peer {
+pub struct Peer<H: RunNaming> {
     /// The node's number.
     pub number: u8,
     // What others have for the node. It is this node's, but is under a lock, so no clause says that
     // (see `Outbox`): whoever locks it compares the numbers, which are always equal.
-    outbox: Mutex<Outbox>,
+    outbox: Mutex<Outbox<H>>,
     // Its intake budget, and its status after its last change.
     intake: Mutex<Intake>,
     // True once the order to crash was queued for it.
@@ -68,28 +69,37 @@ pub struct Peer {
     waker: Waker,
 }
 
-impl Peer {
+impl<H: RunNaming> Model for Peer<H> {
+    ghost use Rattle.post.specs.Numbers.{PeerView};
+
+    ghost Value = { PeerView };
+
+    ghost view = { λ peer. record { number = peer.number } };
+}
+
+impl<H: RunNaming> Peer<H> {
     /// Returns the node of this number, for which nothing waits, and which is not served yet.
-    pub(crate) fn new(alloc: Global, number: u8) -> Peer
-        ensures { result.number ≡ number }
+    /// `opening` is the run's log as it opened.
+    pub(crate) fn new(alloc: Global, number: u8, opening: SeenRun<H>) -> Peer<H>
+        ensures { result ≡ record { number = number } }
     {
         Peer {
             number,
-            outbox: Mutex::new(Outbox::new(alloc, number)),
+            outbox: Mutex::new(Outbox::new(alloc, number, opening)),
             intake: Mutex::new(Intake::new()),
             is_crash_ordered: Mutex::new(false),
             waker: Waker::new(),
         }
     }
 
-    /// Queues an item for the node, and wakes it if the item is urgent. Returns false if the item
-    /// is lost: memory ran out, there was no room, or the outbox were another node's (see
-    /// `Outbox`).
-    pub(crate) fn queue<R: Wait>(&self, rt: &R, item: Item) -> bool
-        requires { IsPosted self.now.number item }
+    /// Queues an order of the program for the node, and wakes it if the order is urgent. Returns
+    /// false if it is lost: memory ran out, there was no room, or the outbox were another node's
+    /// (see `Outbox`).
+    pub(crate) fn queue_order<R: Wait>(&self, rt: &R, order: Item) -> bool
+        requires { IsOrder order }
     {
-        let urgent = is_urgent(&item);
-        let is_queued = self.push(rt, item);
+        let urgent = is_urgent(&order);
+        let is_queued = self.push_order(rt, order);
         if urgent {
             self.waker.wake(rt);
         }
@@ -99,7 +109,7 @@ impl Peer {
     /// Queues a message of another node, and wakes nobody: its giver does that, or has it taken,
     /// once it has released its own node's lock. Without room or memory the message is lost, as the
     /// protocol allows.
-    pub(crate) fn queue_addressed<R: Wait>(&self, rt: &R, addressed: AddressedMessage)
+    pub(crate) fn queue_addressed<R: Wait>(&self, rt: &R, addressed: AddressedMessage<H>)
         requires { addressed.receiver ≡ self.now.number }
     {
         let mut outbox = self.outbox.lock(rt);
@@ -118,7 +128,7 @@ impl Peer {
         if *is_ordered {
             return Ok(false);
         }
-        if !self.queue(rt, Item::Crash) {
+        if !self.queue_order(rt, Item::Crash) {
             return Err(Memory);
         }
         *is_ordered = true;
@@ -127,7 +137,7 @@ impl Peer {
 
     /// Queues the order to end a client's session. Fails if memory runs out: then it is not queued.
     pub(crate) fn queue_expel<R: Wait>(&self, rt: &R, client: &ClientId) -> Result<(), Memory> {
-        if self.queue(rt, Item::Expel(client.clone()?)) {
+        if self.queue_order(rt, Item::Expel(client.clone()?)) {
             Ok(())
         } else {
             Err(Memory)
@@ -140,7 +150,7 @@ impl Peer {
         &self,
         rt: &R,
         alloc: Global,
-        master: &Mutex<MessagingMaster>,
+        master: &Mutex<MessagingMaster<H>>,
         config: Config,
     ) -> Result<u64, OrderError>
         requires { config.primary ≡ self.now.number }
@@ -160,7 +170,7 @@ impl Peer {
         &self,
         rt: &R,
         alloc: Global,
-        master: &Mutex<MessagingMaster>,
+        master: &Mutex<MessagingMaster<H>>,
         config: Config,
     ) -> Result<u64, OrderError>
         requires { config.primary ≡ self.now.number }
@@ -176,11 +186,11 @@ impl Peer {
         if outbox.number() != self.number {
             return Err(OrderError::Memory);
         }
-        outbox.assign(alloc, &mut master, config)
+        outbox.assign(rt, alloc, &mut master, config)
     }
 
     /// Queues an answer of the master, and wakes the node. Without memory the answer is lost.
-    pub(crate) fn queue_answer<R: Wait>(&self, rt: &R, answer: Answer)
+    pub(crate) fn queue_answer<R: Wait>(&self, rt: &R, answer: Answer<H>)
         requires { answer.receiver ≡ self.now.number }
     {
         self.push_answer(rt, answer);
@@ -188,7 +198,7 @@ impl Peer {
     }
 
     // Puts an answer of the master into the node's outbox.
-    fn push_answer<R: Wait>(&self, rt: &R, answer: Answer)
+    fn push_answer<R: Wait>(&self, rt: &R, answer: Answer<H>)
         requires { answer.receiver ≡ self.now.number }
     {
         let mut outbox = self.outbox.lock(rt);
@@ -200,19 +210,19 @@ impl Peer {
         }
     }
 
-    // Puts an item into the node's outbox. Returns false if it is lost.
-    fn push<R: Wait>(&self, rt: &R, item: Item) -> bool
-        requires { IsPosted self.now.number item }
+    // Puts an order into the node's outbox. Returns false if it is lost.
+    fn push_order<R: Wait>(&self, rt: &R, order: Item) -> bool
+        requires { IsOrder order }
     {
         let mut outbox = self.outbox.lock(rt);
         // The numbers are always equal: the outbox is this node's (see `Peer::outbox`).
-        outbox.number() == self.number && outbox.queue(item)
+        outbox.number() == self.number && outbox.queue_order(order)
     }
 
     /// Takes all that waits, in order. The clause says only that each item is one that may wait
-    /// here.
-    pub fn take_waiting<R: Wait>(&self, rt: &R, alloc: Global) -> Vec<Item>
-        ensures { Each (IsQueued self.now.number) result.items }
+    /// for this node.
+    pub fn take_waiting<R: Wait>(&self, rt: &R, alloc: Global) -> Vec<SentItem<H>>
+        ensures { Each (IsQueued H.nodes H.config self.now.number) result.items }
     {
         let mut outbox = self.outbox.lock(rt);
         // The numbers are always equal: the outbox is this node's (see `Peer::outbox`).

@@ -1,4 +1,6 @@
 pub mod node_threads
+pub mod Ended
+pub mod Ends
 pub mod Inside
 pub mod Opening
 pub mod Refusals

@@ -2,16 +2,20 @@
 //! threads while a function of the caller runs, and closes them.
 #![tactic(auto)]
 
+mod attendant;
+mod ending;
 pub mod node_threads;
 mod opening;
 mod outcome;
 mod rows;
 mod serve_error;
+mod served_run;
 mod service;
 mod shutdown;
 mod thread_starts;
 
 pub use crate::node_threads::{NodeReport, THREADS};
+pub use attendant::Attendant;
 pub use ballot_base::errors::{OpeningError, ProposeError};
 pub use ballot_base::{Config, MAX_NODE, Members, Status};
 pub use machine::Memory;
@@ -21,5 +25,6 @@ pub use post::Cluster;
 pub use post::outbox::OrderError;
 pub use rows::numbers_of_a_server;
 pub use serve_error::ServeError;
+pub use served_run::ServedRun;
 pub use service::{serve_gated, serve_while};
 pub use streams::{Listener, MAX_CONNECTIONS};

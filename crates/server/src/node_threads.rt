@@ -21,5 +21,5 @@ mod turns;
 pub use lane_slots::THREADS;
 pub use node_context::NodeContexts;
 pub use opened_node::OpenedNode;
-pub use served_node::{NodeReport, ServedNode, start_all};
+pub use served_node::{EndedNode, NodeReport, ServedNode, start_all};
 pub use theorems::ports_differ;

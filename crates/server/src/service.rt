@@ -1,29 +1,41 @@
-// Serving nodes while a function of the caller runs.
+// Serving nodes while an attendant runs.
 //
 // All that the threads borrow lives in one call, so no thread outlives it. Configuration, threads,
 // clock and the nodes' memory are tried before a client is served. Each node has a thread that runs
 // its own threads; they return once its listener is closed, and nothing else ends them. The order
-// of the end is fixed: `attend` returns, all listeners are closed, all threads have returned, and
-// only then are the nodes closed and their reports gathered. The step from `serve_all` to
-// `serve_named` chooses what the nodes' numbers name, once all inboxes exist; `serve_states` is the
-// one place where it is proved that threads may share a node's state.
+// of the end is fixed: the attendant returns, all listeners are closed, all threads have returned,
+// then the nodes are closed and their reports gathered, and at last the run is settled. Two names
+// are chosen: the step from `serve_all` to `serve_run` chooses the run, once it has opened, and the
+// step from `serve_opened` to `serve_named` what the nodes' numbers name, once all inboxes exist.
+// `serve_states` is the one place where it is proved that threads may share a node's state.
 
-ghost use Rattle.std.specs.Prelude.{◌≡◌, ◌≤◌, [], IfOk, length, map, vec_capacity};
-ghost use Rattle.std.specs.Fn.{FnOnceReturnsAt};
+ghost use Rattle.std.specs.Prelude.{◌≡◌, ◌≤◌, [], All, IfOk, IsPermutation, length, map, vec_capacity};
+ghost use Rattle.std.specs.List.Sorted.{IsNonDecreasingBy};
+ghost use mathlib.Core.List.{IsPrefix};
+ghost use Rattle.agreement.specs.MasterState.{opening_master};
+ghost use Rattle.ballot_base.specs.LawfulConfig.{max_node};
 ghost use Rattle.node.specs.State.{EachOpensAs};
-ghost use Rattle.server.specs.node_threads.Named.{AreNamed};
+ghost use Rattle.run_history.specs.Log.{opening_log};
+ghost use Rattle.server.specs.Ends.{HasAttended, IsServedRun};
+ghost use Rattle.server.specs.Inside.{IsIdle, numbers_of};
+ghost use Rattle.server.specs.node_threads.Named.{AreFresh, AreNamed};
 
-use crate::node_threads::{NodeContexts, NodeReport, OpenedNode, ServedNode, THREADS, start_all};
-use crate::opening::open_all;
+use crate::attendant::Attendant;
+use crate::ending::{EndedNodes, settle};
+use crate::node_threads::{EndedNode, NodeContexts, OpenedNode, ServedNode, THREADS, start_all};
+use crate::opening::{OpenedNodes, open_all};
 use crate::outcome::Outcome;
 use crate::serve_error::ServeError;
-use crate::shutdown::{close_all, end_all};
+use crate::served_run::ServedRun;
+use crate::shutdown::{Closing, end_all};
 use crate::thread_starts::can_start;
-use ballot_base::Config;
 use ballot_base::errors::OpeningError;
+use ballot_base::{Config, MAX_NODE};
+use master::Master;
 use node::{HasState, NodeNaming, NodeState};
 use node_base::devices::{Gate, NoGate};
 use post::Cluster;
+use run_history::{MasterOnRecord, NodeMaker, OpenedRun, RunNaming, SeenRun};
 use std::alloc::Global;
 use std::marker::Brand;
 use std::net::{Net, TcpStream};
@@ -33,81 +45,115 @@ use std::thread::Threads;
 use std::time::{Clock, Instant};
 use streams::{Closed, Listener};
 
-/// Serves the clients of several nodes, each at its listener, while `attend` runs with these nodes.
-/// Then ends all connections, and returns what `attend` returned. The nodes open in ballot 1 of
-/// this configuration.
+/// Serves the clients of several nodes, each at its listener, while the attendant runs with these
+/// nodes. Then ends all connections, and returns what the attendant returned, and what was served.
+/// The nodes open in ballot 1 of this configuration.
 ///
 /// The errors are [`ServeError::Clock`] and those of the opening, where `BadMembers` comes also if
 /// two listeners have one number. [`ServeError::Threads`] comes before anything is served if fewer
 /// threads can be started than the nodes need. It also comes at the end, in place of the answer, if
-/// a node's own thread could not be started later: then that node was not served. The clause is of
-/// `attend` alone: with which nodes it ran, and what it returned.
-pub fn serve_while<R, T, F>(
+/// a node's own thread could not be started later: then that node was not served.
+pub fn serve_while<R, A>(
     rt: &R,
     alloc: Global,
     listeners: &[Listener],
     config: &Config,
-    attend: F,
-) -> Result<T, ServeError>
+    attendant: A,
+) -> Result<(A::Answer, ServedRun), ServeError>
 where
     R: Threads + Wait + Clock + Sync + Net<Stream = TcpStream>,
-    T: Drop,
-    F: FnOnce(&Cluster) -> T,
-    requires { F.IsAlwaysCallable attend }
+    A: Attendant,
+    // It ran with the nodes of all these listeners, and with no others; what it saw of the log is a
+    // prefix of the run's.
+    ensures attended { IfOk result (λ served. HasAttended A.attends attendant
+        (map (λ listener. listener.number) listeners.now) served.1.log served.0) }
 
-    // It ran with the nodes of all these listeners, and with no others.
-    ensures { IfOk result (λ answer. FnOnceReturnsAt F.FnOnce attend
-        (map (λ listener. listener.number) listeners.now) answer) }
+    // What these nodes did is one run of the model, and each has a report of it.
+    ensures run { IfOk result (λ served. IsServedRun config.now
+        (map (λ listener. listener.number) listeners.now) served.1) }
 {
-    let (answer, _reports) = serve_all(rt, alloc, listeners, config, None::<&NoGate>, attend)?;
-    Ok(answer)
+    serve_all(rt, alloc, listeners, config, None::<&NoGate>, attendant)
 }
 
 /// Serves as [`serve_while`] does, but each node asks a gate before it takes an item. At the end it
 /// reports what it took and what it left. The reports are in the order of the nodes' numbers. If
 /// the gate has not opened after it was asked ten thousand times, a millisecond apart, the node
-/// continues, and its report counts it. No clause says anything of gate and reports.
+/// continues, and its report counts it. No clause says anything of the gate.
 ///
 /// The errors are those of [`serve_while`].
-pub fn serve_gated<R, G, T, F>(
+pub fn serve_gated<R, G, A>(
     rt: &R,
     alloc: Global,
     listeners: &[Listener],
     config: &Config,
     gate: &G,
-    attend: F,
-) -> Result<(T, Vec<NodeReport>), ServeError>
+    attendant: A,
+) -> Result<(A::Answer, ServedRun), ServeError>
 where
     R: Threads + Wait + Clock + Sync + Net<Stream = TcpStream>,
     G: Gate + Sync,
-    T: Drop,
-    F: FnOnce(&Cluster) -> T,
-    requires { F.IsAlwaysCallable attend }
-    ensures { IfOk result (λ served. FnOnceReturnsAt F.FnOnce attend
-        (map (λ listener. listener.number) listeners.now) served.0) }
+    A: Attendant,
+    ensures attended { IfOk result (λ served. HasAttended A.attends attendant
+        (map (λ listener. listener.number) listeners.now) served.1.log served.0) }
+    ensures run { IfOk result (λ served. IsServedRun config.now
+        (map (λ listener. listener.number) listeners.now) served.1) }
 {
-    serve_all(rt, alloc, listeners, config, Some(gate), attend)
+    serve_all(rt, alloc, listeners, config, Some(gate), attendant)
 }
 
-// Serves the nodes of these listeners while `attend` runs, with a gate or without one.
-fn serve_all<R, G, T, F>(
+// Serves the nodes of these listeners while the attendant runs, with a gate or without one.
+fn serve_all<R, G, A>(
     rt: &R,
     alloc: Global,
     listeners: &[Listener],
     config: &Config,
     gate: Option<&G>,
-    attend: F,
-) -> Result<(T, Vec<NodeReport>), ServeError>
+    attendant: A,
+) -> Result<(A::Answer, ServedRun), ServeError>
 where
     R: Threads + Wait + Clock + Sync + Net<Stream = TcpStream>,
     G: Gate + Sync,
-    T: Drop,
-    F: FnOnce(&Cluster) -> T,
-    requires { F.IsAlwaysCallable attend }
-    ensures { IfOk result (λ served. FnOnceReturnsAt F.FnOnce attend
-        (map (λ listener. listener.number) listeners.now) served.0) }
+    A: Attendant,
+    ensures attended { IfOk result (λ served. HasAttended A.attends attendant
+        (map (λ listener. listener.number) listeners.now) served.1.log served.0) }
+    ensures run { IfOk result (λ served. IsServedRun config.now
+        (map (λ listener. listener.number) listeners.now) served.1) }
 {
-    let cluster = open_cluster(alloc, listeners, config)?;
+    let (opened, master) = OpenedRun::open(alloc, MAX_NODE, config)?;
+    serve_run::<Brand, R, G, A>(
+        rt, alloc, listeners, config, opened, master, gate, attendant,
+    )
+}
+
+// Serves the nodes of these listeners in a run that has a name, and then settles the run.
+fn serve_run<H, R, G, A>(
+    rt: &R,
+    alloc: Global,
+    listeners: &[Listener],
+    config: &Config,
+    opened: OpenedRun,
+    master: Master,
+    gate: Option<&G>,
+    attendant: A,
+) -> Result<(A::Answer, ServedRun), ServeError>
+where
+    H: RunNaming + Send + Sync,
+    R: Threads + Wait + Clock + Sync + Net<Stream = TcpStream>,
+    G: Gate + Sync,
+    A: Attendant,
+    requires book { opened.book ≡ H.book }
+    requires nodes { opened.group.nodes ≡ H.nodes }
+    requires config { opened.group.config ≡ H.config }
+    requires all { H.nodes ≡ MAX_NODE }
+    requires same { config.now ≡ H.config }
+    requires master { master ≡ opening_master max_node H.config }
+    ensures attended { IfOk result (λ served. HasAttended A.attends attendant
+        (map (λ listener. listener.number) listeners.now) served.1.log served.0) }
+    ensures run { IfOk result (λ served. IsServedRun config.now
+        (map (λ listener. listener.number) listeners.now) served.1) }
+{
+    let (master, maker, log) = opened.named::<H>(master);
+    let cluster = open_cluster(alloc, listeners, master, &log)?;
     if !can_start(rt, listeners.len().saturating_mul(THREADS)) {
         return Err(ServeError::Threads);
     }
@@ -119,16 +165,22 @@ where
         listeners,
         start,
     };
-    let opened = open_all(alloc, contexts, config)?;
-    serve_named::<Brand, R, G, T, F>(rt, alloc, contexts, config, opened, gate, attend)
+    let (answer, seen, ended) = serve_opened::<H, R, G, A>(
+        rt, alloc, &contexts, config, maker, log, gate, attendant,
+    )?;
+    let run = settle(rt, &seen, &cluster.into_master(), ended)?;
+    Ok((answer, run))
 }
 
-// Returns the nodes of these listeners, and their master.
-fn open_cluster(
+// Returns the nodes of these listeners, with the master of their run.
+fn open_cluster<H: RunNaming>(
     alloc: Global,
     listeners: &[Listener],
-    config: &Config,
-) -> Result<Cluster, OpeningError>
+    master: MasterOnRecord<H>,
+    log: &SeenRun<H>,
+) -> Result<Cluster<H>, OpeningError>
+    requires given { 1 ≤ master.state.given }
+    requires numbers { master.state.greatest ≡ max_node }
     ensures { IfOk result (λ cluster.
         cluster ≡ map (λ listener. listener.number) listeners.now) }
 {
@@ -136,51 +188,104 @@ fn open_cluster(
         .iter()
         .map(|listener| listener.number)
         .collect(alloc)?;
-    Cluster::new(alloc, numbers.as_slice(), config)
+    Ok(Cluster::new(alloc, numbers.as_slice(), master, log)?)
+}
+
+// Opens the nodes of a run, and serves those that have listeners. Returns what the attendant
+// returned and what it saw of the run's log, and the nodes as they ended.
+fn serve_opened<H, R, G, A>(
+    rt: &R,
+    alloc: Global,
+    contexts: &NodeContexts<'_, H>,
+    config: &Config,
+    maker: NodeMaker<H>,
+    log: SeenRun<H>,
+    gate: Option<&G>,
+    attendant: A,
+) -> Result<(A::Answer, SeenRun<H>, EndedNodes<H>), ServeError>
+where
+    H: RunNaming + Send + Sync,
+    R: Threads + Wait + Clock + Sync + Net<Stream = TcpStream>,
+    G: Gate + Sync,
+    A: Attendant,
+    requires nodes { H.nodes ≡ MAX_NODE }
+    requires config { config.now ≡ H.config }
+    requires maker { maker ≡ 0 }
+    requires log { log ≡ opening_log H.nodes H.config }
+    ensures attended { IfOk result (λ served.
+        A.attends attendant contexts.now.cluster.now served.1 served.0) }
+    ensures served { IfOk result (λ served. IsPermutation
+        (map (λ listener. listener.number) contexts.now.listeners.now)
+        (numbers_of served.2.served.items)) }
+    ensures rising { IfOk result (λ served.
+        IsNonDecreasingBy (λ one. one.report.number) served.2.served.items) }
+    ensures idle { IfOk result (λ served. All IsIdle served.2.others.items) }
+    ensures empty { IfOk result (λ served. served.2.reports.items ≡ []) }
+{
+    let OpenedNodes { served, others } = open_all(alloc, contexts, config, maker, &log)?;
+    let Ok(reports) = Vec::with_capacity(alloc, served.len()) else {
+        return Err(ServeError::Memory);
+    };
+    let (answer, seen, served) = serve_named::<H, Brand, R, G, A>(
+        rt, alloc, contexts, config, served, log, gate, attendant,
+    )?;
+    let ended = EndedNodes {
+        served,
+        others,
+        reports,
+    };
+    Ok((answer, seen, ended))
 }
 
 // Serves nodes whose numbers name their inboxes and first states, for all threads.
-fn serve_named<J, R, G, T, F>(
+fn serve_named<H, J, R, G, A>(
     rt: &R,
     alloc: Global,
-    contexts: NodeContexts<'_>,
+    contexts: &NodeContexts<'_, H>,
     config: &Config,
-    opened: Vec<OpenedNode>,
+    opened: Vec<OpenedNode<H>>,
+    log: SeenRun<H>,
     gate: Option<&G>,
-    attend: F,
-) -> Result<(T, Vec<NodeReport>), ServeError>
+    attendant: A,
+) -> Result<(A::Answer, SeenRun<H>, Vec<EndedNode<H>>), ServeError>
 where
+    H: RunNaming + Send + Sync,
     J: NodeNaming + Send + Sync,
     R: Threads + Wait + Clock + Sync + Net<Stream = TcpStream>,
     G: Gate + Sync,
-    T: Drop,
-    F: FnOnce(&Cluster) -> T,
-    requires callable { F.IsAlwaysCallable attend }
+    A: Attendant,
     requires named { AreNamed J.inbox_of J.first_of opened.items }
+    requires fresh { AreFresh opened.items }
     requires opens { EachOpensAs config.now J.first_of }
-    ensures { IfOk result (λ served.
-        FnOnceReturnsAt F.FnOnce attend contexts.entry.cluster.now served.0) }
+    ensures attended { IfOk result (λ served.
+        A.attends attendant contexts.now.cluster.now served.1 served.0) }
+    ensures served { IfOk result (λ served. IsPermutation
+        (map (λ one. one.number) opened.items) (numbers_of served.2.items)) }
+    ensures rising { IfOk result (λ served.
+        IsNonDecreasingBy (λ one. one.report.number) served.2.items) }
 {
-    let nodes = start_all::<J, R, G>(rt, alloc, contexts, config, opened, gate)?;
+    let nodes = start_all::<H, J, R, G>(rt, alloc, contexts, config, opened, &log, gate)?;
     let Ok(mut outcome) = Outcome::new(alloc, nodes.len()) else {
         return Err(ServeError::Memory);
     };
     let Ok(closings) = Vec::with_capacity(alloc, nodes.len()) else {
         return Err(ServeError::Memory);
     };
-    let served = serve_states(rt, contexts.cluster, nodes.as_slice(), closings, attend);
-    if !served.all_started {
-        outcome.fail(ServeError::Threads);
-    }
+    let cluster = contexts.cluster;
+    let served = serve_states(rt, cluster, nodes.as_slice(), log, closings, attendant);
+    outcome.expect_started(served.all_started);
     end_all(rt, nodes, served.closings, &mut outcome);
-    Ok((served.answer, outcome.into_reports()?))
+    let ended = outcome.into_ended()?;
+    Ok((served.answer, served.seen, ended))
 }
 
 // How a run of nodes ended.
 #[derive(Drop)]
-struct Served<T: Drop> {
-    // What `attend` returned.
+struct Served<H: RunNaming, T: Drop> {
+    // What the attendant returned.
     answer: T,
+    // What the attendant saw of the run's log.
+    seen: SeenRun<H>,
     // Whether each node's own thread could be started.
     all_started: bool,
     // The witnesses that the nodes' listeners were closed, in the order of the nodes.
@@ -189,73 +294,108 @@ struct Served<T: Drop> {
 
 // Calls `serve_by` with the type that a node's lock holds. That threads may share it is proved only
 // here.
-fn serve_states<J, R, G, T, F>(
+fn serve_states<H, J, R, G, A>(
     rt: &R,
-    cluster: &Cluster,
-    nodes: &[ServedNode<'_, J, NodeState<J>, G>],
+    cluster: &Cluster<H>,
+    nodes: &[ServedNode<'_, H, J, NodeState<H, J>, G>],
+    log: SeenRun<H>,
     closings_with_capacity: Vec<Closed>,
-    attend: F,
-) -> Served<T>
+    attendant: A,
+) -> Served<H, A::Answer>
 where
+    H: RunNaming + Send + Sync,
     J: NodeNaming + Send + Sync,
     R: Threads + Wait + Clock + Sync + Net<Stream = TcpStream>,
     G: Gate + Sync,
-    T: Drop,
-    F: FnOnce(&Cluster) -> T,
-    requires callable { F.IsAlwaysCallable attend }
+    A: Attendant,
     requires empty { closings_with_capacity.items ≡ [] }
     requires capacity { length nodes.now ≤ vec_capacity closings_with_capacity }
-    ensures attended { FnOnceReturnsAt F.FnOnce attend cluster.now result.answer }
+    ensures attended { A.attends attendant cluster.now result.seen result.answer }
     ensures closed { result.closings.items ≡ map (λ node. node.number) nodes.now }
 {
-    serve_by::<J, NodeState<J>, R, G, T, F>(rt, cluster, nodes, closings_with_capacity, attend)
+    serve_by::<H, J, NodeState<H, J>, R, G, A>(
+        rt,
+        cluster,
+        nodes,
+        log,
+        closings_with_capacity,
+        attendant,
+    )
 }
 
-// Runs the threads of these nodes while `attend` runs, and then closes their listeners. The list
-// has capacity for the witnesses.
-fn serve_by<J, S, R, G, T, F>(
+// Runs the threads of these nodes while the attendant runs, and then closes their listeners. The
+// list has capacity for the witnesses.
+fn serve_by<H, J, S, R, G, A>(
     rt: &R,
-    cluster: &Cluster,
-    nodes: &[ServedNode<'_, J, S, G>],
+    cluster: &Cluster<H>,
+    nodes: &[ServedNode<'_, H, J, S, G>],
+    log: SeenRun<H>,
     closings_with_capacity: Vec<Closed>,
-    attend: F,
-) -> Served<T>
+    attendant: A,
+) -> Served<H, A::Answer>
 where
+    H: RunNaming + Send + Sync,
     J: NodeNaming + Send + Sync,
-    S: HasState<J> + Send,
+    S: HasState<H, J> + Send,
     R: Threads + Wait + Clock + Sync + Net<Stream = TcpStream>,
     G: Gate + Sync,
-    T: Drop,
-    F: FnOnce(&Cluster) -> T,
-    requires callable { F.IsAlwaysCallable attend }
+    A: Attendant,
     requires empty { closings_with_capacity.items ≡ [] }
     requires capacity { length nodes.now ≤ vec_capacity closings_with_capacity }
-    ensures attended { FnOnceReturnsAt F.FnOnce attend cluster.now result.answer }
+    ensures attended { A.attends attendant cluster.now result.seen result.answer }
     ensures closed { result.closings.items ≡ map (λ node. node.number) nodes.now }
 {
+    let closing = Closing {
+        nodes,
+        closings: closings_with_capacity,
+    };
+    let attending = Attending {
+        attendant,
+        seen: log,
+    };
     thread::scope(
         thread::scope_env(),
         rt,
         move |scope|
-            requires callable { F.IsAlwaysCallable attend }
-            requires empty { closings_with_capacity.items ≡ [] }
-            requires capacity { length nodes.now ≤ vec_capacity closings_with_capacity }
-            ensures attended { FnOnceReturnsAt F.FnOnce attend cluster.entry.now result.answer }
-            ensures closed { result.closings.items ≡ map (λ node. node.number) nodes.entry.now }
+            ensures attended { A.attends attending.attendant cluster.entry.now result.seen result.answer }
+            ensures closed { result.closings.items ≡ map (λ node. node.number) closing.entry.nodes.now }
         {
+            let nodes = closing.nodes;
             let mut all_started = true;
             for node in nodes {
                 if scope.spawn(move || node.work(rt, nodes)).is_err() {
                     all_started = false;
                 }
             }
-            let answer = attend(cluster);
-            let closings = close_all(rt, nodes, closings_with_capacity);
+            let (answer, seen) = attending.attend(cluster);
+            let closings = closing.close_all(rt);
             Served {
                 answer,
+                seen,
                 all_started,
                 closings,
             }
         },
     )
+}
+
+// An attendant, and the log of the run as it opened.
+#[derive(Drop)]
+struct Attending<H: RunNaming, A: Attendant> {
+    attendant: A,
+    seen: SeenRun<H>,
+}
+
+impl<H: RunNaming, A: Attendant> Attending<H, A> {
+    // Runs the attendant. Returns what it returned, and what it saw of the log.
+    fn attend(self, cluster: &Cluster<H>) -> (A::Answer, SeenRun<H>)
+        ensures { A.attends self.attendant cluster.now result.1 result.0 }
+    {
+        let Attending {
+            attendant,
+            mut seen,
+        } = self;
+        let answer = attendant.attend(cluster, &mut seen);
+        (answer, seen)
+    }
 }

@@ -11,15 +11,11 @@ mod hearing;
 mod ports;
 mod visiting;
 
-pub use came::{Came, Excerpt, StreamState};
-pub use client::{
-    Pair, SUBSCRIBE, SUBSCRIBED, connect, deliver, exchange, join, open, ping, publish,
-};
+pub use came::Came;
+pub use client::{Pair, join, open, publish};
 pub use fault::{Fault, named, unless};
-pub use floods::{Flood, Large, large_publish, publish_times};
+pub use floods::{Flood, large_publish, publish_times};
 pub use heard::Heard;
-pub use hearing::{
-    hear, hear_end, hear_end_within, hear_nothing, hear_nothing_for, limit_writes, send, send_times,
-};
+pub use hearing::{hear, hear_end, hear_nothing, limit_writes, send, send_times};
 pub use ports::{listen_all, opening};
 pub use visiting::visit;

@@ -1,15 +1,14 @@
 -- CountsAll.antt: a tap counts all that was handed over by it.
-use Rattle.std.proofs.Common.{◌≡◌, ℕ, ◌+◌, Option, List, [], ◌++◌, length, refl, sym, ◌∙◌, ap, subst, inl, inr, arith, length-append}
+use Rattle.std.proofs.Common.{◌≡◌, ℕ, List, ◌++◌, length, refl, sym, ◌∙◌, ap, subst, inl, inr, arith, length-append}
 use Rattle.std.proofs.lemmas.List.{append-nil}
 use Rattle.world_base.specs.declared.node_connections.handed.Handed.{Handed}
 use Rattle.node.specs.Growth.{saturated}
 use Rattle.node_base.specs.declared.connection.flow.Flow.{Flow}
 use Rattle.node_base.specs.declared.connection.flow.Flow.TheVariants as flows
-use Rattle.node_base.specs.connection.Life.{Lives}
 use Rattle.node_base.specs.connection.Life.Lives.{begins, goes_on}
 use Rattle.node_base.specs.connection.Written.{HandsAny, HandsSo}
 use Rattle.streams.specs.Theorems.{TapsCountAll}
-use Rattle.streams.specs.Taps.{HandsNone, HandsOut}
+use Rattle.streams.specs.Taps.{HandsOut}
 use Rattle.streams.specs.declared.port_tap.PortTap.{PortTap}
 
 -- a tap counts these bytes, and its port is that of another

@@ -1,8 +1,7 @@
 -- HandedByTap.antt: what a node gave for a tap's port is handed over by the tap, which counts it.
 use Rattle.std.proofs.Common.{◌≡◌, List, ◌++◌, length, refl, ◌∙◌, ap, inl, inr, arith, length-append}
-use Rattle.std.specs.Prelude.{ℕ, ◌+◌, ◌-◌, ◌^◌, ◌⊎◌, min, Result, Ok, Err, OnOk, OnErr}
+use Rattle.std.specs.Prelude.{ℕ, ◌+◌, ◌-◌, ◌≤◌, ◌^◌, ◌⊎◌, min, Result, Ok, Err, OnOk, OnErr}
 use Rattle.world_base.specs.declared.node_connections.handed.Handed.{Handed}
-use Rattle.world_base.specs.declared.node_connections.port.Port.{Port}
 use Rattle.world_base.specs.node_core.Core.{CountedCore}
 use Rattle.node.specs.Growth.{saturated}
 use Rattle.world_base.specs.node_connections.PendingOutput.{handed_after, pending_bytes}
@@ -37,6 +36,13 @@ handed_by_tap first_of before after seen answer old new was is count began repla
       };
       is = bytes;
     }
+
+-- what was appended to does not get shorter
+pub not_shorter : {X : Type 0} (old new more : List X) (was is : ℕ)
+    → new ≡ old ++ more → was ≡ length old → is ≡ length new → was ≤ is
+not_shorter old new more was is bytes first last =
+    let size : length new ≡ length old + length more = ap length bytes ∙ length-append old more in
+    omega (arith, size, first, last)
 
 -- a state that is taken on if a call succeeded is kept or taken on
 pub stays_or_goes : {S E : Type 0} (old next new : S) (result : Result Handed E)

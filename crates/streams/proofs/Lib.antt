@@ -1,6 +1,7 @@
 mod BusyAdded
 mod CountsAll
 mod HandedByTap
+mod HandedInRun
 pub mod KeepsItsPort
 mod LanesAdded
 mod PortsTell

@@ -9,6 +9,8 @@ ghost use Rattle.streams.specs.Taps.{NodesBegan, HandsOut};
 use machine::Memory;
 use node::{NodeNaming, NodeState};
 use node_base::connection::Tap;
+use run_history::RunNaming;
+use std::sync::Wait;
 use world_base::node_connections::{Handed, Port};
 
 /// The right to take what a node queued for one port. A connection has one, made with it, which
@@ -46,9 +48,10 @@ impl PortTap {
 
     /// Appends the bytes that a node queued for the port and has not yet handed over, and counts
     /// them. Returns whether more may come, as [`NodeState::outgoing`].
-    pub fn hand_over<J: NodeNaming>(
+    pub fn hand_over<H: RunNaming, J: NodeNaming, R: Wait>(
         &mut self,
-        node: &mut NodeState<J>,
+        rt: &R,
+        node: &mut NodeState<H, J>,
         out: &mut Vec<u8>,
     ) -> Result<Handed, Memory>
         requires began { NodesBegan J.first_of }
@@ -61,6 +64,7 @@ impl PortTap {
             ≡ out.old.items ++ pending_bytes (listed_at self.old.port node.old.node.core)) }
         ensures left { OnOk result (node.new ≡ record node.old {
           node = record node.old.node { core = hands_over self.old.port node.old.node.core };
+          log = node.new.log;
         }) }
 
         // Running out of memory changes nothing.
@@ -69,7 +73,7 @@ impl PortTap {
         ensures err { OnErr result (out.new.items ≡ out.old.items) }
     {
         let before = out.len();
-        let handed = node.outgoing(self.port, out)?;
+        let handed = node.outgoing(rt, self.port, out)?;
         self.handed = self.handed.saturating_add((out.len() - before) as u64);
         Ok(handed)
     }

@@ -1,12 +1,15 @@
 // Nodes that are held at a gate, each in a thread of its own.
 
-ghost use Rattle.std.specs.Prelude.{◌≡◌};
+ghost use Rattle.std.specs.Prelude.{◌≡◌, []};
+ghost use Rattle.run_history.specs.Log.{items_taken};
 
 use super::nodes::send;
 use super::starts::{Start, fresh_two};
+use crate::opened_run::{Opened, open_two};
 use mailbox::Lane;
 use node::{HasState, Node, NodeNaming, NodeState, Report};
 use node_base::devices::Gate;
+use run_history::{RunNaming, SeenRun, SentItem};
 use std::alloc::Global;
 use std::marker::Brand;
 use std::sync::{Mutex, Wait};
@@ -112,10 +115,11 @@ impl Gate for Meeting {
 }
 
 // Returns true if a node takes an item, as its gate lets it.
-fn take_one<J, S, R>(rt: &R, alloc: Global, node: &Node<'_, J, S, Meeting>) -> bool
+fn take_one<H, J, S, R>(rt: &R, alloc: Global, node: &Node<'_, H, J, S, Meeting>) -> bool
 where
+    H: RunNaming,
     J: NodeNaming,
-    S: HasState<J>,
+    S: HasState<H, J>,
     R: Wait + Clock,
 {
     let permit = node.begin_taking(rt);
@@ -131,26 +135,33 @@ where
 }
 
 // Returns true if a node takes this many items, one after another.
-fn take_all<J, S, R>(rt: &R, alloc: Global, node: &Node<'_, J, S, Meeting>, count: u64) -> bool
+fn take_all<H, J, S, R>(
+    rt: &R,
+    alloc: Global,
+    node: &Node<'_, H, J, S, Meeting>,
+    count: u64,
+) -> bool
 where
+    H: RunNaming,
     J: NodeNaming,
-    S: HasState<J>,
+    S: HasState<H, J>,
     R: Wait + Clock,
 {
     (0..count).all(|_| take_one(rt, alloc, node))
 }
 
 // Returns true if both nodes take this many items, each in a thread of its own.
-fn take_both<J, S, R>(
+fn take_both<H, J, S, R>(
     rt: &R,
     alloc: Global,
-    first: &Node<'_, J, S, Meeting>,
-    second: &Node<'_, J, S, Meeting>,
+    first: &Node<'_, H, J, S, Meeting>,
+    second: &Node<'_, H, J, S, Meeting>,
     count: u64,
 ) -> bool
 where
+    H: RunNaming + Send + Sync,
     J: NodeNaming + Send + Sync,
-    S: HasState<J> + Send,
+    S: HasState<H, J> + Send,
     R: Threads + Wait + Clock + Sync,
 {
     let (one, other) = thread::join(
@@ -162,25 +173,30 @@ where
 }
 
 // Returns true if two nodes take so at once, at the type that a node's state has.
-fn take_both_states<J, R>(
+fn take_both_states<H, J, R>(
     rt: &R,
     alloc: Global,
-    first: &Node<'_, J, NodeState<J>, Meeting>,
-    second: &Node<'_, J, NodeState<J>, Meeting>,
+    first: &Node<'_, H, J, NodeState<H, J>, Meeting>,
+    second: &Node<'_, H, J, NodeState<H, J>, Meeting>,
     count: u64,
 ) -> bool
 where
+    H: RunNaming + Send + Sync,
     J: NodeNaming + Send + Sync,
     R: Threads + Wait + Clock + Sync,
 {
-    take_both::<J, NodeState<J>, R>(rt, alloc, first, second, count)
+    take_both::<H, J, NodeState<H, J>, R>(rt, alloc, first, second, count)
 }
 
 // Returns true if three ticks are sent by the only lane of a node.
-fn send_three<J: NodeNaming, R: Wait>(rt: &R, lanes: &mut [Lane<Item, J>]) -> bool {
-    send(rt, lanes, 0, Item::Tick(1))
-        && send(rt, lanes, 0, Item::Tick(2))
-        && send(rt, lanes, 0, Item::Tick(3))
+fn send_three<H: RunNaming, J: NodeNaming, R: Wait>(
+    rt: &R,
+    seen: &SeenRun<H>,
+    lanes: &mut [Lane<SentItem<H>, J>],
+) -> bool {
+    send(rt, seen, lanes, 0, Item::Tick(1))
+        && send(rt, seen, lanes, 0, Item::Tick(2))
+        && send(rt, seen, lanes, 0, Item::Tick(3))
 }
 
 // Returns true if a report says that this many of three ticks were taken and the others are left
@@ -195,15 +211,15 @@ fn has_taken_and_missed(report: &Report, taken: u64, missed: u64) -> bool {
 }
 
 // Returns true if a node reports so at its end.
-fn close<J: NodeNaming, R: Wait>(
+fn close<H: RunNaming, J: NodeNaming, R: Wait>(
     rt: &R,
-    node: Node<'_, J, NodeState<J>, Meeting>,
-    lanes: &mut [Lane<Item, J>],
+    node: Node<'_, H, J, NodeState<H, J>, Meeting>,
+    lanes: &mut [Lane<SentItem<H>, J>],
     taken: u64,
     missed: u64,
 ) -> bool {
     if node.has_all(lanes) {
-        let report = node.close(rt, lanes);
+        let (report, _node) = node.close(rt, lanes);
         let is_told = has_taken_and_missed(&report, taken, missed);
         drop(report);
         is_told
@@ -221,32 +237,37 @@ fn unless(is_so: bool, words: &'static str) -> Option<&'static str> {
 // Has two nodes meet at a gate that shuts after this many takings, continue, and report so. Each is
 // sent three ticks and takes two. Returns the first step that fails. What is long to drop is lent
 // or passed on by each function here, or goes by a call of `drop`, which is proved once.
-fn meet<J, R>(
+fn meet<H, J, R>(
     rt: &R,
     alloc: Global,
-    first: Start,
-    second: Start,
+    first: Start<H>,
+    second: Start<H>,
     gate: &Meeting,
 ) -> Option<&'static str>
 where
+    H: RunNaming + Send + Sync,
     J: NodeNaming + Send + Sync,
     R: Threads + Wait + Clock + Sync,
     requires inbox { first.inbox ≡ J.inbox_of 1 }
-    requires core { first.core ≡ J.first_of 1 }
+    requires core { first.node.node ≡ J.first_of 1 }
+    requires index { first.node.index ≡ 0 }
+    requires none { items_taken 1 first.node.log ≡ [] }
     requires other_inbox { second.inbox ≡ J.inbox_of 2 }
-    requires other_core { second.core ≡ J.first_of 2 }
+    requires other_core { second.node.node ≡ J.first_of 2 }
+    requires other_index { second.node.index ≡ 1 }
+    requires other_none { items_taken 2 second.node.log ≡ [] }
 {
     match first.inbox.named::<J>(1, 1) {
         Ok((receiver, mut lanes)) => meet_of(
             rt,
             alloc,
-            NodeState::new(receiver, first.core),
+            NodeState::new(receiver, first.node),
             lanes.as_mut_slice(),
             second,
             gate,
         ),
         Err(_) => {
-            drop(first.core);
+            drop(first.node);
             drop(second);
             Some("node 1 has a lane")
         }
@@ -254,19 +275,22 @@ where
 }
 
 // Does the same once node 1 has its lane.
-fn meet_of<J, R>(
+fn meet_of<H, J, R>(
     rt: &R,
     alloc: Global,
-    state: NodeState<J>,
-    lanes: &mut [Lane<Item, J>],
-    second: Start,
+    state: NodeState<H, J>,
+    lanes: &mut [Lane<SentItem<H>, J>],
+    second: Start<H>,
     gate: &Meeting,
 ) -> Option<&'static str>
 where
+    H: RunNaming + Send + Sync,
     J: NodeNaming + Send + Sync,
     R: Threads + Wait + Clock + Sync,
     requires inbox { second.inbox ≡ J.inbox_of 2 }
-    requires core { second.core ≡ J.first_of 2 }
+    requires core { second.node.node ≡ J.first_of 2 }
+    requires index { second.node.index ≡ 1 }
+    requires none { items_taken 2 second.node.log ≡ [] }
 {
     match Node::start(alloc, state, Some(gate)) {
         Ok(node) => {
@@ -285,19 +309,22 @@ where
 }
 
 // Returns the first step that fails, up to the report of node 2, while node 1 runs.
-fn meet_with<J, R>(
+fn meet_with<H, J, R>(
     rt: &R,
     alloc: Global,
-    node: &Node<'_, J, NodeState<J>, Meeting>,
-    lanes: &mut [Lane<Item, J>],
-    second: Start,
+    node: &Node<'_, H, J, NodeState<H, J>, Meeting>,
+    lanes: &mut [Lane<SentItem<H>, J>],
+    second: Start<H>,
     gate: &Meeting,
 ) -> Option<&'static str>
 where
+    H: RunNaming + Send + Sync,
     J: NodeNaming + Send + Sync,
     R: Threads + Wait + Clock + Sync,
     requires inbox { second.inbox ≡ J.inbox_of 2 }
-    requires core { second.core ≡ J.first_of 2 }
+    requires core { second.node.node ≡ J.first_of 2 }
+    requires index { second.node.index ≡ 1 }
+    requires none { items_taken 2 second.node.log ≡ [] }
 {
     match second.inbox.named::<J>(2, 1) {
         Ok((receiver, mut other_lanes)) => meet_both(
@@ -305,34 +332,37 @@ where
             alloc,
             node,
             lanes,
-            NodeState::new(receiver, second.core),
+            NodeState::new(receiver, second.node),
             other_lanes.as_mut_slice(),
+            &second.log,
             gate,
         ),
         Err(_) => {
-            drop(second.core);
+            drop(second.node);
             Some("node 2 has a lane")
         }
     }
 }
 
 // Does the same once node 2 has its lane.
-fn meet_both<J, R>(
+fn meet_both<H, J, R>(
     rt: &R,
     alloc: Global,
-    node: &Node<'_, J, NodeState<J>, Meeting>,
-    lanes: &mut [Lane<Item, J>],
-    state: NodeState<J>,
-    other_lanes: &mut [Lane<Item, J>],
+    node: &Node<'_, H, J, NodeState<H, J>, Meeting>,
+    lanes: &mut [Lane<SentItem<H>, J>],
+    state: NodeState<H, J>,
+    other_lanes: &mut [Lane<SentItem<H>, J>],
+    seen: &SeenRun<H>,
     gate: &Meeting,
 ) -> Option<&'static str>
 where
+    H: RunNaming + Send + Sync,
     J: NodeNaming + Send + Sync,
     R: Threads + Wait + Clock + Sync,
 {
     match Node::start(alloc, state, Some(gate)) {
         Ok(other) => {
-            let sent = send_three(rt, lanes) && send_three(rt, other_lanes);
+            let sent = send_three(rt, seen, lanes) && send_three(rt, seen, other_lanes);
             let took = take_both_states(rt, alloc, node, &other, 2);
             let closed = close(rt, other, other_lanes, 2, gate.missed());
             unless(sent, "each lane sends three ticks")
@@ -343,13 +373,33 @@ where
     }
 }
 
+// Does the same with both nodes of a group that opened.
+fn meet_of_opened<H, R>(
+    rt: &R,
+    alloc: Global,
+    opened: Opened,
+    gate: &Meeting,
+) -> Option<&'static str>
+where
+    H: RunNaming + Send + Sync,
+    R: Threads + Wait + Clock + Sync,
+    requires book { opened.run.book ≡ H.book }
+    requires nodes { H.nodes ≡ 2 }
+    requires config { opened.config ≡ H.config }
+{
+    match fresh_two::<H>(alloc, opened) {
+        Some((first, second)) => meet::<H, Brand, R>(rt, alloc, first, second, gate),
+        None => Some("there is memory for two nodes"),
+    }
+}
+
 // Were one thread to run both nodes, or a lock round them held while the gate is asked, they would
 // not meet.
 #[test]
 fn nodes_meet_at_their_gate(rt: HostRuntime) -> Result<(), Fail> {
     let gate = Meeting::new(u64::MAX);
-    let (first, second) = fresh_two(rt.alloc())?;
-    let fault = meet::<Brand, HostRuntime>(&rt, rt.alloc(), first, second, &gate);
+    let opened = open_two(rt.alloc(), &[1])?;
+    let fault = meet_of_opened::<Brand, HostRuntime>(&rt, rt.alloc(), opened, &gate);
     assert_eq!(rt; fault, None);
     Ok(())
 }
@@ -359,8 +409,8 @@ fn nodes_meet_at_their_gate(rt: HostRuntime) -> Result<(), Fail> {
 #[test]
 fn a_gate_that_stays_shut_is_passed(rt: HostRuntime) -> Result<(), Fail> {
     let gate = Meeting::new(1);
-    let (first, second) = fresh_two(rt.alloc())?;
-    let fault = meet::<Brand, HostRuntime>(&rt, rt.alloc(), first, second, &gate);
+    let opened = open_two(rt.alloc(), &[1])?;
+    let fault = meet_of_opened::<Brand, HostRuntime>(&rt, rt.alloc(), opened, &gate);
     assert_eq!(rt; fault, None);
     Ok(())
 }

@@ -1,13 +1,16 @@
 // Nodes: what no clause says: items are taken while there is memory, and what is left over is
 // reported.
 
-ghost use Rattle.std.specs.Prelude.{◌≡◌, ◌≤◌};
+ghost use Rattle.std.specs.Prelude.{◌≡◌, ◌≤◌, []};
+ghost use Rattle.run_history.specs.Log.{items_taken};
 
-use super::starts::{Start, fresh};
+use super::starts::{Start, fresh_two};
 use super::taken::{Came, SILENT, Sent, take_one};
+use crate::opened_run::{Opened, open_two};
 use mailbox::Lane;
 use node::{Node, NodeNaming, NodeState, Report};
 use node_base::devices::NoGate;
+use run_history::{RunNaming, SeenRun, SentItem};
 use std::alloc::Global;
 use std::marker::Brand;
 use std::sync::Wait;
@@ -79,16 +82,18 @@ struct Run {
 }
 
 /// Sends an item by a lane, and returns whether it was sent.
-pub(super) fn send<J: NodeNaming, R: Wait>(
+pub(super) fn send<H: RunNaming, J: NodeNaming, R: Wait>(
     rt: &R,
-    lanes: &mut [Lane<Item, J>],
+    seen: &SeenRun<H>,
+    lanes: &mut [Lane<SentItem<H>, J>],
     index: usize,
     item: Item,
 ) -> bool {
     match lanes.get_mut(index) {
         Some(lane) => {
             let receipt = lane.receipt();
-            match lane.send(rt, item, receipt) {
+            let sent = SentItem::from_outside(rt, lane.number(), item, seen.again());
+            match lane.send(rt, sent, receipt) {
                 Ok(()) => true,
                 Err(back) => {
                     drop(back);
@@ -104,24 +109,25 @@ pub(super) fn send<J: NodeNaming, R: Wait>(
 }
 
 // Returns true if a lane sends bytes of the connection.
-fn send_bytes<J: NodeNaming, R: Wait>(
+fn send_bytes<H: RunNaming, J: NodeNaming, R: Wait>(
     rt: &R,
     alloc: Global,
-    lanes: &mut [Lane<Item, J>],
+    seen: &SeenRun<H>,
+    lanes: &mut [Lane<SentItem<H>, J>],
     index: usize,
     bytes: &[u8],
 ) -> bool {
     match Piece::from_slice(alloc, bytes) {
-        Ok(piece) => send(rt, lanes, index, Item::Bytes(PORT, piece, 0)),
+        Ok(piece) => send(rt, seen, lanes, index, Item::Bytes(PORT, piece, 0)),
         Err(_) => false,
     }
 }
 
 /// Returns how many items of a lane were taken, if the numbers say that it is a lane of the node's
 /// inbox.
-pub(super) fn met<J: NodeNaming>(
-    state: &mut NodeState<J>,
-    lanes: &mut [Lane<Item, J>],
+pub(super) fn met<H: RunNaming, J: NodeNaming>(
+    state: &mut NodeState<H, J>,
+    lanes: &mut [Lane<SentItem<H>, J>],
     index: usize,
 ) -> Option<u64> {
     let lane = lanes.get_mut(index)?;
@@ -138,9 +144,13 @@ pub(super) fn sent(is_sent: bool) -> Came {
 }
 
 // Takes the bytes that a node queued for the connection.
-fn hand_over<J: NodeNaming>(alloc: Global, state: &mut NodeState<J>) -> Came {
+fn hand_over<H: RunNaming, J: NodeNaming, R: Wait>(
+    rt: &R,
+    alloc: Global,
+    state: &mut NodeState<H, J>,
+) -> Came {
     let mut out = Vec::new(alloc);
-    let handed = state.outgoing(PORT, &mut out).ok();
+    let handed = state.outgoing(rt, PORT, &mut out).ok();
     let mut front = [0; 4];
     for (to, byte) in front.iter_mut().zip(out.as_slice()) {
         *to = *byte;
@@ -149,31 +159,32 @@ fn hand_over<J: NodeNaming>(alloc: Global, state: &mut NodeState<J>) -> Came {
 }
 
 // Does an act, and returns what came of it.
-fn perform<J: NodeNaming, R: Wait>(
+fn perform<H: RunNaming, J: NodeNaming, R: Wait>(
     rt: &R,
     alloc: Global,
-    state: &mut NodeState<J>,
-    lanes: &mut [Lane<Item, J>],
+    state: &mut NodeState<H, J>,
+    lanes: &mut [Lane<SentItem<H>, J>],
     act: Act<'_>,
 ) -> Came {
+    let seen = &state.seen();
     match act {
-        Act::Open(index) => sent(send(rt, lanes, index, Item::Opened(PORT, 0))),
-        Act::Bytes(index, bytes) => sent(send_bytes(rt, alloc, lanes, index, bytes)),
-        Act::Tick(index, now) => sent(send(rt, lanes, index, Item::Tick(now))),
+        Act::Open(index) => sent(send(rt, seen, lanes, index, Item::Opened(PORT, 0))),
+        Act::Bytes(index, bytes) => sent(send_bytes(rt, alloc, seen, lanes, index, bytes)),
+        Act::Tick(index, now) => sent(send(rt, seen, lanes, index, Item::Tick(now))),
         Act::Take => take_one(rt, alloc, state),
         Act::Meet(index) => Came::Met(met(state, lanes, index)),
         Act::Held => Came::Held(state.status().held),
-        Act::HandOver => hand_over(alloc, state),
+        Act::HandOver => hand_over(rt, alloc, state),
     }
 }
 
 // Returns the first row of whose act comes something else. The node's lock is held until the end,
 // so a lane that waited for it would wait for ever.
-fn first_fault_of_rows<J: NodeNaming, R: Wait>(
+fn first_fault_of_rows<H: RunNaming, J: NodeNaming, R: Wait>(
     rt: &R,
     alloc: Global,
-    node: &Node<'_, J, NodeState<J>, NoGate>,
-    lanes: &mut [Lane<Item, J>],
+    node: &Node<'_, H, J, NodeState<H, J>, NoGate>,
+    lanes: &mut [Lane<SentItem<H>, J>],
     rows: &[Row],
 ) -> Option<Fault> {
     let mut guard = node.lock(rt);
@@ -212,14 +223,14 @@ fn reported(report: &Report) -> Shape {
 }
 
 // Returns what differs of the node's report, once its lanes send no more.
-fn close<J: NodeNaming, R: Wait>(
+fn close<H: RunNaming, J: NodeNaming, R: Wait>(
     rt: &R,
-    node: Node<'_, J, NodeState<J>, NoGate>,
-    lanes: &mut [Lane<Item, J>],
+    node: Node<'_, H, J, NodeState<H, J>, NoGate>,
+    lanes: &mut [Lane<SentItem<H>, J>],
     run: &Run,
 ) -> Option<Fault> {
     if node.has_all(lanes) {
-        let report = node.close(rt, lanes);
+        let (report, _node) = node.close(rt, lanes);
         let is_told = is_report_of(&report, run);
         let shown = reported(&report);
         drop(report);
@@ -235,11 +246,11 @@ fn close<J: NodeNaming, R: Wait>(
 }
 
 // Returns what differs from a run with a node that is started for it.
-fn first_fault_with<J: NodeNaming, R: Wait>(
+fn first_fault_with<H: RunNaming, J: NodeNaming, R: Wait>(
     rt: &R,
     alloc: Global,
-    state: NodeState<J>,
-    lanes: &mut [Lane<Item, J>],
+    state: NodeState<H, J>,
+    lanes: &mut [Lane<SentItem<H>, J>],
     run: &Run,
 ) -> Option<Fault> {
     match Node::start(alloc, state, None::<&NoGate>) {
@@ -252,28 +263,48 @@ fn first_fault_with<J: NodeNaming, R: Wait>(
 }
 
 // Returns what differs from a run with node 1.
-fn first_fault<J: NodeNaming, R: Wait>(
+fn first_fault<H: RunNaming, J: NodeNaming, R: Wait>(
     rt: &R,
     alloc: Global,
-    start: Start,
+    start: Start<H>,
     run: &Run,
 ) -> Option<Fault>
     requires inbox { start.inbox ≡ J.inbox_of 1 }
-    requires first { start.core ≡ J.first_of 1 }
+    requires first { start.node.node ≡ J.first_of 1 }
+    requires index { start.node.index ≡ 0 }
+    requires none { items_taken 1 start.node.log ≡ [] }
     requires lanes { (1 ≤ run.now.lanes) × (run.now.lanes ≤ 16) }
 {
     match start.inbox.named::<J>(1, run.lanes) {
         Ok((receiver, mut lanes)) => first_fault_with(
             rt,
             alloc,
-            NodeState::new(receiver, start.core),
+            NodeState::new(receiver, start.node),
             lanes.as_mut_slice(),
             run,
         ),
         Err(_) => {
-            drop(start.core);
+            drop(start.node);
             Some(Fault::Start)
         }
+    }
+}
+
+// Returns what differs from a run with node 1 of a group that opened.
+fn first_fault_of<H: RunNaming, R: Wait>(
+    rt: &R,
+    alloc: Global,
+    opened: Opened,
+    run: &Run,
+) -> Option<Fault>
+    requires book { opened.run.book ≡ H.book }
+    requires nodes { H.nodes ≡ 2 }
+    requires config { opened.config ≡ H.config }
+    requires lanes { (1 ≤ run.now.lanes) × (run.now.lanes ≤ 16) }
+{
+    match fresh_two::<H>(alloc, opened) {
+        Some((first, _second)) => first_fault::<H, Brand, R>(rt, alloc, first, run),
+        None => Some(Fault::Start),
     }
 }
 
@@ -295,8 +326,8 @@ const IN_ORDER: &Run = &Run {
 
 #[test]
 fn items_are_taken_in_their_order(rt: HostRuntime) -> Result<(), Fail> {
-    let start = fresh(rt.alloc(), 1, &[1])?;
-    let fault = first_fault::<Brand, HostRuntime>(&rt, rt.alloc(), start, IN_ORDER);
+    let opened = open_two(rt.alloc(), &[1])?;
+    let fault = first_fault_of::<Brand, HostRuntime>(&rt, rt.alloc(), opened, IN_ORDER);
     assert_eq!(rt; fault, None);
     Ok(())
 }
@@ -319,8 +350,8 @@ const APPENDS: &Run = &Run {
 
 #[test]
 fn what_a_step_sends_is_given_out(rt: HostRuntime) -> Result<(), Fail> {
-    let start = fresh(rt.alloc(), 1, &[1, 2])?;
-    let fault = first_fault::<Brand, HostRuntime>(&rt, rt.alloc(), start, APPENDS);
+    let opened = open_two(rt.alloc(), &[1, 2])?;
+    let fault = first_fault_of::<Brand, HostRuntime>(&rt, rt.alloc(), opened, APPENDS);
     assert_eq!(rt; fault, None);
     Ok(())
 }
@@ -344,8 +375,8 @@ const BESIDE: &Run = &Run {
 
 #[test]
 fn send_waits_for_no_lock(rt: HostRuntime) -> Result<(), Fail> {
-    let start = fresh(rt.alloc(), 1, &[1])?;
-    let fault = first_fault::<Brand, HostRuntime>(&rt, rt.alloc(), start, BESIDE);
+    let opened = open_two(rt.alloc(), &[1])?;
+    let fault = first_fault_of::<Brand, HostRuntime>(&rt, rt.alloc(), opened, BESIDE);
     assert_eq!(rt; fault, None);
     Ok(())
 }
@@ -369,8 +400,8 @@ const LEFT: &Run = &Run {
 
 #[test]
 fn what_is_not_taken_is_left_over(rt: HostRuntime) -> Result<(), Fail> {
-    let start = fresh(rt.alloc(), 1, &[1])?;
-    let fault = first_fault::<Brand, HostRuntime>(&rt, rt.alloc(), start, LEFT);
+    let opened = open_two(rt.alloc(), &[1])?;
+    let fault = first_fault_of::<Brand, HostRuntime>(&rt, rt.alloc(), opened, LEFT);
     assert_eq!(rt; fault, None);
     Ok(())
 }

@@ -1,54 +1,52 @@
 // What nodes begin with.
 
-ghost use Rattle.std.specs.Prelude.{◌≤◌};
+ghost use Rattle.std.specs.Prelude.{◌≡◌, [], IfSome};
+ghost use Rattle.run_history.specs.Log.{items_taken};
 
-use ballot_base::{Config, Members};
+use crate::opened_run::Opened;
 use mailbox::Inbox;
+use run_history::{NodeOnRecord, RunNaming, SeenRun, SentItem};
 use std::alloc::Global;
-use std::test::Fail;
-use world_base::node_core::{Item, NodeCore};
+use world_base::node_core::NodeCore;
 
-/// An inbox with what its node is at first.
+/// A node of a run that has taken nothing, its inbox, and the log of the run as it opened.
 #[derive(Drop)]
-pub(super) struct Start {
-    pub(super) inbox: Inbox<Item>,
-    pub(super) core: NodeCore,
+pub(crate) struct Start<H: RunNaming> {
+    pub(crate) inbox: Inbox<SentItem<H>>,
+    pub(crate) node: NodeOnRecord<H>,
+    pub(crate) log: SeenRun<H>,
 }
 
-/// Returns an unused inbox, and the node of this number, the primary of ballot 1 of these members.
-pub(super) fn fresh(alloc: Global, number: u8, members: &[u8]) -> Result<Start, Fail>
-    requires { (1 ≤ number) × (number ≤ 15) }
+/// Returns both nodes of a group that opened, each with an unused inbox; none without memory.
+pub(crate) fn fresh_two<H: RunNaming>(alloc: Global, opened: Opened) -> Option<(Start<H>, Start<H>)>
+    requires book { opened.run.book ≡ H.book }
+    requires nodes { H.nodes ≡ 2 }
+    requires config { opened.config ≡ H.config }
+    ensures first { IfSome result (λ starts. starts.0.node.index ≡ 0) }
+    ensures none { IfSome result (λ starts. items_taken 1 starts.0.node.log ≡ []) }
+    ensures second { IfSome result (λ starts. starts.1.node.index ≡ 1) }
+    ensures still_none { IfSome result (λ starts. items_taken 2 starts.1.node.log ≡ []) }
 {
-    let inbox = Inbox::new(alloc)?;
-    match core_of(alloc, number, members) {
-        Ok(core) => Ok(Start { inbox, core }),
-        Err(fail) => {
-            drop(inbox);
-            Err(fail)
-        }
-    }
-}
-
-/// Returns an unused inbox and a node for each of the numbers 1 and 2, each the sole member of its
-/// ballot 1.
-pub(super) fn fresh_two(alloc: Global) -> Result<(Start, Start), Fail> {
-    let first = fresh(alloc, 1, &[1])?;
-    match fresh(alloc, 2, &[2]) {
-        Ok(second) => Ok((first, second)),
-        Err(fail) => {
-            drop(first);
-            Err(fail)
-        }
-    }
-}
-
-// Returns this node, the primary of ballot 1 of these members.
-fn core_of(alloc: Global, number: u8, members: &[u8]) -> Result<NodeCore, Fail>
-    requires { (1 ≤ number) × (number ≤ 15) }
-{
-    let config = Config {
-        members: Members::from_slice(alloc, members)?,
-        primary: number,
+    let Opened {
+        run,
+        master,
+        config,
+    } = opened;
+    let (_master, mut maker, log) = run.named::<H>(master);
+    let core = NodeCore::new(alloc, 1, &config).ok()?;
+    let other_core = NodeCore::new(alloc, 2, &config).ok()?;
+    let node = maker.make(&log, core, 0);
+    let other = maker.make(&log, other_core, 1);
+    let (inbox, other_inbox) = (Inbox::new(alloc).ok()?, Inbox::new(alloc).ok()?);
+    let first = Start {
+        inbox,
+        node,
+        log: log.again(),
     };
-    Ok(NodeCore::new(alloc, number, &config)?)
+    let second = Start {
+        inbox: other_inbox,
+        node: other,
+        log,
+    };
+    Some((first, second))
 }

@@ -3,6 +3,7 @@
 use ballot_base::{Body, Effect};
 use broker_spec::{Command, Output};
 use node::{NodeNaming, NodeState};
+use run_history::{RunNaming, SentItem};
 use std::alloc::Global;
 use std::sync::Wait;
 use world_base::node_connections::Handed;
@@ -43,10 +44,10 @@ pub(super) enum Came {
 pub(super) const SILENT: Came = Came::Took(0, None);
 
 /// Takes an item, and returns what came of it.
-pub(super) fn take_one<J: NodeNaming, R: Wait>(
+pub(super) fn take_one<H: RunNaming, J: NodeNaming, R: Wait>(
     rt: &R,
     alloc: Global,
-    state: &mut NodeState<J>,
+    state: &mut NodeState<H, J>,
 ) -> Came {
     let mut effects = Vec::new(alloc);
     let receipt = state.receipt();

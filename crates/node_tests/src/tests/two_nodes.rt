@@ -1,12 +1,15 @@
 // Two nodes in one run: the numbers of inboxes say whose lane it is.
 
-ghost use Rattle.std.specs.Prelude.{◌≡◌};
+ghost use Rattle.std.specs.Prelude.{◌≡◌, []};
+ghost use Rattle.run_history.specs.Log.{items_taken};
 
 use super::nodes::{met, send, sent};
 use super::starts::{Start, fresh_two};
 use super::taken::{Came, SILENT, take_one};
+use crate::opened_run::{Opened, open_two};
 use mailbox::Lane;
 use node::{NodeNaming, NodeState};
+use run_history::{RunNaming, SeenRun, SentItem};
 use std::alloc::Global;
 use std::marker::Brand;
 use std::sync::{Mutex, Wait};
@@ -32,16 +35,24 @@ type Fault = (usize, Option<Row>, Came);
 
 // Two nodes and their lanes, each with a lock of its own.
 #[derive(Drop)]
-struct Two<J: NodeNaming> {
-    nodes: [Mutex<NodeState<J>>; 2],
-    lanes: [Mutex<Vec<Lane<Item, J>>>; 2],
+struct Two<H: RunNaming, J: NodeNaming> {
+    nodes: [Mutex<NodeState<H, J>>; 2],
+    lanes: [Mutex<Vec<Lane<SentItem<H>, J>>>; 2],
+    // The log of their run as it opened.
+    log: SeenRun<H>,
 }
 
-impl<J: NodeNaming> Two<J> {
+impl<H: RunNaming, J: NodeNaming> Two<H, J> {
     // Returns true if the lane of the node at this index sends a tick.
     fn send<R: Wait>(&self, rt: &R, at: usize, now: u64) -> bool {
         match self.lanes.get(at) {
-            Some(lanes) => send(rt, lanes.lock(rt).as_mut_slice(), 0, Item::Tick(now)),
+            Some(lanes) => send(
+                rt,
+                &self.log,
+                lanes.lock(rt).as_mut_slice(),
+                0,
+                Item::Tick(now),
+            ),
             None => false,
         }
     }
@@ -86,29 +97,33 @@ impl<J: NodeNaming> Two<J> {
 }
 
 // Returns the first row, with two nodes, of whose call comes something else.
-fn first_fault_of_two<J: NodeNaming, R: Wait>(
+fn first_fault_of_two<H: RunNaming, J: NodeNaming, R: Wait>(
     rt: &R,
     alloc: Global,
-    first: Start,
-    second: Start,
+    first: Start<H>,
+    second: Start<H>,
     rows: &[Row],
 ) -> Option<Fault>
     requires inbox { first.inbox ≡ J.inbox_of 1 }
-    requires core { first.core ≡ J.first_of 1 }
+    requires core { first.node.node ≡ J.first_of 1 }
+    requires index { first.node.index ≡ 0 }
+    requires none { items_taken 1 first.node.log ≡ [] }
     requires other_inbox { second.inbox ≡ J.inbox_of 2 }
-    requires other_core { second.core ≡ J.first_of 2 }
+    requires other_core { second.node.node ≡ J.first_of 2 }
+    requires other_index { second.node.index ≡ 1 }
+    requires other_none { items_taken 2 second.node.log ≡ [] }
 {
     match first.inbox.named::<J>(1, 1) {
         Ok((receiver, lanes)) => first_fault_with(
             rt,
             alloc,
-            NodeState::new(receiver, first.core),
+            NodeState::new(receiver, first.node),
             lanes,
             second,
             rows,
         ),
         Err(_) => {
-            drop(first.core);
+            drop(first.node);
             drop(second);
             Some((0, None, Came::Nothing))
         }
@@ -117,34 +132,56 @@ fn first_fault_of_two<J: NodeNaming, R: Wait>(
 
 // Does the same once node 1 has its lane. What is long to drop goes by a call, which is proved
 // once.
-fn first_fault_with<J: NodeNaming, R: Wait>(
+fn first_fault_with<H: RunNaming, J: NodeNaming, R: Wait>(
     rt: &R,
     alloc: Global,
-    state: NodeState<J>,
-    lanes: Vec<Lane<Item, J>>,
-    second: Start,
+    state: NodeState<H, J>,
+    lanes: Vec<Lane<SentItem<H>, J>>,
+    second: Start<H>,
     rows: &[Row],
 ) -> Option<Fault>
     requires inbox { second.inbox ≡ J.inbox_of 2 }
-    requires core { second.core ≡ J.first_of 2 }
+    requires core { second.node.node ≡ J.first_of 2 }
+    requires index { second.node.index ≡ 1 }
+    requires none { items_taken 2 second.node.log ≡ [] }
 {
     match second.inbox.named::<J>(2, 1) {
         Ok((receiver, other_lanes)) => {
-            let other = NodeState::new(receiver, second.core);
+            let other = NodeState::new(receiver, second.node);
             let two = Two {
                 nodes: [Mutex::new(state), Mutex::new(other)],
                 lanes: [Mutex::new(lanes), Mutex::new(other_lanes)],
+                log: second.log,
             };
             let fault = two.first_fault(rt, alloc, rows);
             drop(two);
             fault
         }
         Err(_) => {
-            drop(second.core);
+            drop(second.node);
             drop(state);
             drop(lanes);
             Some((0, None, Came::Nothing))
         }
+    }
+}
+
+// Does the same with both nodes of a group that opened.
+fn first_fault_of_opened<H: RunNaming, R: Wait>(
+    rt: &R,
+    alloc: Global,
+    opened: Opened,
+    rows: &[Row],
+) -> Option<Fault>
+    requires book { opened.run.book ≡ H.book }
+    requires nodes { H.nodes ≡ 2 }
+    requires config { opened.config ≡ H.config }
+{
+    match fresh_two::<H>(alloc, opened) {
+        Some((first, second)) => {
+            first_fault_of_two::<H, Brand, R>(rt, alloc, first, second, rows)
+        }
+        None => Some((0, None, Came::Nothing)),
     }
 }
 
@@ -173,8 +210,8 @@ const MET: &[Row] = &[
 // One lane of each of two nodes sends items, of which some are taken.
 #[test]
 fn two_nodes_meet_their_lanes(rt: HostRuntime) -> Result<(), Fail> {
-    let (first, second) = fresh_two(rt.alloc())?;
-    let fault = first_fault_of_two::<Brand, HostRuntime>(&rt, rt.alloc(), first, second, MET);
+    let opened = open_two(rt.alloc(), &[1])?;
+    let fault = first_fault_of_opened::<Brand, HostRuntime>(&rt, rt.alloc(), opened, MET);
     assert_eq!(rt; fault, None);
     Ok(())
 }

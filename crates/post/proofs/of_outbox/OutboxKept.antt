@@ -1,17 +1,24 @@
 -- OutboxKept.antt: an outbox in which an item is queued, if there is room and memory for it, holds what
 -- may wait for its node.
-use Rattle.std.proofs.Common.{◌≡◌, ℕ, ◌+◌, ◌≤◌, zero, suc, Bool, true, false, ◌||◌, not, nat_lt, if◌then◌else◌, List, [], ◌∷◌, ◌++◌, length, take, sym, subst, ap, arith}
-use Rattle.std.proofs.Common.{◌∙◌}
+use Rattle.std.proofs.Common.{◌≡◌, ℕ, ◌+◌, ◌-◌, ◌≤◌, zero, suc, Bool, true, false, ◌||◌, not, nat_lt, if◌then◌else◌, List, [], ◌∷◌, ◌++◌, Option, Some, None, length, take, refl, sym, subst, ap, arith}
+use mathlib.Core.List.{IsPrefix}
+use Rattle.ballot_base.specs.declared.config.Config.{Config}
 use Rattle.broker_spec.specs.declared.command.Command.{Command}
 use Rattle.ballot_base.specs.declared.message.Message.{Message}
 use Rattle.world_base.specs.declared.node_core.item.Item.{Item}
-use Rattle.world_base.specs.declared.node_core.item.Item.TheVariants.{Peer}
-use Rattle.lists.specs.Lists.{Each}
-use Rattle.lists.proofs.OfEach.{each_append}
-use Rattle.post.specs.outbox.Given.{Addressed}
-use Rattle.post.specs.outbox.Queued.{IsQueued, WasAnswered}
-use Rattle.post.specs.outbox.Queued.MayQueue.{of_master}
-use Rattle.post.specs.outbox.WaitingItems.{OutboxView, Waits, may_be_queued, is_of_node, of_nodes}
+use Rattle.world_base.specs.declared.node_core.item.Item.TheVariants.{Peer, Crash, Expel}
+use Rattle.lists.specs.Lists.{Each, In}
+use Rattle.lists.proofs.OfEach.{each_append, each_then}
+use Rattle.run_history.specs.declared.event.RunEvent.{RunEvent}
+use Rattle.run_history.specs.History.{IsHistory}
+use Rattle.run_history.specs.Log.{sent_in}
+use Rattle.run_history.specs.Sending.{WasSentTo}
+use Rattle.run_history.proofs.LongerLogs.{in_later}
+use Rattle.post.specs.outbox.Queued.{IsOrder, IsPosted, IsQueued}
+use Rattle.post.specs.outbox.Queued.IsOrder.{crashes, expels}
+use Rattle.post.specs.outbox.Queued.IsPosted.{ordered, sent_to}
+use Rattle.post.specs.outbox.Replacement.{newest_item, replaces, replaces_one, still_waiting}
+use Rattle.post.specs.outbox.WaitingItems.{Waits, may_be_queued, is_of_node, of_nodes}
 
 one : Item → ℕ
 one item = if is_of_node item then 1 else 0
@@ -40,11 +47,33 @@ each_taken P (suc n) [] each = tt
 each_taken P (suc n) (first ∷ items) each = (each.0, each_taken P n items each.1)
 
 -- a prefix of what waits
-pub waits_taken : (number n : ℕ) (items : List Item) → Waits number items → Waits number (take n items)
-waits_taken number n items waits = record {
-  queued = each_taken (IsQueued number) n items waits.queued;
+pub waits_taken : (sent : List (ℕ × Message Command)) (number n : ℕ) (items : List Item) → Waits sent number items → Waits sent number (take n items)
+waits_taken sent number n items waits = record {
+  queued = each_taken (IsPosted sent number) n items waits.queued;
   bounded = let e = of_nodes_taken n items in let b = waits.bounded in omega (arith, e, b);
 }
+
+-- ---- a longer log
+
+posted_later : (xs ys : List RunEvent) (number : ℕ) → IsPrefix xs ys → (item : Item) → IsPosted (sent_in xs) number item → IsPosted (sent_in ys) number item
+posted_later xs ys number more _ (sent_to message was) = sent_to message (in_later (number, message) xs ys more was)
+posted_later xs ys number more item (ordered order) = ordered order
+
+-- what waits may wait by a longer log
+pub waits_later : (xs ys : List RunEvent) (number : ℕ) (items : List Item) → IsPrefix xs ys → Waits (sent_in xs) number items → Waits (sent_in ys) number items
+waits_later xs ys number items more waits = record {
+  queued = each_then (IsPosted (sent_in xs) number) (IsPosted (sent_in ys) number) items (posted_later xs ys number more) waits.queued;
+  bounded = waits.bounded;
+}
+
+-- what waits may be queued by a log of the run
+pub waits_queued : (nodes : ℕ) (config : Config) (log : List RunEvent) (number : ℕ) (items : List Item)
+    → IsHistory nodes config log → Waits (sent_in log) number items → Each (IsQueued nodes config number) items
+waits_queued nodes config log number items history waits =
+    each_then (IsPosted (sent_in log) number) (IsQueued nodes config number) items
+    (λ item posted. record { log = log; history = history; posted = posted }) waits.queued
+
+-- ---- one more item
 
 -- if there is room the bound is kept
 roomy : (b : Bool) (count size : ℕ) → (not b || nat_lt size 524288) ≡ true → count ≤ size → count ≤ 524288
@@ -52,23 +81,27 @@ roomy : (b : Bool) (count size : ℕ) → (not b || nat_lt size 524288) ≡ true
 roomy true count size room least bounded = grind (arith, room, least, bounded)
 roomy false count size room least bounded = grind (arith, bounded)
 
-waits_more : (number : ℕ) (item : Item) (items : List Item)
-    → IsQueued number item → may_be_queued item items ≡ true → Waits number items → Waits number (items ++ item ∷ [])
-waits_more number item items queued room waits = record {
-  queued = each_append (IsQueued number) items (item ∷ []) waits.queued (queued, tt);
+waits_more : (sent : List (ℕ × Message Command)) (number : ℕ) (item : Item) (items : List Item)
+    → IsPosted sent number item → may_be_queued item items ≡ true → Waits sent number items → Waits sent number (items ++ item ∷ [])
+waits_more sent number item items posted room waits = record {
+  queued = each_append (IsPosted sent number) items (item ∷ []) waits.queued (posted, tt);
   bounded = subst (λ (count : ℕ). count ≤ 524288) (sym (of_nodes_more items item))
       (roomy (is_of_node item) (of_nodes items) (length items) room (of_nodes_least items) waits.bounded);
 }
 
-pub queued_more : (outbox : OutboxView) (number : ℕ) (item : Item) (kept : Bool) (old new : List Item)
-    → record { number = number; items = old } ≡ outbox
-    → IsQueued outbox.number item → may_be_queued item old ≡ true → Waits number old
-    → new ≡ (if kept then old ++ item ∷ [] else old) → Waits number new
-queued_more outbox number item true old new view queued room waits is =
-    subst (λ (items : List Item). Waits number items) (sym is)
-    (waits_more number item old (subst (λ (seen : OutboxView). IsQueued seen.number item) (sym view) queued) room waits)
-queued_more outbox number item false old new view queued room waits is =
-    subst (λ (items : List Item). Waits number items) (sym is) waits
+queued_by : (sent : List (ℕ × Message Command)) (number : ℕ) (item : Item) (kept : Bool) (old new : List Item)
+    → IsPosted sent number item → may_be_queued item old ≡ true → Waits sent number old
+    → new ≡ (if kept then old ++ item ∷ [] else old) → Waits sent number new
+queued_by sent number item true old new posted room waits is = subst (Waits sent number) (sym is) (waits_more sent number item old posted room waits)
+queued_by sent number item false old new posted room waits is = subst (Waits sent number) (sym is) waits
+
+-- an item that may be queued by what is known, where what was seen is extended by that
+pub queued_more : (seen known after : List RunEvent) (number : ℕ) (item : Item) (kept : Bool) (old new : List Item)
+    → IsPrefix seen after → IsPrefix known after → IsPosted (sent_in known) number item → may_be_queued item old ≡ true
+    → Waits (sent_in seen) number old → new ≡ (if kept then old ++ item ∷ [] else old) → Waits (sent_in after) number new
+queued_more seen known after number item kept old new this that posted room waits is =
+    queued_by (sent_in after) number item kept old new (posted_later known after number that item posted) room
+    (waits_later seen after number old this waits) is
 
 -- a message of the master is not one of a node
 from_master : (from : ℕ) → from ≡ 0 → nat_lt 0 from ≡ false
@@ -77,16 +110,29 @@ from_master from is = ap (λ (n : ℕ). nat_lt 0 n) is
 room_always : (b : Bool) (size : ℕ) → b ≡ false → (not b || nat_lt size 524288) ≡ true
 room_always b size is = ap (λ (c : Bool). not c || nat_lt size 524288) is
 
--- the same for an answer of the master, for which room was made before
-pub queued_answer : (outbox : OutboxView) (number receiver primary : ℕ) (message : Message Command) (kept : Bool) (before old new : List Item)
-    → record { number = number; items = before } ≡ outbox
-    → WasAnswered receiver message → receiver ≡ primary → primary ≡ outbox.number
-    → Waits number before → old ≡ before
-    → new ≡ (if kept then old ++ Peer message ∷ [] else old) → Waits number new
-queued_answer outbox number receiver primary message kept before old new view answered names at waits same is =
-    queued_more outbox number (Peer message) kept before new view
-    ∣ of_master message (subst (λ (n : ℕ). WasAnswered n message) (names ∙ at) answered) ∣₁
-    (room_always (nat_lt 0 message.from) (length before)
-    (from_master message.from (ap (λ (addressed : Addressed). addressed.message.from) answered.is)))
-    waits
+-- the same for a message of the master, for which room was made before
+pub queued_answer : (seen known after : List RunEvent) (number : ℕ) (message : Message Command) (kept : Bool) (before old new : List Item)
+    → IsPrefix seen after → IsPrefix known after → In (number, message) (sent_in known)
+    → message.from ≡ 0 → Waits (sent_in seen) number before → old ≡ before
+    → new ≡ (if kept then old ++ Peer message ∷ [] else old) → Waits (sent_in after) number new
+queued_answer seen known after number message kept before old new this that was from waits same is =
+    queued_more seen known after number (Peer message) kept before new this that (sent_to message was)
+    (room_always (nat_lt 0 message.from) (length before) (from_master message.from from)) waits
     (subst (λ (items : List Item). new ≡ (if kept then items ++ Peer message ∷ [] else items)) same is)
+
+-- ---- orders
+
+-- an order is sent by no event
+pub order_is_sent : (sent : List (ℕ × Message Command)) (number : ℕ) (order : Item) → IsOrder order → WasSentTo sent number order
+order_is_sent sent number _ crashes = tt
+order_is_sent sent number _ (expels client) = tt
+
+none_replaced : (order : Item) (items : List Item) (newest : Option Item) → ((older : Item) → replaces order older ≡ false)
+    → (if replaces_one order newest then take (length items - 1) items else items) ≡ items
+none_replaced order items None none = refl
+none_replaced order items (Some older) none = ap (λ (b : Bool). if b then take (length items - 1) items else items) (none older)
+
+-- an order replaces nothing
+pub order_replaces_none : (order : Item) (items : List Item) → IsOrder order → still_waiting order items ≡ items
+order_replaces_none _ items crashes = none_replaced Crash items (newest_item items) (λ older. refl)
+order_replaces_none _ items (expels client) = none_replaced (Expel client) items (newest_item items) (λ older. refl)

@@ -1,33 +1,34 @@
--- What may be queued for a node: a message that was produced by another node's step, an answer of
--- the master, the order to crash, or the order to end a client's session.
+-- What may be queued for a node, and what is known of what waits for it: a message was sent to just
+-- this node, by an event of the run.
 use Rattle.std.specs.Prelude.{ℕ, List}
-use Rattle.broker_spec.specs.declared.command.Command.{Command}
-use Rattle.ballot_base.specs.declared.message.Effect.TheVariants.{To}
+use Rattle.ballot_base.specs.declared.config.Config.{Config}
 use Rattle.ballot_base.specs.declared.message.Message.{Message}
+use Rattle.broker_spec.specs.declared.command.Command.{Command}
+use Rattle.lists.specs.Lists.{In}
 use Rattle.world_base.specs.declared.node_core.item.Item.{Item}
 use Rattle.world_base.specs.declared.node_core.item.Item.TheVariants.{Peer, Expel, Crash}
-pub use Rattle.post.specs.outbox.Given.{EachOpens, IsNewNode, WasGiven, WasGivenToMaster}
-pub use Rattle.post.specs.outbox.MasterAnswers.{WasAnswered}
+use Rattle.run_history.specs.declared.event.RunEvent.{RunEvent}
+use Rattle.run_history.specs.History.{IsHistory}
+use Rattle.run_history.specs.Log.{sent_in}
 
--- what any sender except the master may queue for a node of this number
-pub data IsPosted (receiver : ℕ) : Item → Type 0 where
-  -- a message for it, produced by a node's step
-  of_node : (message : Message Command)
-      → WasGiven (To receiver message) → IsPosted receiver (Peer message)
-  -- an order to crash
-  order : IsPosted receiver Crash
-  -- an order to end the session of a client
-  expels : (client : List ℕ) → IsPosted receiver (Expel client)
+-- an order of the program: nothing that comes from a node's own clients or from its clock
+pub data IsOrder : Item → Type 0 where
+  -- to crash
+  crashes : IsOrder Crash
+  -- to end the session of a client
+  expels : (client : List ℕ) → IsOrder (Expel client)
 
--- what may be queued for a node
-pub data MayQueue (receiver : ℕ) : Item → Type 0 where
-  -- what others than the master queue
-  posted : {item : Item} → IsPosted receiver item → MayQueue receiver item
-  -- a message of the master
-  of_master : (message : Message Command)
-      → WasAnswered receiver message → MayQueue receiver (Peer message)
+-- what may be queued for the node of this number, where these messages were sent
+pub data IsPosted (sent : List (ℕ × Message Command)) (receiver : ℕ) : Item → Type 0 where
+  -- a message that another node or the master sent to it
+  sent_to : (message : Message Command)
+      → In (receiver, message) sent → IsPosted sent receiver (Peer message)
+  -- an order
+  ordered : {item : Item} → IsOrder item → IsPosted sent receiver item
 
--- the item may be queued for this node; that is all that is known of a queued item, whichever
--- thread queued it
-abbrev pub IsQueued : ℕ → Item → Type 0
-IsQueued receiver item = ∥ MayQueue receiver item ∥₁
+-- The item may be queued for this node: if it is a message, an event of a run of this group sent it
+-- to the node. That is all that is known of a queued item, whichever thread queued it.
+pub record IsQueued (nodes : ℕ) (config : Config) (receiver : ℕ) (item : Item) : Type 0 where
+  pub log : List RunEvent
+  pub history : IsHistory nodes config log
+  pub posted : IsPosted (sent_in log) receiver item

@@ -1,10 +1,12 @@
 -- What waits for a node.
 use Rattle.std.specs.Prelude.{◌≡◌, ℕ, ◌+◌, ◌≤◌, Bool, false, ◌||◌, not, nat_lt, if◌then◌else◌, List, [], ◌∷◌, length}
 use Rattle.agreement.specs.MasterState.{MasterState}
+use Rattle.ballot_base.specs.declared.message.Message.{Message}
+use Rattle.broker_spec.specs.declared.command.Command.{Command}
 use Rattle.lists.specs.Lists.{Each}
 use Rattle.world_base.specs.declared.node_core.item.Item.{Item}
 use Rattle.world_base.specs.declared.node_core.item.Item.TheVariants.{Peer}
-use Rattle.post.specs.outbox.Queued.{IsQueued}
+use Rattle.post.specs.outbox.Queued.{IsPosted}
 use Rattle.post.specs.declared.outbox.outbox.TheConstants.{MAX_WAITING}
 
 -- the number of the node, and the items that were queued for it and not yet taken, the oldest first
@@ -36,8 +38,9 @@ max_waiting = MAX_WAITING
 abbrev pub may_be_queued : Item → List Item → Bool
 may_be_queued item items = not (is_of_node item) || nat_lt (length items) max_waiting
 
--- What may wait for a node: items that may be queued for it, at most `max_waiting` of them messages
--- of other nodes.
-pub record Waits (number : ℕ) (items : List Item) : Type 0 where
-  pub queued : Each (IsQueued number) items
+-- What may wait for the node of this number, where these messages were sent: items that may be
+-- queued for it, at most `max_waiting` of them messages of other nodes.
+pub record Waits (sent : List (ℕ × Message Command)) (number : ℕ) (items : List Item)
+    : Type 0 where
+  pub queued : Each (IsPosted sent number) items
   pub bounded : of_nodes items ≤ max_waiting

@@ -1,96 +1,103 @@
 // The master, whose answers are messages.
+//
+// Each answer is an event of the run, so its message was sent by the master when it leaves here.
 
-ghost use Rattle.std.specs.Prelude.{◌≡◌, ◌+◌, ◌↔◌, None, Some, true, false, IfOk, IsErrOf, OnErr, OnOk};
-ghost use Rattle.agreement.specs.MasterState.{opening_master, refusal};
+ghost use Rattle.std.specs.Prelude.{◌≡◌, ◌≤◌, ◌+◌, None, Some, true, false, IfOk, IsErrOf, OnErr, OnOk};
+ghost use Rattle.agreement.specs.MasterState.{refusal};
 ghost use Rattle.agreement.specs.MasterState.AssignRefusal.{bad_members, ballots_spent};
-ghost use Rattle.ballot_base.specs.LawfulConfig.{is_lawful, max_node};
 ghost use Rattle.agreement.specs.cut_logs.Masters.{assigned};
+ghost use Rattle.ballot_base.specs.LawfulConfig.{is_lawful, max_node};
 ghost use Rattle.broker_spec.specs.declared.command.Command.{Command};
-ghost use Rattle.post.specs.outbox.Queued.{WasAnswered, WasGivenToMaster};
+ghost use Rattle.post.specs.outbox.Given.{IsMasterNumber};
 ghost use Rattle.post.specs.outbox.MasterAnswers.{MayGet, answer_to, master_after_outcome, message_if, message_of};
 
 use crate::outbox::order_error::OrderError;
-use ballot_base::{Body, Config, MASTER, Members, Message};
-use broker_spec::Command;
-use master::{AssignError, Master, activation_answer};
+use ballot_base::Config;
+use master::AssignError;
+use run_history::{MasterOnRecord, RunNaming, SentMessage};
 use std::alloc::Global;
 use std::marker::Model;
+use std::sync::Wait;
 
-/// A message of the master with its receiver's number. Only a [`MessagingMaster`] makes one. It
-/// cannot be dropped: it ends in its receiver's outbox, or is lost if no node has the number.
-pub struct Answer {
-    receiver: u8,
-    message: Message<Command>,
+/// A message of the master with its receiver's number, which it sent in the run. Only a
+/// [`MessagingMaster`] makes one. It cannot be dropped: it ends in its receiver's outbox, or is lost
+/// if no node has the number.
+pub struct Answer<H: RunNaming> {
+    sent: SentMessage<H>,
 }
 
-impl Model for Answer {
+impl<H: RunNaming> Model for Answer<H> {
     ghost use Rattle.post.specs.outbox.Given.{Addressed};
-    ghost use Rattle.post.specs.outbox.Queued.{WasAnswered};
 
     ghost Value = { Addressed };
 
-    ghost view = { λ answer. record { receiver = answer.receiver; message = answer.message } };
-
-    ghost invariant = { λ answer. WasAnswered answer.receiver answer.message };
+    ghost view = { λ answer. answer.sent };
 }
 
-impl Answer {
+impl<H: RunNaming> Answer<H> {
     /// Returns the number of its receiver.
     pub fn receiver(&self) -> u8
         ensures { result ≡ self.now.receiver }
     {
-        self.receiver
+        self.sent.receiver()
     }
 
     /// Returns the message: for an outbox, or to drop it if no node has the receiver's number.
-    pub fn into_message(self) -> Message<Command>
-        ensures is { result ≡ self.message }
-        ensures answered { WasAnswered self.receiver result }
+    pub fn into_sent(self) -> SentMessage<H>
+        ensures { result ≡ self }
     {
-        let Answer {
-            receiver: _receiver,
-            message,
-        } = self;
-        message
+        let Answer { sent } = self;
+        sent
     }
 }
 
-/// The master, whose answers are messages. Whatever calls come, its state is one that its own
-/// answers lead to.
+/// The master of a run, whose answers are messages. Whatever calls come, each change of its state is
+/// an event of the run.
 #[derive(Drop)]
-pub struct MessagingMaster {
-    master: Master,
+pub struct MessagingMaster<H: RunNaming> {
+    master: MasterOnRecord<H>,
 }
 
-impl Model for MessagingMaster {
+impl<H: RunNaming> Model for MessagingMaster<H> {
+    ghost use Rattle.std.specs.Prelude.{◌≡◌, ◌≤◌};
+    ghost use Rattle.ballot_base.specs.LawfulConfig.{max_node};
     ghost use Rattle.agreement.specs.MasterState.{MasterState};
-    ghost use Rattle.post.specs.outbox.MasterAnswers.{IsReachable};
 
     ghost Value = { MasterState };
 
-    ghost view = { λ messaging. messaging.master };
+    ghost view = { λ messaging. messaging.master.state };
 
-    ghost invariant = { λ messaging. IsReachable messaging.master };
+    ghost invariant = { λ messaging. (1 ≤ messaging.master.state.given)
+        × (messaging.master.state.greatest ≡ max_node) };
 }
 
-impl MessagingMaster {
-    /// Makes a master whose ballot 1 has this configuration. The only error is
-    /// [`AssignError::BadMembers`].
-    pub fn new(config: Config) -> Result<MessagingMaster, AssignError>
-        ensures ok { IfOk result (λ master. master ≡ opening_master max_node config) }
-        ensures bad { IsErrOf result AssignError.BadMembers
-            ↔ (is_lawful max_node config.members config.primary ≡ false) }
-        ensures spent { IsErrOf result AssignError.BallotsSpent → ⊥ }
+impl<H: RunNaming> MessagingMaster<H> {
+    /// Returns the master of a run, which has given the first ballot, and whose members have numbers
+    /// up to 15.
+    pub fn new(master: MasterOnRecord<H>) -> MessagingMaster<H>
+        requires given { 1 ≤ master.state.given }
+        requires numbers { master.state.greatest ≡ max_node }
+        ensures { result ≡ master.state }
     {
-        match Master::new(config.members, config.primary) {
-            Ok(master) => Ok(MessagingMaster { master }),
-            Err(error) => Err(error),
-        }
+        MessagingMaster { master }
+    }
+
+    /// Returns the master as the run has it on record.
+    pub fn into_record(self) -> MasterOnRecord<H>
+        ensures { result.state ≡ self }
+    {
+        let MessagingMaster { master } = self;
+        master
     }
 
     /// Assigns the next ballot to a configuration. Returns the ballot, and the message to its
     /// primary.
-    pub fn assign(&mut self, alloc: Global, config: Config) -> Result<(u64, Answer), OrderError>
+    pub fn assign<R: Wait>(
+        &mut self,
+        rt: &R,
+        alloc: Global,
+        config: Config,
+    ) -> Result<(u64, Answer<H>), OrderError>
         ensures ballot { IfOk result (λ given. given.0 ≡ self.old.given + 1) }
         ensures given { IfOk result (λ given. MayGet config given.0) }
         ensures answer { IfOk result (λ given.
@@ -109,39 +116,30 @@ impl MessagingMaster {
         // If it is refused, or memory runs out, nothing changes.
         ensures same { OnErr result (self.new ≡ self.old) }
     {
-        let primary = config.primary;
-        let members = Members::from_slice(alloc, config.members.as_slice())?;
-        let (previous, of_previous) = self.master.active();
-        let previous_members = Members::from_slice(alloc, of_previous)?;
-        let ballot = match self.master.assign(config.members, config.primary) {
-            Ok(ballot) => ballot,
-            Err(error) => return Err(OrderError::Refused(error)),
-        };
-        let body = Body::NewBallot(ballot, members, previous, previous_members);
-        Ok((
-            ballot,
-            Answer {
-                receiver: primary,
-                message: Message { from: MASTER, body },
-            },
-        ))
+        let is_granted = self.master.can_assign(&config);
+        if !config.is_lawful() {
+            return Err(OrderError::Refused(AssignError::BadMembers));
+        }
+        if !is_granted {
+            return Err(OrderError::Refused(AssignError::BallotsSpent));
+        }
+        let (ballot, sent) = self.master.assign(rt, alloc, config)?;
+        Ok((ballot, Answer { sent }))
     }
 
     /// Returns the answer to a node's message, if it asks for the activation of a ballot and gets
     /// one.
-    pub fn answer(&mut self, asked: Message<Command>) -> Option<Answer>
-        requires { WasGivenToMaster asked }
-        ensures answer { result ≡ message_if (answer_to self.old asked.from asked.body) }
+    pub fn answer<R: Wait>(&mut self, rt: &R, asked: SentMessage<H>) -> Option<Answer<H>>
+        requires { IsMasterNumber asked.receiver }
+        ensures answer { result
+            ≡ message_if (answer_to self.old asked.message.from asked.message.body) }
         ensures state { self.new
-            ≡ master_after_outcome self.old (answer_to self.old asked.from asked.body) }
+            ≡ master_after_outcome self.old
+            (answer_to self.old asked.message.from asked.message.body) }
     {
-        let Body::Activate(ballot) = asked.body else {
-            return None;
-        };
-        let body = activation_answer(self.master.activate(ballot), ballot);
-        Some(Answer {
-            receiver: asked.from,
-            message: Message { from: MASTER, body },
-        })
+        match self.master.answer(rt, asked) {
+            Some(sent) => Some(Answer { sent }),
+            None => None,
+        }
     }
 }

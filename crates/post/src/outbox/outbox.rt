@@ -1,9 +1,9 @@
 // What waits for one node.
 //
 // An outbox stands under a lock, and what is under a lock is known by its type alone. So the type
-// says what no clause of a call could: the outbox's number, that each item may wait there (produced
-// by a node's step, an answer of the master, or an order), and that at most `MAX_WAITING` are
-// messages of other nodes. Whoever locks one compares its number.
+// says what no clause of a call could: the outbox's number, that each item may wait there (a message
+// that was sent in the run to the node of this number, or an order), and that at most `MAX_WAITING`
+// are messages of other nodes. Whoever locks one compares its number.
 //
 // Messages of nodes are lost if there is no room or memory; the protocol repeats them. An order
 // that was answered is never lost: its memory is reserved first. A Held or Commit replaces the
@@ -16,10 +16,11 @@ ghost use Rattle.agreement.specs.MasterState.{refusal};
 ghost use Rattle.agreement.specs.MasterState.AssignRefusal.{bad_members, ballots_spent};
 ghost use Rattle.ballot_base.specs.LawfulConfig.{is_lawful, max_node};
 ghost use Rattle.broker_spec.specs.declared.command.Command.{Command};
-ghost use Rattle.lists.specs.Lists.{Each};
+ghost use Rattle.lists.specs.Lists.{Each, In};
+ghost use Rattle.run_history.specs.Log.{sent_in};
 ghost use Rattle.world_base.specs.declared.node_core.item.Item.TheVariants.{Peer};
 ghost use Rattle.agreement.specs.cut_logs.Masters.{assigned};
-ghost use Rattle.post.specs.outbox.Queued.{IsPosted, IsQueued};
+ghost use Rattle.post.specs.outbox.Queued.{IsOrder, IsPosted, IsQueued};
 ghost use Rattle.post.specs.outbox.MasterAnswers.{MayGet, message_of};
 ghost use Rattle.post.specs.outbox.Replacement.{newest_item, still_waiting, replaces_one};
 ghost use Rattle.post.specs.outbox.WaitingItems.{AreUnchanged, may_be_queued, is_of_node};
@@ -31,9 +32,11 @@ use crate::outbox::replacement::replaces;
 use crate::outbox::urgency::is_any_urgent;
 use ballot_base::{Config, MASTER};
 use master::AssignError;
+use run_history::{RunNaming, SeenRun, SentItem, SentMessage};
 use std::alloc::Global;
 use std::marker::Model;
 use std::mem;
+use std::sync::Wait;
 use world_base::node_core::Item;
 
 /// A message of another node is queued only while fewer items than this wait.
@@ -46,30 +49,35 @@ const MAX_HELPED: usize = 16;
 /// The items that other nodes and the master have for a node, in the order in which they were
 /// queued.
 #[derive(Drop)]
-pub struct Outbox {
+pub struct Outbox<H: RunNaming> {
     number: u8,
     // Oldest first; at most `MAX_WAITING` of them are messages of other nodes.
-    items: Vec<Item>,
+    items: Vec<SentItem<H>>,
+    // A prefix of the run's log, in which each message that waits was sent to this node.
+    seen: SeenRun<H>,
 }
 
-impl Model for Outbox {
+impl<H: RunNaming> Model for Outbox<H> {
+    ghost use Rattle.run_history.specs.Log.{sent_in};
     ghost use Rattle.post.specs.outbox.WaitingItems.{OutboxView, Waits};
 
     ghost Value = { OutboxView };
 
     ghost view = { λ outbox. record { number = outbox.number; items = outbox.items.items } };
 
-    ghost invariant = { λ outbox. Waits outbox.number outbox.items.items };
+    ghost invariant = { λ outbox.
+        Waits (sent_in outbox.seen) outbox.number outbox.items.items };
 }
 
-impl Outbox {
-    /// Returns the empty outbox of the node of this number.
-    pub fn new(alloc: Global, number: u8) -> Outbox
+impl<H: RunNaming> Outbox<H> {
+    /// Returns the empty outbox of the node of this number. `opening` is the run's log as it opened.
+    pub fn new(alloc: Global, number: u8, opening: SeenRun<H>) -> Outbox<H>
         ensures { result ≡ record { number = number; items = [] } }
     {
         Outbox {
             number,
             items: Vec::new(alloc),
+            seen: opening,
         }
     }
 
@@ -103,24 +111,43 @@ impl Outbox {
         self.items.len() > MAX_HELPED
     }
 
-    /// Queues an item after all that waits, or in place of the newest if it replaces that one.
-    /// Returns false if there was no room or memory: then the item is lost, and so is the one that
-    /// it replaces.
-    pub fn queue(&mut self, item: Item) -> bool
-        requires { IsPosted self.old.number item }
+    /// Queues a message for the node after all that waits, or in place of the newest if it replaces
+    /// that one. Returns false if there was no room or memory: then the message is lost, and so is
+    /// the one that it replaces.
+    pub fn queue(&mut self, message: SentMessage<H>) -> bool
+        requires { message.receiver ≡ self.old.number }
         ensures queued { result ≡ true →
-            self.new ≡ record self.old { items = still_waiting item self.old.items ++ item ∷ [] } }
+            self.new ≡ record self.old {
+              items = still_waiting (Peer message.message) self.old.items
+                  ++ Peer message.message ∷ [];
+            } }
         ensures lost { result ≡ false →
-            self.new ≡ record self.old { items = still_waiting item self.old.items } }
-        ensures full { may_be_queued item (still_waiting item self.old.items) ≡ false →
-            result ≡ false }
+            self.new ≡ record self.old {
+              items = still_waiting (Peer message.message) self.old.items;
+            } }
+        ensures full { may_be_queued (Peer message.message)
+            (still_waiting (Peer message.message) self.old.items) ≡ false → result ≡ false }
     {
-        self.push(item)
+        let (item, known) = item_of(message);
+        self.push(item, &known)
+    }
+
+    /// Queues an order of the program after all that waits. Returns false if there was no memory:
+    /// then it is lost.
+    pub fn queue_order(&mut self, order: Item) -> bool
+        requires { IsOrder order }
+        ensures queued { result ≡ true →
+            self.new ≡ record self.old { items = self.old.items ++ order ∷ [] } }
+        ensures lost { result ≡ false → self.new ≡ self.old }
+    {
+        let known = self.seen.again();
+        let order = SentItem::new(self.number, order, known.again());
+        self.push(order, &known)
     }
 
     /// Queues an answer of the master, as [`Outbox::queue`]. Returns false if there was no memory:
     /// then it is lost.
-    pub fn queue_answer(&mut self, answer: Answer) -> bool
+    pub fn queue_answer(&mut self, answer: Answer<H>) -> bool
         requires { answer.receiver ≡ self.old.number }
         ensures queued { result ≡ true →
             self.new ≡ record self.old {
@@ -132,16 +159,17 @@ impl Outbox {
               items = still_waiting (Peer answer.message) self.old.items;
             } }
     {
-        self.push(Item::Peer(answer.into_message()))
+        self.queue(answer.into_sent())
     }
 
     /// Assigns the master's next ballot to a configuration whose primary is this node, and queues
     /// the master's message. Memory for the message is reserved first, so an order that is answered
     /// is not lost. Returns the ballot.
-    pub fn assign(
+    pub fn assign<R: Wait>(
         &mut self,
+        rt: &R,
         alloc: Global,
-        master: &mut MessagingMaster,
+        master: &mut MessagingMaster<H>,
         config: Config,
     ) -> Result<u64, OrderError>
         requires { config.primary ≡ self.old.number }
@@ -167,18 +195,20 @@ impl Outbox {
         if self.items.reserve(1).is_err() {
             return Err(OrderError::Memory);
         }
-        let (ballot, answer) = master.assign(alloc, config)?;
-        if self.items.push(Item::Peer(answer.into_message())).is_err() {
+        let (ballot, answer) = master.assign(rt, alloc, config)?;
+        let (item, known) = item_of(answer.into_sent());
+        self.seen.learn(&known);
+        if self.items.push(item).is_err() {
             unreachable!()
         }
         Ok(ballot)
     }
 
-    // Queues an item after all that waits, or in place of the newest if it replaces that one.
-    // Returns false if there was no room or memory. What it replaces is dropped before that is
-    // known.
-    fn push(&mut self, item: Item) -> bool
-        requires { IsQueued self.old.number item }
+    // Queues an item, which may be queued by what is `known`, after all that waits, or in place of
+    // the newest if it replaces that one. Returns false if there was no room or memory. What it
+    // replaces is dropped before that is known.
+    fn push(&mut self, item: SentItem<H>, known: &SeenRun<H>) -> bool
+        requires { IsPosted (sent_in known.now) self.old.number item }
         ensures queued { result ≡ true →
             self.new ≡ record self.old { items = still_waiting item self.old.items ++ item ∷ [] } }
         ensures lost { result ≡ false →
@@ -186,10 +216,11 @@ impl Outbox {
         ensures full { may_be_queued item (still_waiting item self.old.items) ≡ false →
             result ≡ false }
     {
-        self.drop_replaced(&item);
-        if !self.may_be_queued(&item) {
+        self.drop_replaced(item.item());
+        if !self.may_be_queued(item.item()) {
             return false;
         }
+        self.seen.learn(known);
         self.items.push(item).is_ok()
     }
 
@@ -214,29 +245,40 @@ impl Outbox {
         ensures { result ≡ replaces_one item.now (newest_item self.now.items) }
     {
         match self.items.last() {
-            Some(newest) => replaces(item, newest),
+            Some(newest) => replaces(item, newest.item()),
             None => false,
         }
     }
 
     /// Takes all that waits, in order.
-    pub fn take(&mut self, alloc: Global) -> Vec<Item>
+    pub fn take(&mut self, alloc: Global) -> Vec<SentItem<H>>
         ensures all { result.items ≡ self.old.items }
-        ensures queued { Each (IsQueued self.old.number) result.items }
+        ensures queued { Each (IsQueued H.nodes H.config self.old.number) result.items }
         ensures empty { self.new ≡ record self.old { items = [] } }
     {
+        self.seen.is_history();
         mem::replace(&mut self.items, Vec::new(alloc))
     }
 }
 
-impl Answer {
+impl<H: RunNaming> Answer<H> {
     /// Drops the answer: `outbox` is not its receiver's.
-    pub fn lose_at(self, outbox: &Outbox)
+    pub fn lose_at(self, outbox: &Outbox<H>)
         requires { outbox.now.number ≡ self.receiver → ⊥ }
     {
         let _ = outbox;
-        let _lost = self.into_message();
+        let _lost = self.into_sent();
     }
+}
+
+// Returns a message as an item for its receiver, and a prefix of the log in which it was sent.
+fn item_of<H: RunNaming>(message: SentMessage<H>) -> (SentItem<H>, SeenRun<H>)
+    ensures item { result.0 ≡ Peer message.message }
+    ensures sent { In (message.receiver, message.message) (sent_in result.1) }
+{
+    let (receiver, message, known) = message.into_parts();
+    let item = SentItem::new(receiver, Item::Peer(message), known.again());
+    (item, known)
 }
 
 fn is_of_node(item: &Item) -> bool

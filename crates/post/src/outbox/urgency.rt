@@ -7,6 +7,7 @@ ghost use Rattle.post.specs.outbox.Urgency.{wakes};
 
 use ballot_base::{Body, Message};
 use broker_spec::Command;
+use run_history::{RunNaming, SentItem};
 use world_base::node_core::Item;
 
 /// Returns true if the node is to be woken for an item that is queued for it.
@@ -20,10 +21,10 @@ pub fn is_urgent(item: &Item) -> bool
 }
 
 /// Returns true if the node is to be woken for one of these items.
-pub(crate) fn is_any_urgent(items: &[Item]) -> bool
+pub(crate) fn is_any_urgent<H: RunNaming>(items: &[SentItem<H>]) -> bool
     ensures { result ≡ list_any wakes items.now }
 {
-    items.iter().any(|item| is_urgent(item))
+    items.iter().any(|sent| is_urgent(sent.item()))
 }
 
 // Returns true for every message but a Commit, on which a backup applies places and sends nothing.

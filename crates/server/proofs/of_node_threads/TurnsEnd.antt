@@ -3,15 +3,15 @@ use Rattle.std.proofs.Common.{◌≡◌, List, [], sym, subst}
 use Rattle.broker_spec.specs.declared.command.Command.{Command}
 use Rattle.broker_spec.specs.declared.command.Output.{Output}
 use Rattle.ballot_base.specs.declared.message.Effect.{Effect}
-use Rattle.lists.specs.Lists.{Each}
 use Rattle.node.specs.State.{NodeStateView, next_taking}
-use Rattle.post.specs.outbox.Queued.{WasGiven}
+use Rattle.run_history.specs.Log.{sent_in}
+use Rattle.run_history.specs.Sending.{AllSent}
 use Rattle.server.specs.node_threads.Turns.{Turns}
 use Rattle.server.specs.node_threads.Turns.Turns.{begins, finds_none}
 
 -- nothing was given yet
-pub given_none : (node : NodeStateView) (given : List (Effect Command Output)) → given ≡ [] → Each WasGiven given × Turns node node given
-given_none node given none = subst (λ (l : List (Effect Command Output)). Each WasGiven l × Turns node node l) (sym none) (tt, begins)
+pub given_none : (node : NodeStateView) (given : List (Effect Command Output)) → given ≡ [] → AllSent (sent_in node.log) given × Turns node node given
+given_none node given none = subst (λ (l : List (Effect Command Output)). AllSent (sent_in node.log) l × Turns node node l) (sym none) (tt, begins)
 
 -- no item waited
 pub found_none : (old seen new : NodeStateView) (given after : List (Effect Command Output))

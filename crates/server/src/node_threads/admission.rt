@@ -6,6 +6,7 @@ use crate::node_threads::shared::Shared;
 use node::{HasState, NodeNaming};
 use node_base::devices::{Gate, PIECE_BYTES};
 use post::AdmittedBytes;
+use run_history::RunNaming;
 use std::sync::Wait;
 use std::thread;
 use std::time::{Clock, Duration};
@@ -14,7 +15,7 @@ use world_base::node_connections::{Port, Standing};
 /// How long a thread sleeps before it asks again for budget, in milliseconds.
 const ADMIT_LOOK_MILLIS: u64 = 1;
 
-impl<'a, J: NodeNaming, S: HasState<J>, G: Gate> Shared<'a, J, S, G> {
+impl<'a, H: RunNaming, J: NodeNaming, S: HasState<H, J>, G: Gate> Shared<'a, H, J, S, G> {
     /// Waits until the node's intake budget has room, and reserves `bytes` of it. Reserves nothing
     /// if there is only one node, if the node has closed the connection, or if the listener is
     /// closed.

@@ -14,6 +14,7 @@ use mailbox::Lane;
 use node::{HasState, NodeNaming};
 use node_base::connection::ReportSink;
 use node_base::devices::{Gate, PIECE_BYTES};
+use run_history::{RunNaming, SentItem};
 use std::alloc::Global;
 use std::sync::{Arc, Wait};
 use std::time::Clock;
@@ -23,16 +24,17 @@ use world_base::node_core::Item;
 
 /// A connection's lane, as the sink of its reports: what is reported is what the lane sent.
 #[derive(Drop)]
-pub(crate) struct LaneReporter<'e, 'a, J: NodeNaming, S: HasState<J>, G: Gate> {
-    pub(crate) served: &'e ServedNode<'a, J, S, G>,
+pub(crate) struct LaneReporter<'e, 'a, H: RunNaming, J: NodeNaming, S: HasState<H, J>, G: Gate> {
+    pub(crate) served: &'e ServedNode<'a, H, J, S, G>,
     /// All nodes of the program, whose turns it may do.
-    pub(crate) all: &'e [ServedNode<'a, J, S, G>],
+    pub(crate) all: &'e [ServedNode<'a, H, J, S, G>],
     pub(crate) link: &'e Arc<Link, Global>,
     /// The lane. While the connection lasts, it sends nothing else.
-    pub(crate) lane: Lane<Item, J>,
+    pub(crate) lane: Lane<SentItem<H>, J>,
 }
 
-impl<'e, 'a, J: NodeNaming, S: HasState<J>, G: Gate> ReportSink for LaneReporter<'e, 'a, J, S, G> {
+impl<'e, 'a, H: RunNaming, J: NodeNaming, S: HasState<H, J>, G: Gate> ReportSink
+    for LaneReporter<'e, 'a, H, J, S, G> {
     ghost heard = { λ reporter. reporter.lane.sent };
 
     // What decides is under a lock, of which no clause speaks.
@@ -52,7 +54,8 @@ impl<'e, 'a, J: NodeNaming, S: HasState<J>, G: Gate> ReportSink for LaneReporter
         let shared = &served.shared;
         let index = self.link.index;
         let admitted = shared.admit(rt, self.link.port, client_bytes_of(&item));
-        shared.send_and_take(rt, &mut self.lane, item);
+        let sent = SentItem::from_outside(rt, served.number, item, shared.opening.again());
+        shared.send_and_take(rt, &mut self.lane, sent);
         shared.context.peer.count_taken(rt, admitted);
         served.help(rt, all);
         shared.writer().write_busy(rt, index, true);

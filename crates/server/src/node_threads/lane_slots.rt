@@ -7,13 +7,13 @@ use crate::node_threads::served_node::ServedNode;
 use mailbox::Lane;
 use node::{HasState, NodeNaming};
 use node_base::devices::Gate;
+use run_history::{RunNaming, SentItem};
 use std::marker::Model;
 use std::sync::Wait;
 use std::thread;
 use std::thread::Threads;
 use std::time::Clock;
 use streams::{Closed, MAX_CONNECTIONS};
-use world_base::node_core::Item;
 
 /// A lane for the node's own thread, for each connection, and one more, so that an idle thread can
 /// close a surplus client.
@@ -26,14 +26,14 @@ pub const THREADS: usize = LANES as usize + 1;
 /// thread returned. The first slot is that of the node's own thread, the last that of the blocked
 /// writer. These two have no lane in their slots: the own thread's is under a lock.
 #[derive(Drop)]
-pub(crate) struct LaneSlot<J: NodeNaming> {
+pub(crate) struct LaneSlot<H: RunNaming, J: NodeNaming> {
     /// None while its thread uses it, and in slots without a lane.
-    pub(crate) lane: Option<Lane<Item, J>>,
+    pub(crate) lane: Option<Lane<SentItem<H>, J>>,
     /// None until the thread returns.
     pub(crate) closed: Option<Closed>,
 }
 
-impl<J: NodeNaming> Model for LaneSlot<J> {
+impl<H: RunNaming, J: NodeNaming> Model for LaneSlot<H, J> {
     ghost use Rattle.server.specs.node_threads.ThreadLives.{LaneSlotView};
 
     ghost Value = { LaneSlotView };
@@ -41,9 +41,9 @@ impl<J: NodeNaming> Model for LaneSlot<J> {
     ghost view = { λ slot. record { lane = slot.lane; closed = slot.closed } };
 }
 
-impl<J: NodeNaming> LaneSlot<J> {
+impl<H: RunNaming, J: NodeNaming> LaneSlot<H, J> {
     /// Returns the slot of a thread that has not begun.
-    pub(crate) fn new(lane: Option<Lane<Item, J>>) -> LaneSlot<J>
+    pub(crate) fn new(lane: Option<Lane<SentItem<H>, J>>) -> LaneSlot<H, J>
         ensures { result ≡ record { lane = lane; closed = None } }
     {
         LaneSlot { lane, closed: None }
@@ -52,16 +52,16 @@ impl<J: NodeNaming> LaneSlot<J> {
 
 /// The slots of a node's threads, and a list with capacity for all lanes, for the node's end.
 #[derive(Drop)]
-pub(crate) struct LaneSlots<J: NodeNaming> {
+pub(crate) struct LaneSlots<H: RunNaming, J: NodeNaming> {
     /// One for each thread, [`THREADS`] of them.
-    pub(crate) slots: Vec<LaneSlot<J>>,
+    pub(crate) slots: Vec<LaneSlot<H, J>>,
     /// Empty until the end, with capacity for [`LANES`].
-    pub(crate) back: Vec<Lane<Item, J>>,
+    pub(crate) back: Vec<Lane<SentItem<H>, J>>,
 }
 
-impl<J: NodeNaming> LaneSlots<J> {
+impl<H: RunNaming, J: NodeNaming> LaneSlots<H, J> {
     /// Returns the node's own lane, followed by those that are back in their slots.
-    pub(crate) fn into_lanes(self, own: Lane<Item, J>) -> Vec<Lane<Item, J>> {
+    pub(crate) fn into_lanes(self, own: Lane<SentItem<H>, J>) -> Vec<Lane<SentItem<H>, J>> {
         let LaneSlots { slots, mut back } = self;
         // There is room for all.
         let _ = back.push(own);
@@ -76,15 +76,16 @@ impl<J: NodeNaming> LaneSlots<J> {
 
 /// Runs a thread for each slot, until the listener is closed. If threads are missing, lanes wait
 /// until others come back; the node's own thread is started before all others.
-pub(crate) fn run<'a, J, S, G, R>(
+pub(crate) fn run<'a, H, J, S, G, R>(
     rt: &R,
-    all: &[ServedNode<'a, J, S, G>],
-    node: &ServedNode<'a, J, S, G>,
-    slots: &mut [LaneSlot<J>],
+    all: &[ServedNode<'a, H, J, S, G>],
+    node: &ServedNode<'a, H, J, S, G>,
+    slots: &mut [LaneSlot<H, J>],
 )
 where
+    H: RunNaming + Send + Sync,
     J: NodeNaming + Send + Sync,
-    S: HasState<J> + Send,
+    S: HasState<H, J> + Send,
     G: Gate + Sync,
     R: Threads + Wait + Clock + Sync,
     ensures { (index : ℕ) (other : _) → index < length slots.old → Returns node.now.number
@@ -98,14 +99,14 @@ where
     );
 }
 
-impl<'a, J: NodeNaming, S: HasState<J>, G: Gate> ServedNode<'a, J, S, G> {
+impl<'a, H: RunNaming, J: NodeNaming, S: HasState<H, J>, G: Gate> ServedNode<'a, H, J, S, G> {
     // Runs the thread of a slot. One with a lane serves connections by it, and puts it back.
     fn run_slot<R: Wait + Clock>(
         &self,
         rt: &R,
-        all: &[ServedNode<'a, J, S, G>],
+        all: &[ServedNode<'a, H, J, S, G>],
         index: usize,
-        slot: &mut LaneSlot<J>,
+        slot: &mut LaneSlot<H, J>,
     )
         ensures { Returns self.now.number slot.old slot.new }
     {

@@ -11,27 +11,27 @@ use mailbox::Lane;
 use node::{HasState, NodeNaming};
 use node_base::connection::report_connection;
 use node_base::devices::{Counted, Gate};
+use run_history::{RunNaming, SentItem};
 use std::alloc::Global;
 use std::net::TcpStream;
 use std::sync::{Arc, Wait};
 use std::time::Clock;
 use streams::{Closed, Link, forget, port_of};
 use world_base::node_connections::Port;
-use world_base::node_core::Item;
 
 /// How many connections a lane serves in its life, each at a port of its own.
 const MAX_CONNECTIONS_OF_LANE: u64 = 1 << 56;
 
-impl<'a, J: NodeNaming, S: HasState<J>, G: Gate> ServedNode<'a, J, S, G> {
+impl<'a, H: RunNaming, J: NodeNaming, S: HasState<H, J>, G: Gate> ServedNode<'a, H, J, S, G> {
     /// Serves one client after another until it sees the listener closed. Returns the lane and the
     /// witness, or no witness if all ports are used. For each connection the lane sent the whole
     /// report, at a port that no other has, and nothing else.
     pub(crate) fn serve_lane<R: Wait + Clock>(
         &self,
         rt: &R,
-        all: &[ServedNode<'a, J, S, G>],
-        lane: Lane<Item, J>,
-    ) -> (Lane<Item, J>, Option<Closed>)
+        all: &[ServedNode<'a, H, J, S, G>],
+        lane: Lane<SentItem<H>, J>,
+    ) -> (Lane<SentItem<H>, J>, Option<Closed>)
         ensures row { SendsRow lane.lane lane.sent result.0.sent }
         ensures ends { EndsBy self.now.number lane.lane result.1 lane.sent result.0.sent }
     {
@@ -52,11 +52,11 @@ impl<'a, J: NodeNaming, S: HasState<J>, G: Gate> ServedNode<'a, J, S, G> {
     fn serve_stream<R: Wait + Clock>(
         &self,
         rt: &R,
-        all: &[ServedNode<'a, J, S, G>],
-        lane: Lane<Item, J>,
+        all: &[ServedNode<'a, H, J, S, G>],
+        lane: Lane<SentItem<H>, J>,
         stream: TcpStream,
         port: Port,
-    ) -> Lane<Item, J>
+    ) -> Lane<SentItem<H>, J>
         ensures { ReportsOne port lane.sent result.sent }
     {
         let listener = self.shared.context.listener;
@@ -76,10 +76,10 @@ impl<'a, J: NodeNaming, S: HasState<J>, G: Gate> ServedNode<'a, J, S, G> {
     fn serve_link<R: Wait + Clock>(
         &self,
         rt: &R,
-        all: &[ServedNode<'a, J, S, G>],
-        lane: Lane<Item, J>,
+        all: &[ServedNode<'a, H, J, S, G>],
+        lane: Lane<SentItem<H>, J>,
         link: Arc<Link, Global>,
-    ) -> Lane<Item, J>
+    ) -> Lane<SentItem<H>, J>
         ensures { SendsWhole (arc_value link).port lane.sent result.sent }
     {
         let port = link.port;
@@ -93,10 +93,10 @@ impl<'a, J: NodeNaming, S: HasState<J>, G: Gate> ServedNode<'a, J, S, G> {
     fn report_link<R: Wait + Clock>(
         &self,
         rt: &R,
-        all: &[ServedNode<'a, J, S, G>],
-        lane: Lane<Item, J>,
+        all: &[ServedNode<'a, H, J, S, G>],
+        lane: Lane<SentItem<H>, J>,
         link: &Arc<Link, Global>,
-    ) -> Lane<Item, J>
+    ) -> Lane<SentItem<H>, J>
         ensures { SendsWhole (arc_value link.now).port lane.sent result.sent }
     {
         let mut reporter = LaneReporter {
@@ -112,7 +112,7 @@ impl<'a, J: NodeNaming, S: HasState<J>, G: Gate> ServedNode<'a, J, S, G> {
     }
 }
 
-impl<'a, J: NodeNaming, S: HasState<J>, G: Gate> Shared<'a, J, S, G> {
+impl<'a, H: RunNaming, J: NodeNaming, S: HasState<H, J>, G: Gate> Shared<'a, H, J, S, G> {
     // Returns the connection of a stream that was just accepted.
     fn link<R: Clock>(
         &self,
@@ -129,6 +129,6 @@ impl<'a, J: NodeNaming, S: HasState<J>, G: Gate> Shared<'a, J, S, G> {
 
     // Drops what the node still holds for a connection that has ended.
     fn forget_closed<R: Wait>(&self, rt: &R, port: Port) {
-        forget(self.alloc, self.node.lock(rt).state(), port);
+        forget(rt, self.alloc, self.node.lock(rt).state(), port);
     }
 }

@@ -1,26 +1,30 @@
 // What the threads of a node know of its surroundings.
 
-ghost use Rattle.std.specs.Prelude.{◌≡◌, IfSome};
+ghost use Rattle.std.specs.Prelude.{◌≡◌, IfSome, is_some, map};
+ghost use Rattle.lists.specs.Lists.{has_id};
 
 use post::{Cluster, Peer};
+use run_history::RunNaming;
 use std::time::{Clock, Instant};
 use streams::Listener;
 
 /// The listeners of all nodes, and what the nodes have in common.
-#[derive(Clone, Copy)]
-pub struct NodeContexts<'a> {
+#[derive(Drop)]
+pub struct NodeContexts<'a, H: RunNaming> {
     /// The nodes and their master.
-    pub cluster: &'a Cluster,
+    pub cluster: &'a Cluster<H>,
     /// The listener of each node.
     pub listeners: &'a [Listener],
     /// The zero of the nodes' clocks.
     pub start: Instant,
 }
 
-impl<'a> NodeContexts<'a> {
+impl<'a, H: RunNaming> NodeContexts<'a, H> {
     /// Returns the listener of the node of this number.
-    pub fn listener_of(self, number: u8) -> Option<&'a Listener>
-        ensures { IfSome result (λ listener. listener.now.number ≡ number) }
+    pub fn listener_of(&self, number: u8) -> Option<&'a Listener>
+        ensures some { IfSome result (λ listener. listener.now.number ≡ number) }
+        ensures is { is_some result
+            ≡ has_id number (map (λ listener. listener.number) self.now.listeners.now) }
     {
         self.listeners
             .iter()
@@ -28,7 +32,7 @@ impl<'a> NodeContexts<'a> {
     }
 
     /// Returns the context of the node of this number, if a listener has it.
-    pub(crate) fn context_of(self, number: u8) -> Option<NodeContext<'a>>
+    pub(crate) fn context_of(&self, number: u8) -> Option<NodeContext<'a, H>>
         ensures { IfSome result (λ context. context.listener.now.number ≡ number) }
     {
         let listener = self.listener_of(number)?;
@@ -37,25 +41,25 @@ impl<'a> NodeContexts<'a> {
 }
 
 /// A node's listener, the node as others see it, and the other nodes.
-#[derive(Clone, Copy)]
-pub(crate) struct NodeContext<'a> {
-    pub(crate) cluster: &'a Cluster,
+#[derive(Drop)]
+pub(crate) struct NodeContext<'a, H: RunNaming> {
+    pub(crate) cluster: &'a Cluster<H>,
     /// The node as others see it.
-    pub(crate) peer: &'a Peer,
+    pub(crate) peer: &'a Peer<H>,
     /// The listener, which has the node's number.
     pub(crate) listener: &'a Listener,
     // The zero of the node's clock.
     start: Instant,
 }
 
-impl<'a> NodeContext<'a> {
+impl<'a, H: RunNaming> NodeContext<'a, H> {
     /// Returns the context of a listener. Times are counted from `start`. Returns none if no node
     /// has the listener's number.
     pub(crate) fn new(
-        cluster: &'a Cluster,
+        cluster: &'a Cluster<H>,
         listener: &'a Listener,
         start: Instant,
-    ) -> Option<NodeContext<'a>>
+    ) -> Option<NodeContext<'a, H>>
         ensures { IfSome result (λ context. context.listener.now.number ≡ listener.now.number) }
     {
         let peer = cluster.node(listener.number)?;

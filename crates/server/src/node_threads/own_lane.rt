@@ -1,42 +1,51 @@
 // The lane for everything that does not come from a node's clients.
 
 ghost use Rattle.std.specs.Prelude.{◌≡◌, []};
+ghost use Rattle.run_history.specs.Log.{sent_in};
 ghost use Rattle.server.specs.node_threads.LaneReports.{SendsOwn};
 
 use mailbox::Lane;
 use node::NodeNaming;
+use run_history::{RunNaming, SeenRun, SentItem};
 use std::marker::Model;
-use world_base::node_core::Item;
 
 /// The lane by which everything is sent to a node that does not come from its clients, and the
 /// node's number. It is under a lock, so its type says what it sent since it was made: ticks, cuts
 /// of the log, and what was queued for the node. No clause of a call that locks it says whose it
 /// is, so whoever locks it asks it for its number.
 #[derive(Drop)]
-pub(crate) struct OwnLane<J: NodeNaming> {
+pub(crate) struct OwnLane<H: RunNaming, J: NodeNaming> {
     number: u8,
     /// The lane; all that it sent was meant for this node.
-    pub(crate) lane: Lane<Item, J>,
+    pub(crate) lane: Lane<SentItem<H>, J>,
+    /// A prefix of the log in which the messages that it handed on were sent.
+    pub(crate) seen: SeenRun<H>,
 }
 
-impl<J: NodeNaming> Model for OwnLane<J> {
+impl<H: RunNaming, J: NodeNaming> Model for OwnLane<H, J> {
     ghost use Rattle.std.specs.Prelude.{[]};
+    ghost use Rattle.run_history.specs.Log.{sent_in};
     ghost use Rattle.server.specs.node_threads.LaneReports.{OwnLaneView, SendsOwn};
 
     ghost Value = { OwnLaneView };
 
-    ghost view = { λ own. record { number = own.number; lane = own.lane } };
+    ghost view = { λ own. record { number = own.number; lane = own.lane; log = own.seen } };
 
-    ghost invariant = { λ own. SendsOwn own.number [] own.lane.sent };
+    ghost invariant = { λ own. SendsOwn (sent_in own.seen) own.number [] own.lane.sent };
 }
 
-impl<J: NodeNaming> OwnLane<J> {
-    /// Returns the own lane of this node, on which nothing was sent.
-    pub(crate) fn new(number: u8, lane: Lane<Item, J>) -> OwnLane<J>
+impl<H: RunNaming, J: NodeNaming> OwnLane<H, J> {
+    /// Returns the own lane of this node, on which nothing was sent. `opening` is any prefix of the
+    /// run's log.
+    pub(crate) fn new(number: u8, lane: Lane<SentItem<H>, J>, opening: SeenRun<H>) -> OwnLane<H, J>
         requires { lane.sent ≡ [] }
-        ensures { result ≡ record { number = number; lane = lane } }
+        ensures { result ≡ record { number = number; lane = lane; log = opening } }
     {
-        OwnLane { number, lane }
+        OwnLane {
+            number,
+            lane,
+            seen: opening,
+        }
     }
 
     pub(crate) fn number(&self) -> u8
@@ -45,9 +54,9 @@ impl<J: NodeNaming> OwnLane<J> {
         self.number
     }
 
-    pub(crate) fn into_lane(self) -> Lane<Item, J>
+    pub(crate) fn into_lane(self) -> Lane<SentItem<H>, J>
         ensures lane { result ≡ self.lane }
-        ensures sent { SendsOwn self.number [] result.sent }
+        ensures sent { SendsOwn (sent_in self.log) self.number [] result.sent }
     {
         self.lane
     }

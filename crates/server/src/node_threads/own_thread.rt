@@ -9,14 +9,14 @@
 
 ghost use Rattle.std.specs.Prelude.{◌≡◌};
 ghost use Rattle.post.specs.outbox.Queued.{IsQueued};
-ghost use Rattle.server.specs.node_threads.LaneReports.{SendsOwn};
+ghost use Rattle.server.specs.node_threads.LaneReports.{IsOwn, SendsMore};
 
 use crate::node_threads::own_lane::OwnLane;
 use crate::node_threads::served_node::ServedNode;
 use crate::node_threads::shared::Shared;
-use mailbox::Lane;
 use node::{HasState, NodeNaming, cuts_after, is_overdue};
 use node_base::devices::Gate;
+use run_history::{RunNaming, SentItem};
 use std::hint;
 use std::sync::Wait;
 use std::time::{Clock, Duration};
@@ -44,7 +44,7 @@ struct LastTick {
     ticks: u64,
 }
 
-impl<'a, J: NodeNaming, S: HasState<J>, G: Gate> ServedNode<'a, J, S, G> {
+impl<'a, H: RunNaming, J: NodeNaming, S: HasState<H, J>, G: Gate> ServedNode<'a, H, J, S, G> {
     /// Works as the node's own thread until it sees the listener closed. Returns the witness.
     pub(crate) fn run_own_thread<R: Wait + Clock>(&self, rt: &R) -> Closed
         ensures { result ≡ self.now.number }
@@ -72,63 +72,72 @@ impl<'a, J: NodeNaming, S: HasState<J>, G: Gate> ServedNode<'a, J, S, G> {
     fn do_own_turn<R: Wait + Clock>(&self, rt: &R, last: LastTick) -> LastTick {
         let mut own = self.own.lock(rt);
         // The numbers are always equal: the lane is this node's (see `ServedNode::own`).
-        if own.number() != self.shared.context.peer.number {
+        let peer = self.shared.context.peer;
+        if own.number() != peer.number {
             return last;
         }
         self.shared.do_turn_by(rt, &mut own, last)
     }
 }
 
-impl<'a, J: NodeNaming, S: HasState<J>, G: Gate> Shared<'a, J, S, G> {
+impl<'a, H: RunNaming, J: NodeNaming, S: HasState<H, J>, G: Gate> Shared<'a, H, J, S, G> {
     // Takes what was queued for the node, and sends a tick and a cut if they are due. Returns the
     // last tick.
-    fn do_turn_by<R: Wait + Clock>(&self, rt: &R, own: &mut OwnLane<J>, last: LastTick) -> LastTick
+    fn do_turn_by<R: Wait + Clock>(
+        &self,
+        rt: &R,
+        own: &mut OwnLane<H, J>,
+        last: LastTick,
+    ) -> LastTick
         requires { own.old.number ≡ self.now.context.peer.now.number }
+        ensures { SendsMore own.old own.new }
     {
-        self.take_queued(rt, &mut own.lane);
-        let last = self.tick(rt, &mut own.lane, last);
-        self.cut_by_size(rt, &mut own.lane);
+        self.take_queued(rt, own);
+        let last = self.tick(rt, own, last);
+        self.cut_by_size(rt, own);
         last
     }
 
-    /// Takes what was queued for the node up to now. It only calls `take_queued`: its premise shows
-    /// that the own lane keeps its invariant.
-    pub(crate) fn take_queued_by<R: Wait + Clock>(&self, rt: &R, own: &mut OwnLane<J>)
-        requires { own.old.number ≡ self.now.context.peer.now.number }
-    {
-        self.take_queued(rt, &mut own.lane);
-    }
-
     // Sends a tick if it is due, and then a cut if that is due by time. Returns the last tick.
-    fn tick<R: Wait + Clock>(&self, rt: &R, lane: &mut Lane<Item, J>, last: LastTick) -> LastTick
-        ensures { SendsOwn self.now.context.peer.now.number lane.old.sent lane.new.sent }
+    fn tick<R: Wait + Clock>(&self, rt: &R, own: &mut OwnLane<H, J>, last: LastTick) -> LastTick
+        ensures { SendsMore own.old own.new }
     {
         let now = self.context.now(rt);
         if now.saturating_sub(last.time) < TICK_MILLIS {
             return last;
         }
-        self.send_and_take(rt, lane, Item::Tick(now));
+        self.send_own(rt, own, Item::Tick(now));
         let ticks = last.ticks.saturating_add(1);
-        self.cut_in_time(rt, lane, ticks);
+        self.cut_in_time(rt, own, ticks);
         LastTick { time: now, ticks }
     }
 
-    // Sends a cut, if it is due after this many ticks.
-    fn cut_in_time<R: Wait + Clock>(&self, rt: &R, lane: &mut Lane<Item, J>, ticks: u64)
-        ensures { SendsOwn self.now.context.peer.now.number lane.old.sent lane.new.sent }
+    // Sends a tick or a cut, and then takes what waits in the inbox.
+    fn send_own<R: Wait + Clock>(&self, rt: &R, own: &mut OwnLane<H, J>, item: Item)
+        requires { IsOwn item }
+        ensures { SendsMore own.old own.new }
     {
-        if cuts_after(self.context.peer.number, ticks) {
-            self.send_and_take(rt, lane, Item::Cut);
+        let sent = SentItem::from_outside(rt, own.number(), item, self.opening.again());
+        self.send_and_take(rt, &mut own.lane, sent);
+    }
+
+    // Sends a cut, if it is due after this many ticks.
+    fn cut_in_time<R: Wait + Clock>(&self, rt: &R, own: &mut OwnLane<H, J>, ticks: u64)
+        ensures { SendsMore own.old own.new }
+    {
+        let peer = self.context.peer;
+        if cuts_after(peer.number, ticks) {
+            self.send_own(rt, own, Item::Cut);
         }
     }
 
     // Sends a cut, if the size of the log makes it due.
-    fn cut_by_size<R: Wait + Clock>(&self, rt: &R, lane: &mut Lane<Item, J>)
-        ensures { SendsOwn self.now.context.peer.now.number lane.old.sent lane.new.sent }
+    fn cut_by_size<R: Wait + Clock>(&self, rt: &R, own: &mut OwnLane<H, J>)
+        ensures { SendsMore own.old own.new }
     {
         let wants_cut = self.node.lock(rt).state().wants_cut();
         if wants_cut {
-            self.send_and_take(rt, lane, Item::Cut);
+            self.send_own(rt, own, Item::Cut);
         }
     }
 
@@ -152,27 +161,39 @@ impl<'a, J: NodeNaming, S: HasState<J>, G: Gate> Shared<'a, J, S, G> {
         is_overdue(standing, link.opened, now)
     }
 
-    // Takes all that was queued for the node up to now. If that is something, takes items until the
-    // inbox is empty.
-    fn take_queued<R: Wait + Clock>(&self, rt: &R, lane: &mut Lane<Item, J>)
-        ensures { SendsOwn self.now.context.peer.now.number lane.old.sent lane.new.sent }
+    /// Takes all that was queued for the node up to now. If that is something, takes items until
+    /// the inbox is empty.
+    pub(crate) fn take_queued<R: Wait + Clock>(&self, rt: &R, own: &mut OwnLane<H, J>)
+        requires { own.old.number ≡ self.now.context.peer.now.number }
+        ensures { SendsMore own.old own.new }
     {
         let items = self.context.peer.take_waiting(rt, self.alloc);
         if items.is_empty() {
             return;
         }
         for item in items {
-            self.send_queued(rt, lane, item);
+            self.send_queued(rt, own, item);
         }
-        self.take_until_empty(rt, lane);
+        self.take_all(rt, own);
     }
 
-    // Sends a queued item. It only calls `send`: its premise shows which items the own lane sends.
-    fn send_queued<R: Wait + Clock>(&self, rt: &R, lane: &mut Lane<Item, J>, item: Item)
-        requires { IsQueued self.now.context.peer.now.number item }
-        ensures { SendsOwn self.now.context.peer.now.number lane.old.sent lane.new.sent }
+    // Takes items until the inbox is empty. It only calls `take_until_empty`, which sends nothing.
+    fn take_all<R: Wait + Clock>(&self, rt: &R, own: &mut OwnLane<H, J>)
+        ensures { SendsMore own.old own.new }
     {
-        self.send(rt, lane, item);
+        self.take_until_empty(rt, &mut own.lane);
+    }
+
+    // Sends a queued item. One that is not for this node is dropped, which does not occur.
+    fn send_queued<R: Wait + Clock>(&self, rt: &R, own: &mut OwnLane<H, J>, item: SentItem<H>)
+        requires { IsQueued H.nodes H.config self.now.context.peer.now.number item }
+        ensures { SendsMore own.old own.new }
+    {
+        let (number, item, seen) = item.into_parts();
+        if number == own.number() {
+            own.seen.learn(&seen);
+            self.send(rt, &mut own.lane, SentItem::new(number, item, seen));
+        }
     }
 
     // Sleeps until an item is queued or a tick is due, unless an item comes at once.

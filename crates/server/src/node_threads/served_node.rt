@@ -7,10 +7,12 @@
 // waker's. A thread that helps only tries it, so no two threads wait for each other's own lanes.
 // `lane_slots` is taken only while no other lock is held.
 
-ghost use Rattle.std.specs.Prelude.{◌≡◌, [], IfOk, map};
+ghost use Rattle.std.specs.Prelude.{◌≡◌, ◌+◌, [], IfOk, map};
 ghost use Rattle.lists.specs.Lists.{Each};
 ghost use Rattle.node.specs.State.{EachOpensAs};
-ghost use Rattle.server.specs.node_threads.Named.{AreNamed};
+ghost use Rattle.run_history.specs.Log.{items_taken};
+ghost use Rattle.server.specs.declared.node_threads.lane_slots.TheConstants.{LANES};
+ghost use Rattle.server.specs.node_threads.Named.{AreFresh, AreNamed};
 
 use crate::node_threads::lane_slots::{LANES, LaneSlot, LaneSlots, THREADS, run};
 use crate::node_threads::node_context::{NodeContext, NodeContexts};
@@ -22,7 +24,9 @@ use machine::Memory;
 use mailbox::Lane;
 use node::{HasState, Node, NodeNaming, NodeState, Report};
 use node_base::devices::Gate;
+use run_history::{NodeOnRecord, RunNaming, SeenRun, SentItem};
 use std::alloc::Global;
+use std::marker::Model;
 use std::mem;
 use std::net::{Net, TcpStream};
 use std::sync::{Mutex, Wait};
@@ -30,24 +34,24 @@ use std::thread::Threads;
 use std::time::Clock;
 use streams::Closed;
 use streams::writer::BlockedLinks;
-use world_base::node_core::Item;
 
 /// A node that serves: what its threads share, and their lanes.
 #[derive(Drop)]
-pub struct ServedNode<'a, J: NodeNaming, S: HasState<J>, G: Gate> {
+pub struct ServedNode<'a, H: RunNaming, J: NodeNaming, S: HasState<H, J>, G: Gate> {
     /// The node's number, which is that of its listener.
     pub number: u8,
-    pub(crate) shared: Shared<'a, J, S, G>,
+    pub(crate) shared: Shared<'a, H, J, S, G>,
     /// The own lane. Its holder does the node's turn with what was queued for it: the node's own
     /// thread, or a thread that queued something. It is this node's, but is under a lock, so no
     /// clause says that (see [`OwnLane`]): whoever locks it compares the numbers, which are always
     /// equal.
-    pub(crate) own: Mutex<OwnLane<J>>,
+    pub(crate) own: Mutex<OwnLane<H, J>>,
     // The lanes of its connections, while no thread uses them.
-    lane_slots: Mutex<LaneSlots<J>>,
+    lane_slots: Mutex<LaneSlots<H, J>>,
     /// Whether a gate is asked before each taking.
     pub(crate) is_gated: bool,
     pub(crate) ghost its: { number ≡ shared.context.listener.now.number },
+    pub(crate) ghost lanes: { shared.node.lanes ≡ LANES },
 }
 
 /// The fate of the items that were sent to one of the nodes.
@@ -59,31 +63,52 @@ pub struct NodeReport {
     pub report: Report,
 }
 
-impl<'a, J: NodeNaming, G: Gate> ServedNode<'a, J, NodeState<J>, G> {
+/// How a node ended: the node as the run has it on record, and its report, which is right about it
+/// by the prefix of the log that it knows.
+#[derive(Drop)]
+pub struct EndedNode<H: RunNaming> {
+    pub(crate) report: NodeReport,
+    pub(crate) node: NodeOnRecord<H>,
+}
+
+impl<H: RunNaming> Model for EndedNode<H> {
+    ghost use Rattle.server.specs.Ended.{EndedView, IsTold};
+
+    ghost Value = { EndedView };
+
+    ghost view = { λ ended. record { report = ended.report; node = ended.node } };
+
+    ghost invariant = { λ ended. IsTold (record { report = ended.report; node = ended.node }) };
+}
+
+impl<'a, H: RunNaming, J: NodeNaming, G: Gate> ServedNode<'a, H, J, NodeState<H, J>, G> {
     /// Returns a node that opened, ready to serve. The only error is that memory ran out.
     pub(crate) fn start<R: Wait>(
         rt: &R,
         alloc: Global,
-        context: NodeContext<'a>,
+        context: NodeContext<'a, H>,
         config: &'a Config,
-        opened: OpenedNode,
+        opened: OpenedNode<H>,
+        opening: &SeenRun<H>,
         gate: Option<&'a G>,
-    ) -> Result<ServedNode<'a, J, NodeState<J>, G>, Memory>
+    ) -> Result<ServedNode<'a, H, J, NodeState<H, J>, G>, Memory>
         requires context { context.listener.now.number ≡ opened.number }
         requires named { opened.inbox ≡ J.inbox_of opened.number }
-        requires first { opened.core ≡ J.first_of opened.number }
+        requires first { opened.node.node ≡ J.first_of opened.number }
+        requires index { opened.node.index + 1 ≡ opened.number }
+        requires none { items_taken opened.number opened.node.log ≡ [] }
         requires opens { EachOpensAs config.now J.first_of }
         ensures { IfOk result (λ node. node.number ≡ opened.number) }
     {
         let OpenedNode {
             number,
             inbox,
-            core,
+            node,
         } = opened;
-        context.peer.show(rt, core.status());
+        context.peer.show(rt, node.core().status());
         let (receiver, lanes) = inbox.named::<J>(number, LANES)?;
-        let (own, lane_slots) = lane_slots_of(alloc, number, lanes)?;
-        let node = Node::start(alloc, NodeState::new(receiver, core), gate)?;
+        let (own, lane_slots) = lane_slots_of(alloc, number, lanes, opening)?;
+        let node = Node::start(alloc, NodeState::new(receiver, node), gate)?;
         let blocked = BlockedLinks::new(alloc)?;
         Ok(ServedNode {
             number,
@@ -93,6 +118,7 @@ impl<'a, J: NodeNaming, G: Gate> ServedNode<'a, J, NodeState<J>, G> {
                 context,
                 config,
                 blocked,
+                opening: opening.again(),
             },
             own: Mutex::new(own),
             lane_slots: Mutex::new(lane_slots),
@@ -100,12 +126,13 @@ impl<'a, J: NodeNaming, G: Gate> ServedNode<'a, J, NodeState<J>, G> {
         })
     }
 
-    /// Ends the node, whose listener is closed and whose threads have returned, and reports the
-    /// fate of the items that were sent to it. Fails if not all its lanes came back. They were
-    /// under a lock, so the clause says only whose report it is.
-    pub fn close<R: Wait>(self, rt: &R, _closed: Closed) -> Result<NodeReport, Memory>
+    /// Ends the node, whose listener is closed and whose threads have returned. Reports the fate of
+    /// the items that were sent to it, and returns the node as the run has it on record. Fails if
+    /// not all its lanes came back. They were under a lock, so the clauses say nothing of what they
+    /// sent; that the report is right about what the node took is said by the type.
+    pub fn close<R: Wait>(self, rt: &R, _closed: Closed) -> Result<EndedNode<H>, Memory>
         requires { _closed ≡ self.number }
-        ensures { IfOk result (λ report. report.number ≡ self.entry.number) }
+        ensures { IfOk result (λ ended. ended.report.number ≡ self.entry.number) }
     {
         let ServedNode {
             number,
@@ -117,12 +144,13 @@ impl<'a, J: NodeNaming, G: Gate> ServedNode<'a, J, NodeState<J>, G> {
         let mut lanes = lane_slots
             .into_inner()
             .into_lanes(own.into_inner().into_lane());
-        let report = shared.close(rt, lanes.as_mut_slice())?;
-        Ok(NodeReport { number, report })
+        let (report, node) = shared.close(rt, lanes.as_mut_slice())?;
+        let report = NodeReport { number, report };
+        Ok(EndedNode { report, node })
     }
 }
 
-impl<'a, J: NodeNaming, S: HasState<J>, G: Gate> ServedNode<'a, J, S, G> {
+impl<'a, H: RunNaming, J: NodeNaming, S: HasState<H, J>, G: Gate> ServedNode<'a, H, J, S, G> {
     /// Ends all connections of the node, and admits no more: its threads return. Returns the
     /// witness that its listener is closed. The clause says only whose witness it is.
     pub fn close_listener<R: Wait + Clock + Net<Stream = TcpStream>>(&self, rt: &R) -> Closed
@@ -132,14 +160,15 @@ impl<'a, J: NodeNaming, S: HasState<J>, G: Gate> ServedNode<'a, J, S, G> {
     }
 }
 
-impl<'a, J, S, G> ServedNode<'a, J, S, G>
+impl<'a, H, J, S, G> ServedNode<'a, H, J, S, G>
 where
+    H: RunNaming + Send + Sync,
     J: NodeNaming + Send + Sync,
-    S: HasState<J> + Send,
+    S: HasState<H, J> + Send,
     G: Gate + Sync,
 {
     /// Runs the node's threads until the listener is closed. No clause says so.
-    pub fn work<R>(&self, rt: &R, all: &[ServedNode<'a, J, S, G>])
+    pub fn work<R>(&self, rt: &R, all: &[ServedNode<'a, H, J, S, G>])
     where
         R: Threads + Wait + Clock + Sync,
     {
@@ -154,15 +183,17 @@ where
 
 /// Returns a served node for each that opened, with its listener's context. Fails if memory ran
 /// out, or if a node has no listener; no clause says when.
-pub fn start_all<'a, J: NodeNaming, R: Wait, G: Gate>(
+pub fn start_all<'a, H: RunNaming, J: NodeNaming, R: Wait, G: Gate>(
     rt: &R,
     alloc: Global,
-    contexts: NodeContexts<'a>,
+    contexts: &NodeContexts<'a, H>,
     config: &'a Config,
-    opened: Vec<OpenedNode>,
+    opened: Vec<OpenedNode<H>>,
+    opening: &SeenRun<H>,
     gate: Option<&'a G>,
-) -> Result<Vec<ServedNode<'a, J, NodeState<J>, G>>, Memory>
+) -> Result<Vec<ServedNode<'a, H, J, NodeState<H, J>, G>>, Memory>
     requires named { AreNamed J.inbox_of J.first_of opened.items }
+    requires fresh { AreFresh opened.items }
     requires opens { EachOpensAs config.now J.first_of }
     ensures { IfOk result (λ nodes.
         map (λ node. node.number) nodes.items ≡ map (λ one. one.number) opened.items) }
@@ -171,18 +202,19 @@ pub fn start_all<'a, J: NodeNaming, R: Wait, G: Gate>(
     for one in opened {
         // A node was opened for each listener, and is in the cluster. No clause says so.
         let context = contexts.context_of(one.number).ok_or(Memory)?;
-        nodes.push(ServedNode::start(rt, alloc, context, config, one, gate)?)?;
+        nodes.push(ServedNode::start(rt, alloc, context, config, one, opening, gate)?)?;
     }
     Ok(nodes)
 }
 
 // Returns the node's own lane, the first of these, and the slots of its threads with the others.
 // Fails if memory ran out, or if there is no lane.
-fn lane_slots_of<J: NodeNaming>(
+fn lane_slots_of<H: RunNaming, J: NodeNaming>(
     alloc: Global,
     number: u8,
-    lanes: Vec<Lane<Item, J>>,
-) -> Result<(OwnLane<J>, LaneSlots<J>), Memory>
+    lanes: Vec<Lane<SentItem<H>, J>>,
+    opening: &SeenRun<H>,
+) -> Result<(OwnLane<H, J>, LaneSlots<H, J>), Memory>
     requires { Each (λ lane. lane.sent ≡ []) lanes.items }
     ensures { IfOk result (λ made. made.0.number ≡ number) }
 {
@@ -199,5 +231,6 @@ fn lane_slots_of<J: NodeNaming>(
         slots.push(LaneSlot::new(Some(lane)))?;
     }
     slots.push(LaneSlot::new(None))?;
-    Ok((OwnLane::new(number, own), LaneSlots { slots, back }))
+    let own = OwnLane::new(number, own, opening.again());
+    Ok((own, LaneSlots { slots, back }))
 }

@@ -1,6 +1,6 @@
 // What the threads of a node share.
 
-ghost use Rattle.std.specs.Prelude.{◌≡◌, All, IfOk, OnErr, OnOk, map};
+ghost use Rattle.std.specs.Prelude.{◌≡◌, All, IfOk, OnErr, OnOk, length, map};
 ghost use Rattle.mailbox.specs.Ends.{ArrivesWhole, unmet};
 ghost use Rattle.node.specs.LockedNode.{AreItsLanes, ReportsOn};
 ghost use Rattle.node.specs.State.{EachOpensAs};
@@ -11,41 +11,45 @@ use machine::Memory;
 use mailbox::Lane;
 use node::{HasState, Node, NodeNaming, NodeState, Report};
 use node_base::devices::Gate;
+use run_history::{NodeOnRecord, RunNaming, SeenRun, SentItem};
 use std::alloc::Global;
 use std::sync::Wait;
 use streams::writer::{BlockedLinks, Writer};
-use world_base::node_core::Item;
 
 /// What the threads of a node share. No thread waits while it holds one of the locks, except for
 /// its turn at a gate.
 #[derive(Drop)]
-pub(crate) struct Shared<'a, J: NodeNaming, S: HasState<J>, G: Gate> {
+pub(crate) struct Shared<'a, H: RunNaming, J: NodeNaming, S: HasState<H, J>, G: Gate> {
     pub(crate) alloc: Global,
-    pub(crate) node: Node<'a, J, S, G>,
+    pub(crate) node: Node<'a, H, J, S, G>,
     /// Its listener, the other nodes, and its clock.
-    pub(crate) context: NodeContext<'a>,
+    pub(crate) context: NodeContext<'a, H>,
     /// The configuration in which all nodes opened.
     pub(crate) config: &'a Config,
     pub(crate) blocked: BlockedLinks,
+    /// The log of the run as it opened: all that is known of what comes from outside.
+    pub(crate) opening: SeenRun<H>,
     pub(crate) ghost opens: { EachOpensAs config.now J.first_of },
     pub(crate) ghost named: { node.number ≡ context.listener.now.number },
 }
 
-impl<'a, J: NodeNaming, G: Gate> Shared<'a, J, NodeState<J>, G> {
-    /// Ends the node, whose threads have returned, and reports the fate of the items that these
-    /// lanes sent. Fails with `Memory` if they are not all its lanes, in order.
+impl<'a, H: RunNaming, J: NodeNaming, G: Gate> Shared<'a, H, J, NodeState<H, J>, G> {
+    /// Ends the node, whose threads have returned. Reports the fate of the items that these lanes
+    /// sent, and returns the node as the run has it on record. Fails with `Memory` if they are not
+    /// all its lanes, in order.
     pub(crate) fn close<R: Wait>(
         self,
         rt: &R,
-        lanes: &mut [Lane<Item, J>],
-    ) -> Result<Report, Memory>
+        lanes: &mut [Lane<SentItem<H>, J>],
+    ) -> Result<(Report, NodeOnRecord<H>), Memory>
         // Lane by lane, what was taken followed by what is left over is all that was sent, in
         // order.
-        ensures whole { IfOk result (λ report.
-            All (ArrivesWhole report.taken.items report.left.items) lanes.new) }
+        ensures whole { IfOk result (λ ended.
+            All (ArrivesWhole ended.0.taken.items ended.0.left.items) lanes.new) }
         ensures lanes { OnOk result (map unmet lanes.new ≡ map unmet lanes.old) }
-        ensures reports { IfOk result (λ report.
-            ReportsOn (J.first_of self.entry.node.number) lanes.new report) }
+        ensures each { OnOk result (length lanes.new ≡ self.entry.node.lanes) }
+        ensures reports { IfOk result (λ ended. ReportsOn
+            (J.first_of self.entry.node.number) self.entry.node.number lanes.new ended.0 ended.1) }
         ensures err { OnErr result (AreItsLanes self.entry.node lanes.old → ⊥) }
     {
         let Shared { node, .. } = self;
@@ -58,9 +62,9 @@ impl<'a, J: NodeNaming, G: Gate> Shared<'a, J, NodeState<J>, G> {
     }
 }
 
-impl<'a, J: NodeNaming, S: HasState<J>, G: Gate> Shared<'a, J, S, G> {
+impl<'a, H: RunNaming, J: NodeNaming, S: HasState<H, J>, G: Gate> Shared<'a, H, J, S, G> {
     /// Returns the writer of the node's connections.
-    pub(crate) fn writer(&self) -> Writer<'_, 'a, J, S, G>
+    pub(crate) fn writer(&self) -> Writer<'_, 'a, H, J, S, G>
         ensures { result.listener.now.number ≡ self.now.context.listener.now.number }
     {
         Writer {

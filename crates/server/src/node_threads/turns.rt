@@ -10,7 +10,6 @@
 ghost use Rattle.std.specs.Prelude.{◌≡◌, ◌++◌, ◌∷◌, [], true, false};
 ghost use Rattle.mailbox.specs.Ends.{all_met, unmet};
 ghost use Rattle.node.specs.LockedNode.{IsNext};
-ghost use Rattle.post.specs.outbox.Queued.{EachOpens};
 ghost use Rattle.server.specs.node_threads.Turns.{Turns};
 
 use crate::node_threads::shared::Shared;
@@ -18,20 +17,20 @@ use mailbox::Lane;
 use node::{HasState, NodeNaming, NodeState, Permit};
 use node_base::devices::Gate;
 use post::GivenEffects;
+use run_history::{RunNaming, SentEffects, SentItem};
 use std::alloc::Global;
 use std::sync::Wait;
 use std::time::Clock;
-use world_base::node_core::Item;
 
-impl<'a, J: NodeNaming, S: HasState<J>, G: Gate> Shared<'a, J, S, G> {
+impl<'a, H: RunNaming, J: NodeNaming, S: HasState<H, J>, G: Gate> Shared<'a, H, J, S, G> {
     /// Sends an item, and then takes what waits in the inbox. On return the node has taken all that
     /// the lane sent, and the lane knows it. What the node queued for connections is not written
     /// yet.
     pub(crate) fn send_and_take<R: Wait + Clock>(
         &self,
         rt: &R,
-        lane: &mut Lane<Item, J>,
-        item: Item,
+        lane: &mut Lane<SentItem<H>, J>,
+        item: SentItem<H>,
     )
         ensures { lane.new ≡ all_met (record lane.old { sent = lane.old.sent ++ item ∷ [] }) }
     {
@@ -40,7 +39,12 @@ impl<'a, J: NodeNaming, S: HasState<J>, G: Gate> Shared<'a, J, S, G> {
     }
 
     /// Sends an item. While the inbox is full, takes what waits there.
-    pub(crate) fn send<R: Wait + Clock>(&self, rt: &R, lane: &mut Lane<Item, J>, item: Item)
+    pub(crate) fn send<R: Wait + Clock>(
+        &self,
+        rt: &R,
+        lane: &mut Lane<SentItem<H>, J>,
+        item: SentItem<H>,
+    )
         ensures { unmet lane.new ≡ unmet (record lane.old { sent = lane.old.sent ++ item ∷ [] }) }
     {
         let mut unsent = item;
@@ -56,7 +60,7 @@ impl<'a, J: NodeNaming, S: HasState<J>, G: Gate> Shared<'a, J, S, G> {
     }
 
     /// Takes items until the inbox is empty; all that this lane sent is among those taken.
-    pub(crate) fn take_until_empty<R: Wait + Clock>(&self, rt: &R, lane: &mut Lane<Item, J>)
+    pub(crate) fn take_until_empty<R: Wait + Clock>(&self, rt: &R, lane: &mut Lane<SentItem<H>, J>)
         ensures { lane.new ≡ all_met lane.old }
     {
         for _ in rt.forever() {
@@ -69,7 +73,7 @@ impl<'a, J: NodeNaming, S: HasState<J>, G: Gate> Shared<'a, J, S, G> {
 
     // Takes at most as many items as one permit allows. Returns true if more may wait. The gate is
     // asked before the node's state is locked.
-    fn take_with_permit<R: Wait + Clock>(&self, rt: &R, lane: &mut Lane<Item, J>) -> bool
+    fn take_with_permit<R: Wait + Clock>(&self, rt: &R, lane: &mut Lane<SentItem<H>, J>) -> bool
         ensures more { result ≡ true → lane.new ≡ lane.old }
 
         // If none waits, all that the lane sent was taken.
@@ -88,7 +92,7 @@ impl<'a, J: NodeNaming, S: HasState<J>, G: Gate> Shared<'a, J, S, G> {
         &self,
         rt: &R,
         permit: &Permit<'_>,
-        lane: &mut Lane<Item, J>,
+        lane: &mut Lane<SentItem<H>, J>,
     ) -> bool
         ensures more { result ≡ true → lane.new ≡ lane.old }
         ensures none { result ≡ false → lane.new ≡ all_met lane.old }
@@ -113,15 +117,14 @@ impl<'a, J: NodeNaming, S: HasState<J>, G: Gate> Shared<'a, J, S, G> {
 
 // Takes items until the inbox is empty, at most as many as the permit allows. Returns true if more
 // may wait, and what the node's steps gave.
-fn take_as_permitted<J: NodeNaming, R: Wait>(
+fn take_as_permitted<H: RunNaming, J: NodeNaming, R: Wait>(
     rt: &R,
     alloc: Global,
-    node: &mut NodeState<J>,
+    node: &mut NodeState<H, J>,
     permit: &Permit<'_>,
-    lane: &mut Lane<Item, J>,
-) -> (bool, GivenEffects)
+    lane: &mut Lane<SentItem<H>, J>,
+) -> (bool, GivenEffects<H>)
     requires inbox { lane.old.inbox ≡ node.old.receiver.inbox }
-    requires opens { EachOpens J.first_of }
     requires next { IsNext permit.now node.old }
 
     // What the steps of the node gave, from the state before to the state after, and nothing else.
@@ -136,8 +139,10 @@ fn take_as_permitted<J: NodeNaming, R: Wait>(
         let receipt = lane.receipt();
         if !node.take_one(rt, &mut effects, receipt) {
             node.meet(lane);
-            return (false, GivenEffects::new(effects));
+            let given = SentEffects::new(effects, node.seen());
+            return (false, GivenEffects::new(given));
         }
     }
-    (true, GivenEffects::new(effects))
+    let given = SentEffects::new(effects, node.seen());
+    (true, GivenEffects::new(given))
 }

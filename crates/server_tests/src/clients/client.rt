@@ -5,17 +5,16 @@ use crate::clients::hearing::{hear, limit_reads, send};
 use std::net::{Net, TcpStream};
 use streams::Listener;
 
-/// SUBSCRIBE to `t/#` at QoS 2.
-pub const SUBSCRIBE: [u8; 10] = [0x82, 8, 0, 1, 0, 3, 0x74, 0x2F, 0x23, 2];
+// SUBSCRIBE to `t/#` at QoS 2.
+const SUBSCRIBE: [u8; 10] = [0x82, 8, 0, 1, 0, 3, 0x74, 0x2F, 0x23, 2];
 
-/// The SUBACK of `SUBSCRIBE`.
-pub const SUBSCRIBED: [u8; 5] = [0x90, 3, 0, 1, 2];
+// The SUBACK of `SUBSCRIBE`.
+const SUBSCRIBED: [u8; 5] = [0x90, 3, 0, 1, 2];
 
-/// Returns a CONNECT of the client of this letter with keep alive 60; its session is clean or kept.
-pub fn connect(letter: u8, clean: bool) -> [u8; 15] {
-    let flags = if clean { 2 } else { 0 };
+// Returns a CONNECT of the client of this letter with keep alive 60; its session is kept.
+fn connect(letter: u8) -> [u8; 15] {
     [
-        0x10, 13, 0, 4, 0x4D, 0x51, 0x54, 0x54, 4, flags, 0, 60, 0, 1, letter,
+        0x10, 13, 0, 4, 0x4D, 0x51, 0x54, 0x54, 4, 0, 0, 60, 0, 1, letter,
     ]
 }
 
@@ -55,7 +54,7 @@ where
 {
     let mut stream = open(rt, listener)?;
     let accepted = [0x20, 2, u8::from(has_session), 0];
-    exchange(&mut stream, &connect(letter, false), &accepted)?;
+    exchange(&mut stream, &connect(letter), &accepted)?;
     Ok(stream)
 }
 
@@ -85,20 +84,13 @@ impl Pair {
     }
 }
 
-/// Sends these bytes, and awaits those, of which there are at most 24.
-pub fn exchange(stream: &mut TcpStream, sent: &[u8], wanted: &[u8]) -> Result<(), Came> {
+// Sends these bytes, and awaits those, of which there are at most 24.
+fn exchange(stream: &mut TcpStream, sent: &[u8], wanted: &[u8]) -> Result<(), Came> {
     send(stream, sent)?;
     hear(stream, wanted)
 }
 
 /// Sends a PINGREQ, and awaits its PINGRESP.
-pub fn ping(stream: &mut TcpStream) -> Result<(), Came> {
+pub(crate) fn ping(stream: &mut TcpStream) -> Result<(), Came> {
     exchange(stream, &[0xC0, 0], &[0xD0, 0])
-}
-
-/// Publishes at QoS 2: awaits PUBREC, sends PUBREL and awaits PUBCOMP.
-pub fn deliver(speaker: &mut TcpStream, publish: [u8; 10]) -> Result<(), Came> {
-    let id = publish[8];
-    exchange(speaker, &publish, &[0x50, 2, 0, id])?;
-    exchange(speaker, &[0x62, 2, 0, id], &[0x70, 2, 0, id])
 }

@@ -1,8 +1,8 @@
 // What a server takes a while to read: many small packets, and large ones.
 
 use crate::clients::came::Came;
-use crate::clients::client::{Pair, ping};
-use crate::clients::hearing::{hear_into, send, send_times};
+use crate::clients::client::ping;
+use crate::clients::hearing::{hear_into, send_times};
 use std::alloc::{AllocError, Global};
 use std::net::TcpStream;
 
@@ -48,38 +48,6 @@ fn packets(alloc: Global, first: u8) -> Result<Vec<u8>, AllocError> {
         bytes.extend_from_slice(&[first, 0])?;
     }
     Ok(bytes)
-}
-
-/// A PUBLISH of 1 MB, and a buffer for what comes of it.
-#[derive(Drop)]
-pub struct Large {
-    // The PUBLISH. Its last byte tells one from the next.
-    sent: Vec<u8>,
-    // As long as the PUBLISH.
-    buffer: Vec<u8>,
-}
-
-impl Large {
-    /// Returns one, with a payload of zeros.
-    pub fn new(alloc: Global) -> Result<Large, AllocError> {
-        Ok(Large {
-            sent: large_publish(alloc)?,
-            buffer: large_publish(alloc)?,
-        })
-    }
-
-    /// Sends the PUBLISH, with this last byte. It has to come to the subscriber as it was sent.
-    pub fn pass(&mut self, pair: &mut Pair, last: u8) -> Result<(), Came> {
-        if let Some(byte) = self.sent.last_mut() {
-            *byte = last;
-        }
-        send(&mut pair.speaker, self.sent.as_slice())?;
-        hear_into(
-            &mut pair.sink,
-            self.buffer.as_mut_slice(),
-            self.sent.as_slice(),
-        )
-    }
 }
 
 /// Returns a PUBLISH at QoS 0 on `t/1` with 1,000,000 bytes of payload. The 1,000,005 bytes after

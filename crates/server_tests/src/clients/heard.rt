@@ -37,9 +37,9 @@ impl Heard {
         compare(self.payloads.as_slice(), payloads, StreamState::Open)
     }
 
-    /// Takes the next packet, a PUBLISH or a PUBREL, and returns the answer to it. Where something
-    /// else comes, a PUBLISH was awaited.
-    pub fn next_answer(&mut self, stream: &mut TcpStream) -> Result<[u8; 4], Came> {
+    // Takes the next packet, a PUBLISH or a PUBREL, and returns the answer to it. Where something
+    // else comes, a PUBLISH was awaited.
+    fn next_answer(&mut self, stream: &mut TcpStream) -> Result<[u8; 4], Came> {
         let mut head = [0; 2];
         hear_any(stream, &mut head)?;
         if head == PUBLISH || head == PUBLISH_AGAIN {
@@ -84,17 +84,5 @@ impl Heard {
     pub fn answer(&mut self, stream: &mut TcpStream) -> Result<(), Came> {
         let answer = self.next_answer(stream)?;
         send(stream, &answer)
-    }
-
-    /// Awaits the publication of this payload as one of the next twenty packets, all of which are
-    /// answered, until no handshake is open. Else it returns the payloads that were accepted.
-    pub fn answer_until(&mut self, stream: &mut TcpStream, payload: u8) -> Result<(), Came> {
-        for _ in 0..20 {
-            self.answer(stream)?;
-            if self.unreleased.is_empty() && self.payloads.contains(&payload) {
-                return Ok(());
-            }
-        }
-        Err(Came::new(self.payloads.as_slice(), &[payload], StreamState::Open))
     }
 }

@@ -121,23 +121,13 @@ fn state_after(kind: ErrorKind) -> StreamState {
 
 /// Awaits that nothing comes for a third of a second, and the stream stays open.
 pub fn hear_nothing(stream: &mut TcpStream) -> Result<(), Came> {
-    hear_nothing_for(stream, 333)
-}
-
-/// Awaits that nothing comes for this many milliseconds, and the stream stays open.
-pub fn hear_nothing_for(stream: &mut TcpStream, milliseconds: u64) -> Result<(), Came> {
-    hear_only(stream, milliseconds, StreamState::Silent)?;
+    hear_only(stream, 333, StreamState::Silent)?;
     limit_reads(stream, 10_000)
 }
 
 /// Awaits that the server ends the stream within five seconds, and sends nothing.
 pub fn hear_end(stream: &mut TcpStream) -> Result<(), Came> {
-    hear_end_within(stream, 5_000)
-}
-
-/// Awaits that the server ends the stream within this many milliseconds, and sends nothing.
-pub fn hear_end_within(stream: &mut TcpStream, milliseconds: u64) -> Result<(), Came> {
-    hear_only(stream, milliseconds, StreamState::Ended)
+    hear_only(stream, 5_000, StreamState::Ended)
 }
 
 // Reads once, for this many milliseconds. No bytes may come, and the stream has to be in the wanted

@@ -3,8 +3,10 @@
 use crate::clients::{Fault, join, large_publish, listen_all, named, publish_times, unless};
 use ballot_base::{Config, Members};
 use node_base::devices::NoGate;
+use post::Cluster;
+use run_history::{RunNaming, SeenRun};
 use server::node_threads::NodeReport;
-use server::serve_gated;
+use server::{Attendant, serve_gated};
 use std::net::{Net, TcpListener, TcpStream};
 use std::sync::Wait;
 use std::thread;
@@ -98,14 +100,43 @@ where
         listeners,
         &config,
         &NoGate,
-        |_cluster| send_all(rt, row, listeners.first()),
+        Sending {
+            rt,
+            row,
+            listener: listeners.first(),
+        },
     );
     match served {
-        Ok((sent, reports)) => sent.and(unless(
-            are_cut_where_wanted(reports.as_slice(), row.are_cut),
+        Ok((sent, run)) => sent.and(unless(
+            are_cut_where_wanted(run.reports.as_slice(), row.are_cut),
             "just the logs of these nodes are cut",
         )),
         Err(_) => Err(Fault::new("the nodes serve")),
+    }
+}
+
+// The publications of a row, which are sent while the nodes serve.
+#[derive(Drop)]
+struct Sending<'a, R> {
+    rt: &'a R,
+    row: &'a Row,
+    listener: Option<&'a Listener>,
+}
+
+impl<'a, R> Attendant for Sending<'a, R>
+where
+    R: AllocGlobal + Wait + Clock + Net<Stream = TcpStream>,
+{
+    type Answer = Result<(), Fault>;
+
+    ghost attends = { λ _ _ _ _. Unit {0} };
+
+    fn attend<H: RunNaming>(
+        self,
+        _cluster: &Cluster<H>,
+        _seen: &mut SeenRun<H>,
+    ) -> Result<(), Fault> {
+        send_all(self.rt, self.row, self.listener)
     }
 }
 

@@ -1,8 +1,10 @@
 // What is refused: listeners that are not served; and how each refusal is told.
 
 use crate::clients::{listen_all, opening};
+use post::Cluster;
 use post::outbox::OrderError;
-use server::{ServeError, serve_while};
+use run_history::{RunNaming, SeenRun};
+use server::{Attendant, ServeError, serve_while};
 use std::net::{Net, TcpListener, TcpStream};
 use std::sync::Wait;
 use std::test::Fail;
@@ -20,8 +22,26 @@ where
     };
     let mut listeners = Vec::new(rt.alloc());
     let are_there = listen_all(rt, numbers, &mut listeners);
-    let served = serve_while(rt, rt.alloc(), listeners.as_slice(), &config, |_| true);
+    let served = serve_while(rt, rt.alloc(), listeners.as_slice(), &config, AtOnce);
+    let served = match served {
+        Ok((answer, _run)) => Ok(answer),
+        Err(error) => Err(error),
+    };
     if are_there { Some(served) } else { None }
+}
+
+// Returns at once.
+#[derive(Drop)]
+struct AtOnce;
+
+impl Attendant for AtOnce {
+    type Answer = bool;
+
+    ghost attends = { λ _ _ _ _. Unit {0} };
+
+    fn attend<H: RunNaming>(self, _cluster: &Cluster<H>, _seen: &mut SeenRun<H>) -> bool {
+        true
+    }
 }
 
 #[test]

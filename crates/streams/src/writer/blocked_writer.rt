@@ -9,6 +9,7 @@ use crate::writer::writer::Writer;
 use crate::{BlockedLink, Closed, Link, WriteToken};
 use node::{HasState, NodeNaming};
 use node_base::devices::Gate;
+use run_history::RunNaming;
 use std::alloc::Global;
 use std::mem;
 use std::sync::{Arc, Wait};
@@ -24,7 +25,7 @@ const FIRST_PAUSE_MILLIS: u64 = 1;
 /// Its longest pause before it tries them again, in milliseconds.
 const MAX_PAUSE_MILLIS: u64 = 16;
 
-impl<'e, 'a, J: NodeNaming, S: HasState<J>, G: Gate> Writer<'e, 'a, J, S, G> {
+impl<'e, 'a, H: RunNaming, J: NodeNaming, S: HasState<H, J>, G: Gate> Writer<'e, 'a, H, J, S, G> {
     /// Works as the blocked writer until it sees the listener closed. Returns the witness. No
     /// thread waits for this one, and it waits for no socket: between its tries it sleeps, longer
     /// each time while all stay full. The clause says only whose witness it is.

@@ -10,17 +10,19 @@ use machine::Memory;
 use node::{HasState, NodeNaming};
 use node_base::connection::{Flow, Outlet};
 use node_base::devices::Gate;
+use run_history::RunNaming;
 use std::alloc::Global;
 use std::sync::{Arc, Wait};
 use world_base::node_connections::Handed;
 
 // The node under its lock, as the outlet of its connections.
 #[derive(Drop)]
-struct Source<'e, 'a, J: NodeNaming, S: HasState<J>, G: Gate> {
-    writer: &'e Writer<'e, 'a, J, S, G>,
+struct Source<'e, 'a, H: RunNaming, J: NodeNaming, S: HasState<H, J>, G: Gate> {
+    writer: &'e Writer<'e, 'a, H, J, S, G>,
 }
 
-impl<'e, 'a, J: NodeNaming, S: HasState<J>, G: Gate> Outlet<PortTap> for Source<'e, 'a, J, S, G> {
+impl<'e, 'a, H: RunNaming, J: NodeNaming, S: HasState<H, J>, G: Gate> Outlet<PortTap>
+    for Source<'e, 'a, H, J, S, G> {
     fn hand_over<R: Wait>(
         &mut self,
         rt: &R,
@@ -28,11 +30,11 @@ impl<'e, 'a, J: NodeNaming, S: HasState<J>, G: Gate> Outlet<PortTap> for Source<
         out: &mut Vec<u8>,
     ) -> Result<Handed, Memory> {
         let writer = self.writer;
-        tap.hand_over(writer.node.lock(rt).state(), out)
+        tap.hand_over(rt, writer.node.lock(rt).state(), out)
     }
 }
 
-impl<'e, 'a, J: NodeNaming, S: HasState<J>, G: Gate> Writer<'e, 'a, J, S, G> {
+impl<'e, 'a, H: RunNaming, J: NodeNaming, S: HasState<H, J>, G: Gate> Writer<'e, 'a, H, J, S, G> {
     /// Writes what the node queued for a connection, unless another thread writes there, which then
     /// looks again. What a full socket does not take is left to the blocked writer. `waits` is true
     /// if this thread may wait for a full socket, for a millisecond; a thread that does a node's

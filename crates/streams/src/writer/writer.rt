@@ -16,6 +16,7 @@ use crate::{IdleLanes, Link, Listener, MAX_CONNECTIONS};
 use ballot_base::Config;
 use node::{HasState, Node, NodeNaming};
 use node_base::devices::Gate;
+use run_history::RunNaming;
 use std::alloc::Global;
 use std::sync::{Arc, Wait};
 
@@ -29,11 +30,11 @@ pub const FIRST_INDEX: usize = 0;
 /// Writes to the connections of a node. It holds no lock while it writes or sleeps. No clause says
 /// so, or which connections a call writes to.
 #[derive(Drop)]
-pub struct Writer<'e, 'a, J: NodeNaming, S: HasState<J>, G: Gate> {
+pub struct Writer<'e, 'a, H: RunNaming, J: NodeNaming, S: HasState<H, J>, G: Gate> {
     /// Where lists are allocated.
     pub alloc: Global,
     /// The node, which queues bytes for its connections.
-    pub node: &'e Node<'a, J, S, G>,
+    pub node: &'e Node<'a, H, J, S, G>,
     /// The listener of the node, which has the table of its connections.
     pub listener: &'e Listener,
     /// The configuration in which the node opened.
@@ -44,7 +45,7 @@ pub struct Writer<'e, 'a, J: NodeNaming, S: HasState<J>, G: Gate> {
     pub ghost opens: { EachOpensAs config.now J.first_of },
 }
 
-impl<'e, 'a, J: NodeNaming, S: HasState<J>, G: Gate> Writer<'e, 'a, J, S, G> {
+impl<'e, 'a, H: RunNaming, J: NodeNaming, S: HasState<H, J>, G: Gate> Writer<'e, 'a, H, J, S, G> {
     /// Writes what the node queued for its connections, to the one at index `first` before the
     /// others. `waits` is true if it may wait for a full socket, for a millisecond each.
     pub fn write_busy<R: Wait>(&self, rt: &R, first: usize, waits: bool) {

@@ -1,7 +1,4 @@
 use Rattle.embedded.proofs.nodes.use_new.Given as goal
 
-abbrev pub ghosts-use_named-J-Naming : goal.ghosts-use_named-J-Naming
-ghosts-use_named-J-Naming g a = record { inbox_of = λ _. a.inbox }
-
-abbrev pub ghosts-use_named-J-NodeNaming : goal.ghosts-use_named-J-NodeNaming
-ghosts-use_named-J-NodeNaming g a = record { first_of = λ _. a.core }
+abbrev pub ghosts-use_run : goal.ghosts-use_run
+ghosts-use_run g a = record { book = a.run.book; nodes = a.run.group.nodes; config = a.run.group.config }

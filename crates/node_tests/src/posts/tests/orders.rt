@@ -1,9 +1,10 @@
 // What an order answers, and what waits for the nodes then, by what they showed.
 
-use super::waking::two_nodes;
+use crate::posts::clusters::{Trial, with_two_nodes};
 use ballot_base::{Role, Status};
 use packet_base::ClientId;
 use post::{Cluster, Peer};
+use run_history::RunNaming;
 use std::alloc::Global;
 use std::sync::Wait;
 use std::test::Fail;
@@ -65,9 +66,14 @@ fn is_order(item: &Item, order: Order) -> bool {
 
 // Takes all items that wait for a node. Returns how many are this order; none if any other item
 // waits.
-fn waiting<R: Wait>(rt: &R, alloc: Global, peer: &Peer, order: Order) -> Option<usize> {
+fn waiting<H: RunNaming, R: Wait>(
+    rt: &R,
+    alloc: Global,
+    peer: &Peer<H>,
+    order: Order,
+) -> Option<usize> {
     let items = peer.take_waiting(rt, alloc);
-    if items.iter().all(|item| is_order(item, order)) {
+    if items.iter().all(|sent| is_order(sent.item(), order)) {
         Some(items.len())
     } else {
         None
@@ -78,8 +84,9 @@ fn waiting<R: Wait>(rt: &R, alloc: Global, peer: &Peer, order: Order) -> Option<
 type Crashed = (bool, bool, Option<usize>);
 
 // Shows a status of node 1, and orders it to crash twice.
-fn crash_twice<R>(rt: &R, alloc: Global, cluster: &Cluster, status: Status) -> Option<Crashed>
+fn crash_twice<H, R>(rt: &R, alloc: Global, cluster: &Cluster<H>, status: Status) -> Option<Crashed>
 where
+    H: RunNaming,
     R: Wait + Clock,
 {
     let peer = cluster.node(1)?;
@@ -89,19 +96,34 @@ where
     Some((first, second, waiting(rt, alloc, peer, Order::Crash)))
 }
 
+// Node 1 shows this status, and is crashed twice.
+#[derive(Drop)]
+struct Crashes(Status);
+
+impl Trial for Crashes {
+    type Outcome = Option<Crashed>;
+
+    fn run<H: RunNaming, R: Wait + Clock>(
+        self,
+        rt: &R,
+        alloc: Global,
+        cluster: &Cluster<H>,
+    ) -> Option<Crashed> {
+        crash_twice(rt, alloc, cluster, self.0)
+    }
+}
+
 // The order waits for the node, which has no thread here: so the call gives the node its 40 ms.
 #[test]
 fn a_node_that_runs_is_crashed_once(rt: HostRuntime) -> Result<(), Fail> {
-    let cluster = two_nodes(rt.alloc())?;
-    let came = crash_twice(&rt, rt.alloc(), &cluster, FIRST);
+    let came = with_two_nodes(&rt, rt.alloc(), Crashes(FIRST))?;
     assert_eq!(rt; came, Some((true, false, Some(1))));
     Ok(())
 }
 
 #[test]
 fn a_node_that_stopped_is_not_crashed(rt: HostRuntime) -> Result<(), Fail> {
-    let cluster = two_nodes(rt.alloc())?;
-    let came = crash_twice(&rt, rt.alloc(), &cluster, STOPPED);
+    let came = with_two_nodes(&rt, rt.alloc(), Crashes(STOPPED))?;
     assert_eq!(rt; came, Some((false, false, Some(0))));
     Ok(())
 }
@@ -123,7 +145,11 @@ const EXPELS: &[(&str, Status, Status, Expelled)] = &[
 ];
 
 // Orders to end the session of client `a`. Returns the answer; none if there was no memory.
-fn answer<R: Wait + Clock>(rt: &R, alloc: Global, cluster: &Cluster) -> Option<bool> {
+fn answer<H: RunNaming, R: Wait + Clock>(
+    rt: &R,
+    alloc: Global,
+    cluster: &Cluster<H>,
+) -> Option<bool> {
     match ClientId::new(alloc, "a") {
         Ok(client) => cluster.expel(rt, &client).ok(),
         Err(_) => None,
@@ -131,13 +157,14 @@ fn answer<R: Wait + Clock>(rt: &R, alloc: Global, cluster: &Cluster) -> Option<b
 }
 
 // Shows these statuses of nodes 1 and 2, and orders to end the session of client `a`.
-fn expel<R>(
+fn expel<H, R>(
     rt: &R,
     alloc: Global,
-    cluster: &Cluster,
+    cluster: &Cluster<H>,
     (first, second): (Status, Status),
 ) -> Option<Expelled>
 where
+    H: RunNaming,
     R: Wait + Clock,
 {
     let one = cluster.node(1)?;
@@ -152,11 +179,27 @@ where
     ))
 }
 
+// The nodes show these statuses, and a client is expelled.
+#[derive(Drop)]
+struct Expels(Status, Status);
+
+impl Trial for Expels {
+    type Outcome = Option<Expelled>;
+
+    fn run<H: RunNaming, R: Wait + Clock>(
+        self,
+        rt: &R,
+        alloc: Global,
+        cluster: &Cluster<H>,
+    ) -> Option<Expelled> {
+        expel(rt, alloc, cluster, (self.0, self.1))
+    }
+}
+
 #[test]
 fn an_expel_waits_for_the_primary_alone(rt: HostRuntime) -> Result<(), Fail> {
-    let cluster = two_nodes(rt.alloc())?;
     for (words, first, second, outcome) in EXPELS {
-        let came = expel(&rt, rt.alloc(), &cluster, (*first, *second));
+        let came = with_two_nodes(&rt, rt.alloc(), Expels(*first, *second))?;
         assert_eq!(rt; came, Some(*outcome), "{words}");
     }
     Ok(())

@@ -1,9 +1,11 @@
 // Which of two nodes is woken, and by what. An order to give a ballot queues a message for its
 // primary, and wakes it.
 
+use crate::posts::clusters::{Trial, with_two_nodes};
 use ballot_base::{Config, Members};
 use machine::Memory;
 use post::{Cluster, Peer};
+use run_history::RunNaming;
 use std::alloc::Global;
 use std::sync::Wait;
 use std::test::Fail;
@@ -75,14 +77,8 @@ fn config_by(alloc: Global, primary: u8) -> Result<Config, Memory> {
     })
 }
 
-/// Returns nodes 1 and 2.
-pub(super) fn two_nodes(alloc: Global) -> Result<Cluster, Fail> {
-    let config = config_by(alloc, 1)?;
-    Ok(Cluster::new(alloc, &[1, 2], &config)?)
-}
-
 // Assigns a ballot of which this node is the primary, and returns whether its message is queued.
-fn assign<R: Wait>(rt: &R, alloc: Global, cluster: &Cluster, node: u8) -> bool {
+fn assign<H: RunNaming, R: Wait>(rt: &R, alloc: Global, cluster: &Cluster<H>, node: u8) -> bool {
     match config_by(alloc, node) {
         Ok(config) => cluster.assign(rt, config).is_ok(),
         Err(_) => false,
@@ -90,7 +86,7 @@ fn assign<R: Wait>(rt: &R, alloc: Global, cluster: &Cluster, node: u8) -> bool {
 }
 
 // Does a row's act. Returns true if the result is the row's.
-fn do_act<R: Wait>(rt: &R, alloc: Global, cluster: &Cluster, act: Act) -> bool {
+fn do_act<H: RunNaming, R: Wait>(rt: &R, alloc: Global, cluster: &Cluster<H>, act: Act) -> bool {
     match act {
         Act::Look => true,
         Act::Assign(node) => assign(rt, alloc, cluster, node),
@@ -108,7 +104,7 @@ fn do_act<R: Wait>(rt: &R, alloc: Global, cluster: &Cluster, act: Act) -> bool {
 }
 
 // Does the act of a row at this node. Returns whether it has the result of the row.
-fn do_act_at<R: Wait>(rt: &R, alloc: Global, peer: &Peer, act: Act) -> bool {
+fn do_act_at<H: RunNaming, R: Wait>(rt: &R, alloc: Global, peer: &Peer<H>, act: Act) -> bool {
     match act {
         Act::DozeIdle(_) => !peer.doze(rt),
         Act::Doze(_) => peer.doze(rt),
@@ -123,7 +119,7 @@ fn do_act_at<R: Wait>(rt: &R, alloc: Global, peer: &Peer, act: Act) -> bool {
 
 // Asks a node what it shows. To ask whether it needs help wakes its thread, but only if more than
 // sixteen items wait: in no row are there as many.
-fn ask<R: Wait>(rt: &R, cluster: &Cluster, node: u8) -> Option<Shown> {
+fn ask<H: RunNaming, R: Wait>(rt: &R, cluster: &Cluster<H>, node: u8) -> Option<Shown> {
     let peer = cluster.node(node)?;
     Some(Shown {
         is_wanted: peer.is_wanted(rt),
@@ -135,7 +131,11 @@ fn ask<R: Wait>(rt: &R, cluster: &Cluster, node: u8) -> Option<Shown> {
 type Fault = (&'static str, bool, Option<Shown>, Option<Shown>);
 
 // Returns the first row that fails.
-fn first_fault<R: Wait>(rt: &R, alloc: Global, cluster: &Cluster) -> Option<Fault> {
+fn first_fault<H: RunNaming, R: Wait>(
+    rt: &R,
+    alloc: Global,
+    cluster: &Cluster<H>,
+) -> Option<Fault> {
     for (words, act, (first, second)) in ROWS {
         let came = (
             *words,
@@ -150,10 +150,26 @@ fn first_fault<R: Wait>(rt: &R, alloc: Global, cluster: &Cluster) -> Option<Faul
     None
 }
 
+// All rows, one after another.
+#[derive(Drop)]
+struct Rows;
+
+impl Trial for Rows {
+    type Outcome = Option<Fault>;
+
+    fn run<H: RunNaming, R: Wait + Clock>(
+        self,
+        rt: &R,
+        alloc: Global,
+        cluster: &Cluster<H>,
+    ) -> Option<Fault> {
+        first_fault(rt, alloc, cluster)
+    }
+}
+
 #[test]
 fn a_node_that_sleeps_is_woken(rt: HostRuntime) -> Result<(), Fail> {
-    let cluster = two_nodes(rt.alloc())?;
-    assert_eq!(rt; first_fault(&rt, rt.alloc(), &cluster), None);
+    assert_eq!(rt; with_two_nodes(&rt, rt.alloc(), Rows)?, None);
     Ok(())
 }
 
@@ -161,7 +177,7 @@ fn a_node_that_sleeps_is_woken(rt: HostRuntime) -> Result<(), Fail> {
 const SLEEP_SECONDS: u64 = 30;
 
 // Returns true if the thread of a node that dozes is woken: its sleep ends before its time.
-fn is_woken<R: Wait + Clock>(rt: &R, peer: &Peer) -> Option<bool> {
+fn is_woken<H: RunNaming, R: Wait + Clock>(rt: &R, peer: &Peer<H>) -> Option<bool> {
     let start = Instant::now(rt).ok()?;
     peer.sleep(rt, Duration::from_secs(SLEEP_SECONDS));
     Some(start.elapsed(rt).ok()?.as_secs() < SLEEP_SECONDS)
@@ -169,10 +185,10 @@ fn is_woken<R: Wait + Clock>(rt: &R, peer: &Peer) -> Option<bool> {
 
 // Queues seventeen messages for node 1, which dozes then. Returns whether a thread that queued one
 // should do the node's turn, and whether the node's own thread is woken.
-fn queue_and_doze<R: Wait + Clock>(
+fn queue_and_doze<H: RunNaming, R: Wait + Clock>(
     rt: &R,
     alloc: Global,
-    cluster: &Cluster,
+    cluster: &Cluster<H>,
 ) -> Option<(bool, bool)> {
     let peer = cluster.node(1)?;
     for _ in 0..17u8 {
@@ -185,35 +201,63 @@ fn queue_and_doze<R: Wait + Clock>(
     Some((helps, is_woken(rt, peer)?))
 }
 
+// Much is queued for node 1, and then it dozes.
+#[derive(Drop)]
+struct Crowd;
+
+impl Trial for Crowd {
+    type Outcome = Option<(bool, bool)>;
+
+    fn run<H: RunNaming, R: Wait + Clock>(
+        self,
+        rt: &R,
+        alloc: Global,
+        cluster: &Cluster<H>,
+    ) -> Option<(bool, bool)> {
+        queue_and_doze(rt, alloc, cluster)
+    }
+}
+
 // Seventeen items are more than another thread takes.
 #[test]
 fn a_node_with_much_to_do_is_woken(rt: HostRuntime) -> Result<(), Fail> {
-    let cluster = two_nodes(rt.alloc())?;
     assert_eq!(rt;
-        queue_and_doze(&rt, rt.alloc(), &cluster),
+        with_two_nodes(&rt, rt.alloc(), Crowd)?,
         Some((false, true))
     );
     Ok(())
 }
 
+// Node 1 is woken before it sleeps.
+#[derive(Drop)]
+struct EarlyWake;
+
+impl Trial for EarlyWake {
+    type Outcome = Option<bool>;
+
+    fn run<H: RunNaming, R: Wait + Clock>(
+        self,
+        rt: &R,
+        _alloc: Global,
+        cluster: &Cluster<H>,
+    ) -> Option<bool> {
+        let peer = cluster.node(1)?;
+        peer.doze(rt);
+        peer.wake(rt);
+        is_woken(rt, peer)
+    }
+}
+
 // A wake between the last look and the sleep is not lost.
 #[test]
 fn a_wake_before_the_sleep_ends_it(rt: HostRuntime) -> Result<(), Fail> {
-    let cluster = two_nodes(rt.alloc())?;
-    let woken = match cluster.node(1) {
-        Some(peer) => {
-            peer.doze(&rt);
-            peer.wake(&rt);
-            is_woken(&rt, peer)
-        }
-        None => None,
-    };
+    let woken = with_two_nodes(&rt, rt.alloc(), EarlyWake)?;
     assert_eq!(rt; woken, Some(true));
     Ok(())
 }
 
 // Sleeps twenty times for no time, and nobody wakes the node. Returns true if that ends in time.
-fn sleep_in_time<R: Wait + Clock>(rt: &R, peer: &Peer) -> Option<bool> {
+fn sleep_in_time<H: RunNaming, R: Wait + Clock>(rt: &R, peer: &Peer<H>) -> Option<bool> {
     let start = Instant::now(rt).ok()?;
     for _ in 0..20u8 {
         peer.sleep(rt, Duration::from_millis(0));
@@ -221,14 +265,27 @@ fn sleep_in_time<R: Wait + Clock>(rt: &R, peer: &Peer) -> Option<bool> {
     Some(start.elapsed(rt).ok()?.as_secs() < SLEEP_SECONDS)
 }
 
+// Node 1 sleeps for no time.
+#[derive(Drop)]
+struct ShortSleep;
+
+impl Trial for ShortSleep {
+    type Outcome = Option<bool>;
+
+    fn run<H: RunNaming, R: Wait + Clock>(
+        self,
+        rt: &R,
+        _alloc: Global,
+        cluster: &Cluster<H>,
+    ) -> Option<bool> {
+        sleep_in_time(rt, cluster.node(1)?)
+    }
+}
+
 // A sleep takes no longer than it was given.
 #[test]
 fn a_sleep_of_no_time_ends(rt: HostRuntime) -> Result<(), Fail> {
-    let cluster = two_nodes(rt.alloc())?;
-    let woken = match cluster.node(1) {
-        Some(peer) => sleep_in_time(&rt, peer),
-        None => None,
-    };
+    let woken = with_two_nodes(&rt, rt.alloc(), ShortSleep)?;
     assert_eq!(rt; woken, Some(true));
     Ok(())
 }

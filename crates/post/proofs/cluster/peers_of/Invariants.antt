@@ -3,4 +3,4 @@ use Rattle.post.specs.Numbers.{peer_numbers}
 use Rattle.post.proofs.cluster.peers_of.Given as goal
 
 abbrev pub invariant-loop-number : goal.invariant-loop-number
-invariant-loop-number l = peer_numbers l.nodes.items ≡ take l.number-index l.numbers
+invariant-loop-number g l = peer_numbers l.nodes.items ≡ take l.number-index l.numbers

@@ -1,4 +1,4 @@
-use Rattle.std.proofs.Common.{[], ◌∷◌, sym, subst}
+use Rattle.std.proofs.Common.{[], ◌∷◌, ◌∙◌, sym, subst}
 use Rattle.broker_spec.specs.declared.command.Command.{Command}
 use Rattle.broker_spec.specs.declared.command.Output.{Output}
 use Rattle.ballot_base.specs.declared.message.Effect.{Effect}
@@ -12,7 +12,7 @@ returns-in-To g c =
     subst (λ (effect : Effect Command Output). QueuesAll g.C.Receivers.queues c.args.receivers.now (messages_of (effect ∷ [])) c.queue.new.self)
     (sym c.in-To.is)
     (subst (λ (addressed : Addressed). QueuesAll g.C.Receivers.queues c.args.receivers.now (addressed ∷ []) c.queue.new.self)
-    c.new.ensures
+    (c.new.ensures ∙ c.new-sent.ensures)
     (one_more c.new.result c.queue.new.self none c.queue.ensures))
 
 pub returns : goal.returns

@@ -1,28 +1,24 @@
-use Rattle.std.proofs.Common.{Vec, Global, ◌∙◌, ap}
-use Rattle.server.specs.declared.node_threads.opened_node.OpenedNode.{OpenedNode}
-use Rattle.server.proofs.Namesakes.{below_more, below_same, named_more, named_same}
+use Rattle.std.proofs.Common.{◌∙◌, ap, map, subst, sym, arith}
+use Rattle.std.proofs.lemmas.List.{length-map}
+use Rattle.run_history.specs.Log.{opening_log}
+use Rattle.run_history.specs.Parties.{NodeView}
+use Rattle.server.proofs.NodesOpened.{adds_one, all_opened}
 use Rattle.server.proofs.opening.open_all.Goals as goal
-use Rattle.server.proofs.opening.open_all.Goals.{then-is_some+in_ok-open+in_ok-push, else-is_some}
 
-pub loop-number-preserved : goal.loop-number-preserved
-loop-number-preserved c =
-    elim c.if-is_some.branch [
-      | then-is_some+in_ok-open+in_ok-push w ↦ record {
-        named =
-            named_more c.args.config.now c.loop-number.number c.loop-number.opened.items c.if-is_some.opened.items w.in_ok-open.field-0
-            (ap (λ (opened : Vec OpenedNode Global). opened.items) w.opened-is ∙ w.in_ok-push.ensures.items) w.in_ok-open.ensures.number w.in_ok-open.ensures.core
-            c.loop-number.invariant.below c.loop-number.invariant.named;
-        below =
-            below_more c.loop-number.number c.loop-number.opened.items c.if-is_some.opened.items w.in_ok-open.field-0
-            (ap (λ (opened : Vec OpenedNode Global). opened.items) w.opened-is ∙ w.in_ok-push.ensures.items) w.in_ok-open.ensures.number
-            c.loop-number.invariant.below;
-      }
-      | else-is_some w ↦ record {
-        named =
-            named_same c.args.config.now c.loop-number.opened.items c.if-is_some.opened.items
-            (ap (λ (opened : Vec OpenedNode Global). opened.items) w.opened-is) c.loop-number.invariant.named;
-        below =
-            below_same c.loop-number.number c.loop-number.opened.items c.if-is_some.opened.items
-            (ap (λ (opened : Vec OpenedNode Global). opened.items) w.opened-is) c.loop-number.invariant.below;
-      }
-    ]
+pub loop-index-preserved : goal.loop-index-preserved
+loop-index-preserved g c =
+    let nodes = g.H.RunNaming.nodes in
+    let node = c.make-node.ensures.node in record {
+      maker = c.make-node.ensures.next;
+      so =
+          adds_one nodes c.loop-index.index c.args.config.now (map (λ listener. listener.number) c.args.contexts.now.listeners.now) c.make-node.result
+          c.is_some-is_served.result c.loop-index.opened c.add.new.self c.in_ok-add.ensures (c.is_some-is_served.ensures ∙ c.listener_of.ensures.is)
+          (ap (λ (n : NodeView). n.index) node)
+          (ap (λ (n : NodeView). n.log) node ∙ (c.requires.log ∙ ap (opening_log nodes) (sym c.requires.config)))
+          (ap (λ (n : NodeView). n.node) node ∙ c.in_ok-core.ensures.ok) c.loop-index.invariant.so;
+    }
+
+pub returns-clause-all : goal.returns-clause-all
+returns-clause-all g c =
+    all_opened c.args.config.now (map (λ listener. listener.number) c.args.contexts.now.listeners.now) c.loop-index.index c.loop-index.opened c.loop-index.invariant.so
+    (omega (arith, c.if-len-contexts.false, c.len.ensures, length-map c.args.contexts.now.listeners.now (λ listener. listener.number)))

@@ -1,8 +1,4 @@
-use Rattle.server.specs.Opening.{first_in, inbox_among}
 use Rattle.server.proofs.service.serve_all.Given as goal
 
-abbrev pub ghosts-serve_named-J-Naming : goal.ghosts-serve_named-J-Naming
-ghosts-serve_named-J-Naming g a = record { inbox_of = inbox_among a.opened.items }
-
-abbrev pub ghosts-serve_named-J-NodeNaming : goal.ghosts-serve_named-J-NodeNaming
-ghosts-serve_named-J-NodeNaming g a = record { first_of = first_in a.config.now }
+abbrev pub ghosts-serve_run : goal.ghosts-serve_run
+ghosts-serve_run g a = record { book = a.opened.book; nodes = a.opened.group.nodes; config = a.opened.group.config }

@@ -7,8 +7,9 @@ use crate::clients::{
 };
 use node_base::devices::Gate;
 use post::Cluster;
+use run_history::{RunNaming, SeenRun};
 use server::node_threads::NodeReport;
-use server::serve_gated;
+use server::{Attendant, serve_gated};
 use std::net::{Net, TcpListener, TcpStream};
 use std::sync::{Mutex, Wait};
 use std::thread;
@@ -19,8 +20,14 @@ use streams::Listener;
 // A gate, and what is done while nodes ask it.
 trait Watched: Gate {
     // Returns the first step that fails while nodes ask it.
-    fn attend<R>(&self, rt: &R, cluster: &Cluster, listener: Option<&Listener>) -> Result<(), Fault>
+    fn attend<H, R>(
+        &self,
+        rt: &R,
+        cluster: &Cluster<H>,
+        listener: Option<&Listener>,
+    ) -> Result<(), Fault>
     where
+        H: RunNaming,
         R: AllocGlobal + Wait + Clock + Net<Stream = TcpStream>;
 }
 
@@ -55,14 +62,43 @@ where
         listeners,
         &config,
         gate,
-        |cluster| gate.attend(rt, cluster, listeners.first()),
+        AtGate {
+            rt,
+            gate,
+            listener: listeners.first(),
+        },
     );
     match served {
-        Ok((attended, reports)) => attended.and(unless(
-            are_through(reports.as_slice(), listeners.len()),
+        Ok((attended, run)) => attended.and(unless(
+            are_through(run.reports.as_slice(), listeners.len()),
             "each node took what was sent to it, and passed no shut gate",
         )),
         Err(_) => Err(Fault::new("the nodes serve")),
+    }
+}
+
+// What is done while nodes ask a gate.
+#[derive(Drop)]
+struct AtGate<'a, R, G: Watched> {
+    rt: &'a R,
+    gate: &'a G,
+    listener: Option<&'a Listener>,
+}
+
+impl<'a, R, G: Watched> Attendant for AtGate<'a, R, G>
+where
+    R: AllocGlobal + Wait + Clock + Net<Stream = TcpStream>,
+{
+    type Answer = Result<(), Fault>;
+
+    ghost attends = { λ _ _ _ _. Unit {0} };
+
+    fn attend<H: RunNaming>(
+        self,
+        cluster: &Cluster<H>,
+        _seen: &mut SeenRun<H>,
+    ) -> Result<(), Fault> {
+        self.gate.attend(self.rt, cluster, self.listener)
     }
 }
 
@@ -166,13 +202,14 @@ impl Gate for Meeting {
 impl Watched for Meeting {
     // Waits until the nodes have met, at most ten seconds, and has client `a` be answered then.
     // Each taking was asked for by its number. Returns the first step that fails.
-    fn attend<R>(
+    fn attend<H, R>(
         &self,
         rt: &R,
-        _cluster: &Cluster,
+        _cluster: &Cluster<H>,
         listener: Option<&Listener>,
     ) -> Result<(), Fault>
     where
+        H: RunNaming,
         R: AllocGlobal + Wait + Clock + Net<Stream = TcpStream>,
     {
         for _ in 0..1_000 {
@@ -290,8 +327,14 @@ impl Gate for Bar {
 
 impl Watched for Bar {
     // Returns the first step that fails under this load.
-    fn attend<R>(&self, rt: &R, cluster: &Cluster, listener: Option<&Listener>) -> Result<(), Fault>
+    fn attend<H, R>(
+        &self,
+        rt: &R,
+        cluster: &Cluster<H>,
+        listener: Option<&Listener>,
+    ) -> Result<(), Fault>
     where
+        H: RunNaming,
         R: AllocGlobal + Wait + Clock + Net<Stream = TcpStream>,
     {
         match self.load {

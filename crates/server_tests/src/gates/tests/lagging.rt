@@ -5,6 +5,7 @@ use crate::clients::{
     Fault, Flood, join, large_publish, limit_writes, named, send_times, unless, visit,
 };
 use post::Cluster;
+use run_history::RunNaming;
 use std::net::{Net, TcpStream};
 use std::sync::Wait;
 use std::thread;
@@ -13,13 +14,14 @@ use streams::Listener;
 
 /// Checks that of 98,304 PINGREQ that come while a member is held, no more than 37,000 become
 /// places until it continues. All are answered then. Returns the first step that fails.
-pub(super) fn first_fault_of_places<R>(
+pub(super) fn first_fault_of_places<H, R>(
     rt: &R,
     bar: &Bar,
-    cluster: &Cluster,
+    cluster: &Cluster<H>,
     listener: Option<&Listener>,
 ) -> Result<(), Fault>
 where
+    H: RunNaming,
     R: AllocGlobal + Wait + Clock + Net<Stream = TcpStream>,
 {
     match Flood::new(rt.alloc()) {
@@ -29,14 +31,15 @@ where
 }
 
 // Returns the first step that fails with this flood.
-fn wait_with<R>(
+fn wait_with<H, R>(
     rt: &R,
     bar: &Bar,
-    cluster: &Cluster,
+    cluster: &Cluster<H>,
     listener: Option<&Listener>,
     flood: &mut Flood,
 ) -> Result<(), Fault>
 where
+    H: RunNaming,
     R: Wait + Clock + Net<Stream = TcpStream>,
 {
     let mut stream = named(join(rt, listener, b'a', false), "a client comes")?;
@@ -44,10 +47,10 @@ where
 }
 
 // Returns the first step that fails with this client.
-fn wait_on<R: Wait + Clock>(
+fn wait_on<H: RunNaming, R: Wait + Clock>(
     rt: &R,
     bar: &Bar,
-    cluster: &Cluster,
+    cluster: &Cluster<H>,
     flood: &mut Flood,
     stream: &mut TcpStream,
 ) -> Result<(), Fault> {
@@ -66,7 +69,7 @@ fn wait_on<R: Wait + Clock>(
 
 // Returns how many places are open a second and a half after more than 4,096 were, or after at most
 // 30 seconds: other work on the machine may slow the node down.
-fn crowded_places<R: Wait + Clock>(rt: &R, cluster: &Cluster) -> Option<u64> {
+fn crowded_places<H: RunNaming, R: Wait + Clock>(rt: &R, cluster: &Cluster<H>) -> Option<u64> {
     for _ in 0..300u16 {
         if open_places(rt, cluster).is_some_and(|open| open > 4_096) {
             break;
@@ -79,7 +82,7 @@ fn crowded_places<R: Wait + Clock>(rt: &R, cluster: &Cluster) -> Option<u64> {
 
 // Returns how many places of the primary's log are not known to be held by all; none if it has no
 // status.
-fn open_places<R: Wait + Clock>(rt: &R, cluster: &Cluster) -> Option<u64> {
+fn open_places<H: RunNaming, R: Wait + Clock>(rt: &R, cluster: &Cluster<H>) -> Option<u64> {
     let status = cluster.status(rt, 1)?;
     Some(status.held.saturating_sub(status.committed))
 }
@@ -87,13 +90,14 @@ fn open_places<R: Wait + Clock>(rt: &R, cluster: &Cluster) -> Option<u64> {
 /// Has a client send 150 MB while a member is held: no more than 72 MB become places, 64 MiB and
 /// what was in transit. The rest is not read. Once the member continues, another client is
 /// answered. Returns the first step that fails.
-pub(super) fn first_fault_of_bytes<R>(
+pub(super) fn first_fault_of_bytes<H, R>(
     rt: &R,
     bar: &Bar,
-    cluster: &Cluster,
+    cluster: &Cluster<H>,
     listener: Option<&Listener>,
 ) -> Result<(), Fault>
 where
+    H: RunNaming,
     R: AllocGlobal + Wait + Clock + Net<Stream = TcpStream>,
 {
     match large_publish(rt.alloc()) {
@@ -103,14 +107,15 @@ where
 }
 
 // Returns the first step that fails with this publication.
-fn fill_with<R>(
+fn fill_with<H, R>(
     rt: &R,
     bar: &Bar,
-    cluster: &Cluster,
+    cluster: &Cluster<H>,
     listener: Option<&Listener>,
     large: &[u8],
 ) -> Result<(), Fault>
 where
+    H: RunNaming,
     R: Wait + Clock + Net<Stream = TcpStream>,
 {
     let mut stream = named(join(rt, listener, b's', false), "a client comes")?;
@@ -121,10 +126,10 @@ where
 
 // Returns the first step that fails while a member is held. A write is given up after a second, as
 // the socket is full.
-fn fill_on<R: Wait + Clock>(
+fn fill_on<H: RunNaming, R: Wait + Clock>(
     rt: &R,
     bar: &Bar,
-    cluster: &Cluster,
+    cluster: &Cluster<H>,
     large: &[u8],
     stream: &mut TcpStream,
 ) -> Result<(), Fault> {

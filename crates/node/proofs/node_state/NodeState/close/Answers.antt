@@ -1,4 +1,4 @@
-use Rattle.std.proofs.Common.{All, EachIndex, ℕ, length, slice_index, ◌≡◌, ◌∙◌, ap, subst, sym, arith}
+use Rattle.std.proofs.Common.{All, EachIndex, ℕ, List, length, slice_index, ◌≡◌, ◌∙◌, ap, subst, sym, arith}
 use Rattle.std.specs.Prelude.{slice_index_or}
 use Rattle.mailbox.specs.Delivery.{items_of_lane}
 use Rattle.mailbox.specs.Ends.{ArrivesWhole, ReceiverView}
@@ -11,9 +11,10 @@ use Rattle.node.proofs.node_state.NodeState.close.Goals as goal
 
 pub returns-clause-whole : goal.returns-clause-whole
 returns-clause-whole g c =
-    subst (λ counts. All (ArrivesWhole counts c.take_rest.new.left.items) c.take_rest.new.lanes)
+    subst (λ counts. All (ArrivesWhole counts c.open_all.new.left.items) c.take_rest.new.lanes)
     (sym (written_back c.args.report.taken.len c.take_rest.new.counts c.args.report.taken.items (omega (arith, c.as_mut_slice.ensures.len))))
-    c.take_rest.ensures.whole
+    (subst (λ (left : List (ℕ × Item)). All (ArrivesWhole c.take_rest.new.counts left) c.take_rest.new.lanes) (sym c.open_all.ensures)
+    c.take_rest.ensures.whole)
 
 pub returns-clause-counted : goal.returns-clause-counted
 returns-clause-counted g c =
@@ -22,12 +23,18 @@ returns-clause-counted g c =
     (subst (λ (s : NodeStateView). EachIndex c.take_rest.new.counts (λ lane. slice_index c.take_rest.new.counts lane ≡ length (items_of_lane lane s.receiver.taken)))
     c.self.view_is c.take_rest.ensures.counted)
 
+pub returns-clause-each : goal.returns-clause-each
+returns-clause-each g c =
+    ap length (written_back c.args.report.taken.len c.take_rest.new.counts c.args.report.taken.items (omega (arith, c.as_mut_slice.ensures.len)))
+    ∙ (omega (arith, c.as_mut_slice.ensures.len, c.args.report.taken.ok.0, c.requires.capacity.0))
+
 pub returns-clause-all : goal.returns-clause-all
 returns-clause-all g c =
-    subst (λ (s : NodeStateView). All (ReportsAll s.receiver.taken c.take_rest.new.left.items) c.take_rest.new.lanes)
+    subst (λ (left : List (ℕ × Item)). All (ReportsAll c.args.self.receiver.taken left) c.take_rest.new.lanes) (sym c.open_all.ensures)
+    (subst (λ (s : NodeStateView). All (ReportsAll s.receiver.taken c.take_rest.new.left.items) c.take_rest.new.lanes)
     c.self.view_is
     (λ place other within.
     let lane : ℕ = (slice_index_or c.take_rest.new.lanes place other).lane in
     sym (items_of-append lane _ c.take_rest.new.left.items)
     ∙ sym (ap (λ (r : ReceiverView Item). items_of_lane lane r.taken) c.take_rest.ensures.taken)
-    ∙ c.take_rest.ensures.arrived place other within)
+    ∙ c.take_rest.ensures.arrived place other within))

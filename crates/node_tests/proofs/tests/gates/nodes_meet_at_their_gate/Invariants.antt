@@ -1,12 +1,4 @@
-use Rattle.std.proofs.Common.{cond, eqb}
 use Rattle.node_tests.proofs.tests.gates.nodes_meet_at_their_gate.Given as goal
 
-abbrev pub ghosts-meet-J-Naming : goal.ghosts-meet-J-Naming
-ghosts-meet-J-Naming g a = record {
-  inbox_of = λ n. cond (eqb n 1) a.first.inbox a.second.inbox;
-}
-
-abbrev pub ghosts-meet-J-NodeNaming : goal.ghosts-meet-J-NodeNaming
-ghosts-meet-J-NodeNaming g a = record {
-  first_of = λ n. cond (eqb n 1) a.first.core a.second.core;
-}
+abbrev pub ghosts-meet_of_opened : goal.ghosts-meet_of_opened
+ghosts-meet_of_opened g a = record { book = a.opened.run.book; nodes = 2; config = a.opened.config }

@@ -1,7 +1,4 @@
 use Rattle.node_tests.proofs.tests.nodes.send_waits_for_no_lock.Given as goal
 
-abbrev pub ghosts-first_fault-J-Naming : goal.ghosts-first_fault-J-Naming
-ghosts-first_fault-J-Naming g a = record { inbox_of = λ _. a.start.inbox }
-
-abbrev pub ghosts-first_fault-J-NodeNaming : goal.ghosts-first_fault-J-NodeNaming
-ghosts-first_fault-J-NodeNaming g a = record { first_of = λ _. a.start.core }
+abbrev pub ghosts-first_fault_of : goal.ghosts-first_fault_of
+ghosts-first_fault_of g a = record { book = a.opened.run.book; nodes = 2; config = a.opened.config }

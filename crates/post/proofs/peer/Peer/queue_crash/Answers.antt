@@ -1,5 +1,5 @@
-use Rattle.post.specs.outbox.Queued.IsPosted.{order}
+use Rattle.post.specs.outbox.Queued.IsOrder.{crashes}
 use Rattle.post.proofs.peer.Peer.queue_crash.Goals as goal
 
-pub queue-requires : goal.queue-requires
-queue-requires g c = order
+pub queue_order-requires : goal.queue_order-requires
+queue_order-requires g c = crashes

@@ -1,5 +1,5 @@
-use Rattle.post.specs.outbox.Queued.IsPosted.{expels}
+use Rattle.post.specs.outbox.Queued.IsOrder.{expels}
 use Rattle.post.proofs.peer.Peer.queue_expel.Goals as goal
 
-pub queue-requires : goal.queue-requires
-queue-requires g c = expels _
+pub queue_order-requires : goal.queue_order-requires
+queue_order-requires g c = expels _

@@ -17,8 +17,8 @@ loop-init g c = record {
 pub loop-preserved : goal.loop-preserved
 loop-preserved g c = record {
   given =
-      given_more g.J.NodeNaming.first_of c.loop.node c.take_one.new.self c.loop.effects.items c.take_one.new.effects.items
-      c.requires.opens c.take_one.ensures.replays (c.if-not-take_one.ensures.took refl) c.loop.invariant.given;
+      given_more c.loop.node c.take_one.new.self c.loop.effects.items c.take_one.new.effects.items
+      (c.if-not-take_one.ensures.took refl) c.loop.invariant.given;
   turns = takes _ _ c.loop.invariant.turns (c.if-not-take_one.ensures.took refl);
   lane = c.receipt-receipt.ensures.same ∙ c.loop.invariant.lane;
   inbox =
@@ -30,4 +30,4 @@ pub returns-then-not-take_one-clause-given : goal.returns-then-not-take_one-clau
 returns-then-not-take_one-clause-given g c =
     found_none c.args.node.now c.loop.node c.meet.new.self c.loop.effects.items c.new.result c.loop.invariant.turns
     (c.meet.ensures.same ∙ c.if-not-take_one.ensures.same refl)
-    (c.new.ensures ∙ c.if-not-take_one.ensures.silent refl)
+    (c.new.ensures ∙ (c.new-given.ensures ∙ c.if-not-take_one.ensures.silent refl))

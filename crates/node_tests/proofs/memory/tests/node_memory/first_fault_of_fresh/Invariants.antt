@@ -1,7 +1,4 @@
 use Rattle.node_tests.proofs.memory.tests.node_memory.first_fault_of_fresh.Given as goal
 
-abbrev pub ghosts-first_fault_in-J-Naming : goal.ghosts-first_fault_in-J-Naming
-ghosts-first_fault_in-J-Naming g a = record { inbox_of = λ _. a.inbox }
-
-abbrev pub ghosts-first_fault_in-J-NodeNaming : goal.ghosts-first_fault_in-J-NodeNaming
-ghosts-first_fault_in-J-NodeNaming g a = record { first_of = λ _. a.core }
+abbrev pub ghosts-first_fault_of : goal.ghosts-first_fault_of
+ghosts-first_fault_of g a = record { book = a.opened.run.book; nodes = 2; config = a.opened.config }

@@ -1,12 +1,9 @@
-use Rattle.std.proofs.Common.{ap}
-use Rattle.mailbox.specs.Ends.{LaneView}
-use Rattle.world_base.specs.declared.node_core.item.Item.{Item}
-use Rattle.server.specs.node_threads.LaneReports.SendsOwn.{starts}
-use Rattle.server.proofs.of_node_threads.OwnSendsJoin.{own_cut}
+use Rattle.server.specs.node_threads.LaneReports.IsOwn.{cut}
+use Rattle.server.proofs.of_node_threads.OwnSendsJoin.{sends_nothing}
 use Rattle.server.proofs.node_threads.shared.Shared.cut_in_time.Goals as goal
 
-pub returns-then-cuts_after : goal.returns-then-cuts_after
-returns-then-cuts_after g c = own_cut _ _ _ (ap (λ (lane : LaneView Item). lane.sent) c.send_and_take.ensures)
+pub send_own-requires : goal.send_own-requires
+send_own-requires g c = cut
 
 pub returns-else-cuts_after : goal.returns-else-cuts_after
-returns-else-cuts_after g c = starts
+returns-else-cuts_after g c = sends_nothing _

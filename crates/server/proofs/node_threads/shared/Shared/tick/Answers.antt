@@ -1,15 +1,12 @@
-use Rattle.std.proofs.Common.{ap}
-use Rattle.mailbox.specs.Ends.{LaneView}
-use Rattle.world_base.specs.declared.node_core.item.Item.{Item}
-use Rattle.server.specs.node_threads.LaneReports.SendsOwn.{starts}
-use Rattle.server.proofs.of_node_threads.OwnSendsJoin.{own_join, own_tick}
+use Rattle.server.specs.node_threads.LaneReports.IsOwn.{tick}
+use Rattle.server.proofs.of_node_threads.OwnSendsJoin.{sends_nothing, sends_then}
 use Rattle.server.proofs.node_threads.shared.Shared.tick.Goals as goal
 
+pub send_own-requires : goal.send_own-requires
+send_own-requires g c = tick c.now-now.result
+
 pub returns-then-saturating_sub-lt-TICK_MILLIS : goal.returns-then-saturating_sub-lt-TICK_MILLIS
-returns-then-saturating_sub-lt-TICK_MILLIS g c = starts
+returns-then-saturating_sub-lt-TICK_MILLIS g c = sends_nothing _
 
 pub returns : goal.returns
-returns g c =
-    own_join _ _ _ _
-    (own_tick _ c.now-now.result _ _ (ap (λ (lane : LaneView Item). lane.sent) c.send_and_take.ensures))
-    c.cut_in_time.ensures
+returns g c = sends_then _ _ _ c.send_own.ensures c.cut_in_time.ensures

@@ -1,5 +1,4 @@
 use denote.Param.Send.{sendable}
-use Rattle.std.proofs.Common.{rules}
 use Rattle.server.proofs.service.fn.serve_by.scope+FnOnce.call_once.Goals as goal
 
 pub scope-requires : goal.scope-requires
@@ -11,7 +10,7 @@ scope-requires g c = (
       search (sendable, c.requires),
       (
         search (sendable, c.requires),
-        (search (sendable, c.requires), (search (rules, c.requires), (search (rules, c.requires), search (rules, c.requires)))),
+        (search (sendable, c.requires), (search (sendable, c.requires), search (sendable, c.requires))),
       ),
     ),
   ),

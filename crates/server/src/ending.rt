@@ -1,0 +1,91 @@
+// Settling the run of the nodes that were served.
+
+ghost use Rattle.std.specs.Prelude.{◌≡◌, ◌++◌, [], All, IfOk, IsPermutation, OnOk, map};
+ghost use Rattle.std.specs.List.Sorted.{IsNonDecreasingBy};
+ghost use mathlib.Core.List.{IsPrefix};
+ghost use Rattle.server.specs.Ended.{IsTold};
+ghost use Rattle.server.specs.Ends.{IsServedRun};
+ghost use Rattle.server.specs.Inside.{IsIdle, numbers_of};
+
+use crate::node_threads::{EndedNode, NodeReport};
+use crate::serve_error::ServeError;
+use crate::served_run::ServedRun;
+use ballot_base::MAX_NODE;
+use machine::Memory;
+use run_history::{MasterOnRecord, NodeOnRecord, RunNaming, SeenRun, settle_all};
+use std::sync::Wait;
+
+/// The nodes of a run as they ended.
+#[derive(Drop)]
+pub(crate) struct EndedNodes<H: RunNaming> {
+    /// Those that were served, in rising order.
+    pub(crate) served: Vec<EndedNode<H>>,
+    /// The others, which did nothing, in a list with capacity for all nodes.
+    pub(crate) others: Vec<NodeOnRecord<H>>,
+    /// An empty list with capacity for the reports.
+    pub(crate) reports: Vec<NodeReport>,
+}
+
+/// Returns the run of these nodes, which are all nodes of their run, and of their master. `seen` is
+/// any prefix of its log. Needs no memory, since the lists have their capacity; fails with `Memory`
+/// if they have not, or if a node is missing, which does not occur.
+pub(crate) fn settle<H: RunNaming, R: Wait>(
+    rt: &R,
+    seen: &SeenRun<H>,
+    master: &MasterOnRecord<H>,
+    ended: EndedNodes<H>,
+) -> Result<ServedRun, ServeError>
+    requires nodes { H.nodes ≡ MAX_NODE }
+    requires rising { IsNonDecreasingBy (λ one. one.report.number) ended.served.items }
+    requires idle { All IsIdle ended.others.items }
+    requires empty { ended.reports.items ≡ [] }
+    ensures seen { IfOk result (λ run. IsPrefix seen.now run.log) }
+    ensures run { IfOk result (λ run.
+        IsServedRun H.config (numbers_of ended.served.items) run) }
+{
+    let (nodes, reports) = parted(ended)?;
+    let nodes = by_index(nodes);
+    if nodes.len() != usize::from(MAX_NODE) {
+        return Err(ServeError::Memory);
+    }
+    let log = settle_all(rt, seen, master, nodes.as_slice());
+    Ok(ServedRun {
+        log: log.into_log(),
+        reports,
+    })
+}
+
+// Returns all nodes, and the reports of those that were served.
+fn parted<H: RunNaming>(
+    ended: EndedNodes<H>,
+) -> Result<(Vec<NodeOnRecord<H>>, Vec<NodeReport>), Memory>
+    requires { ended.reports.items ≡ [] }
+    ensures nodes { IfOk result (λ parts.
+        parts.0.items ≡ ended.others.items ++ map (λ one. one.node) ended.served.items) }
+    ensures reports { IfOk result (λ parts.
+        parts.1.items ≡ map (λ one. one.report) ended.served.items) }
+    ensures told { OnOk result (All IsTold ended.served.items) }
+{
+    let EndedNodes {
+        served,
+        others,
+        reports,
+    } = ended;
+    let mut nodes = others;
+    let mut reports = reports;
+    for one in served {
+        let EndedNode { report, node } = one;
+        nodes.push(node)?;
+        reports.push(report)?;
+    }
+    Ok((nodes, reports))
+}
+
+// Returns these nodes in the order of their numbers.
+fn by_index<H: RunNaming>(nodes: Vec<NodeOnRecord<H>>) -> Vec<NodeOnRecord<H>>
+    ensures { IsPermutation nodes.items result.items }
+{
+    let mut sorted = nodes;
+    sorted.sort_unstable_by_key(|node| node.index());
+    sorted
+}
