@@ -1,16 +1,12 @@
-//! Tests of what the program consists of: the client, scripts that are played, and the subcommands
-//! with their input and output.
+//! Tests in code of what the program consists of: clients over servers in memory, inputs that fail,
+//! refused memory, and printed texts. Rows of the program are in `tools/program.rows`.
 #![tactic(auto)]
 
 #[cfg(test)]
-mod client_core;
+mod inputs;
 #[cfg(test)]
-mod examples;
+mod scripts;
 #[cfg(test)]
-mod played;
-#[cfg(test)]
-mod refusal_texts;
-#[cfg(test)]
-mod served;
+mod texts;
 #[cfg(test)]
 mod user_clients;

@@ -1,64 +1,22 @@
-// Inputs of a server that end, that fail, and that give no order.
+// Inputs of a server whose first read fails.
 
-use crate::served::tests::hand::{serve, text_of};
-use std::io;
+use jobs::{print_fault, serve_table};
 use std::io::{BufReader, ErrorKind, Read};
 use std::net::{Net, TcpListener, TcpStream};
 use std::sync::Wait;
 use std::thread::Threads;
 use std::time::Clock;
+use std::{io, str};
 
 // A table of one node on the loopback.
 const ONE: &str = "members = [1]\nprimary = 1\n[[node]]\nid = 1\nlisten = \"127.0.0.1:0\"\n";
 
-// One that other machines may reach.
-const OPEN: &str = "members = [1]\nprimary = 1\n[[node]]\nid = 1\nlisten = \"0.0.0.0:0\"\n";
-
 // What is reported of the node of that table.
 const LISTENS: &str = "node 1 listens on 127.0.0.1:";
 
-// What is printed of an input that comes whole.
-const WHOLE: &[(&str, &str)] = &[
-    ("", "bye\n"),
-    ("quit\nstatus\n", "bye\n"),
-    (
-        "status",
-        "node 1 ballot 1 primary held 0 committed 0\nbye\n",
-    ),
-    (
-        "crash +1\nassign +1 1\nassign 1 +1\ncrash 1 \n\n",
-        "refused 24\nrefused 24\nrefused 24\nrefused 24\nrefused 24\nbye\n",
-    ),
-    (
-        "assign 256 1\nassign 1 256\nassign 18446744073709551616 1\n",
-        "refused 20\nrefused 20\nrefused 20\nbye\n",
-    ),
-];
-
-#[test]
-fn lines_are_answered_until_quit_or_the_end(rt: HostRuntime) {
-    for (text, printed) in WHOLE {
-        let mut input = text.as_bytes();
-        let mut output = Vec::new(rt.alloc());
-        let mut faults = Vec::new(rt.alloc());
-        let status = serve(&rt, ONE, &mut input, &mut output, &mut faults);
-        let told = text_of(faults.as_slice());
-        let came = (status, text_of(output.as_slice()), told.contains(LISTENS));
-        assert_eq!(rt; came, (0, *printed, true), "{text}: {told}");
-    }
-}
-
-// Other machines may reach the node, which is reported.
-#[test]
-fn an_open_address_is_printed(rt: HostRuntime) {
-    let reported = "node 1 is not on a loopback address: whoever reaches it can publish\n";
-    let mut input = b"".as_slice();
-    let mut output = Vec::new(rt.alloc());
-    let mut faults = Vec::new(rt.alloc());
-    let status = serve(&rt, OPEN, &mut input, &mut output, &mut faults);
-    let told = text_of(faults.as_slice());
-    let came = (status, text_of(output.as_slice()), told.contains(reported));
-    assert_eq!(rt; came, (0, "bye\n", true), "{told}");
+// Returns what was written as a text, so that it can be compared and shown.
+fn text_of(written: &[u8]) -> &str {
+    str::from_utf8(written).unwrap_or("not UTF-8")
 }
 
 // An input whose first read fails.
@@ -101,7 +59,10 @@ where
         rest,
     };
     match BufReader::new(rt.alloc(), failing) {
-        Ok(mut input) => Some(serve(rt, ONE, &mut input, output, faults)),
+        Ok(mut input) => Some(match serve_table(rt, ONE, &mut input, output, faults) {
+            Ok(()) => 0,
+            Err(error) => print_fault(faults, &error),
+        }),
         Err(_) => None,
     }
 }

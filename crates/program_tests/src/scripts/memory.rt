@@ -2,9 +2,24 @@
 // each allocation of a test fail in turn; in the gate none fails. It is played as usual, or
 // reported to have run out of memory.
 
-use crate::examples::ANSWER_WAITS_FOR_THE_BACKUP;
 use play::{PlayError, play};
 use std::alloc::Global;
+
+// The primary answers a CONNECT once its backup holds it.
+const ANSWER_WAITS_FOR_THE_BACKUP: [&str; 2] = [
+    "world 2 1,2 1 a\n\
+    open a 1\n\
+    up 1 all\n\
+    deliver 0\n\
+    deliver 1\n\
+    down 1 all\n",
+    "0 ok msgs=0 agreed=0\n\
+    1 ok msgs=1 agreed=0\n\
+    2 ok msgs=2 agreed=1\n\
+    3 ok msgs=3 agreed=1\n\
+    4 ok msgs=3 agreed=1\n\
+    end agreed=1 active=1\n",
+];
 
 // Returns how many lines of a transcript say that a publication was accepted.
 fn accepted_in(transcript: &[u8]) -> usize {

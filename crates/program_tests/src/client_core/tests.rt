@@ -1,5 +1,0 @@
-// A client as a state that takes bytes.
-
-mod memory;
-mod row;
-mod shared;

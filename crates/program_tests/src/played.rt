@@ -1,4 +1,0 @@
-//! Scripts that are played, against their transcripts. It has only tests.
-
-#[cfg(test)]
-mod tests;

@@ -1,4 +1,0 @@
-//! Refusals, with their numbers and texts. It has only tests.
-
-#[cfg(test)]
-mod tests;

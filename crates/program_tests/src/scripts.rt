@@ -1,0 +1,4 @@
+// Scripts that are played without the program.
+
+mod memory;
+mod transcripts;
