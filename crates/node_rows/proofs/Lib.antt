@@ -1,0 +1,6 @@
+pub mod ItemAnswers
+pub mod StepAnswers
+pub mod OpeningAnswers
+pub mod EventAnswers
+pub mod GroupStepAnswers
+pub mod KindAnswers

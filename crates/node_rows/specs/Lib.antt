@@ -1,0 +1,10 @@
+pub mod Values
+pub mod Answers
+pub mod Items
+pub mod NodeAnswers
+pub mod Openings
+pub mod NodeSteps
+pub mod Events
+pub mod GroupAnswers
+pub mod GroupSteps
+pub mod Kinds

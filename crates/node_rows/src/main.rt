@@ -1,0 +1,36 @@
+//! Plays rows of one node and of groups of nodes: files of data/.
+#![tactic(auto)]
+
+mod answers;
+mod cut_pieces;
+mod group_events;
+mod group_messages;
+mod group_steps;
+mod kinds;
+mod node_items;
+mod node_steps;
+mod openings;
+mod values;
+
+use crate::kinds::Kinds;
+use anyhow::{Context, Result, bail};
+use rows::play_file;
+
+// The files whose rows have to agree.
+const FILES: &[&str] = &["clients.rows", "replica.rows", "group.rows"];
+
+// The file whose rows have to differ.
+const TURNED: &str = "must_differ.rows";
+
+// Plays all files, and fails if a row of one is wrong.
+fn main(rt: HostRuntime) -> Result<()> {
+    let mut are_right = true;
+    for file in FILES {
+        are_right &= play_file(&rt, &Kinds, file, false).context(format_args!("reading {file}"))?;
+    }
+    are_right &= play_file(&rt, &Kinds, TURNED, true).context(format_args!("reading {TURNED}"))?;
+    if !are_right {
+        bail!("a row is wrong");
+    }
+    Ok(())
+}
