@@ -1,5 +1,5 @@
 //! Tests in code of what the program consists of: clients over servers in memory, inputs that fail,
-//! refused memory, and printed texts. Rows of the program are in `tools/program.rows`.
+//! refused memory, and printed texts. Rows of the program are in `scenarios/program.rows`.
 #![tactic(auto)]
 
 #[cfg(test)]
