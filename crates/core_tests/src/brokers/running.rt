@@ -1,0 +1,4 @@
+// A broker that goes on from its own bytes.
+
+mod giving;
+mod random;

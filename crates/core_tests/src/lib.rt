@@ -1,0 +1,22 @@
+//! Tests in code of packets, of the broker and of replication: what is no row of text. Printed
+//! texts and orders, long runs by a fixed rule, and groups and nodes that go on after a loss.
+#![tactic(auto)]
+
+#[cfg(test)]
+mod brokers;
+mod limits;
+#[cfg(test)]
+mod packets;
+mod ranges;
+mod readings;
+#[cfg(test)]
+mod replicas;
+#[cfg(test)]
+mod told;
+
+pub use limits::numbers_of_texts;
+pub use ranges::ranges_have_their_edges;
+pub use readings::{
+    answers_fit_the_qos, expels_of_nobody_are_nothing, live_connections_are_current,
+    released_entries_are_read, removing_needs_no_room,
+};

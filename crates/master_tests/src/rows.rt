@@ -1,8 +1,0 @@
-// Rows of the definitions. The call does nothing; its contract is the rows.
-
-ghost use Rattle.master_tests.specs.Ranges.{MaxBallotIs};
-
-/// Shows the last ballot that a master gives.
-pub fn ranges_have_their_edges()
-    ensures { MaxBallotIs }
-{}
