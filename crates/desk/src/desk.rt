@@ -15,8 +15,9 @@ ghost use Rattle.desk.specs.Keeping.{IsNoFault, IsNotKept, WasLost};
 
 use crate::error::{DeskError, NotKept, OpenError};
 use crate::keeper::Keeper;
-use crate::state::{CLUSTER_BYTES, NO_NUMBER, State};
+use crate::state::{NO_NUMBER, State};
 use ballot_base::{Config, Members};
+use seal::CLUSTER_BYTES;
 use std::alloc::Global;
 use std::marker::Model;
 

@@ -8,9 +8,10 @@ ghost use Rattle.desk.specs.States.{is_sound, waits_fit};
 ghost use Rattle.std.specs.Str.{bytes_eq};
 
 use crate::error::{FormFault, OpenError};
-use crate::state::{CLUSTER_BYTES, State};
+use crate::state::State;
 use ballot_base::{Config, MAX_MEMBERS, Members};
 use machine::Memory;
+use seal::CLUSTER_BYTES;
 use sha2::{Digest, Sha256};
 use std::alloc::Global;
 

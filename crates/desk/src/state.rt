@@ -8,12 +8,10 @@ ghost use Rattle.desk.specs.States.{opening_desk, taken_back, waits_fit, with_ac
 use crate::error::DeskError;
 use ballot_base::{Config, MAX_MEMBERS, MAX_NUMBER, Members};
 use machine::{MAX_BALLOT, Memory};
+use seal::CLUSTER_BYTES;
 use std::alloc::Global;
 use std::marker::Model;
 use std::mem;
-
-/// Bytes that name a cluster.
-pub const CLUSTER_BYTES: usize = 16;
 
 /// What is next once the last number was given.
 pub(crate) const NO_NUMBER: u8 = MAX_NUMBER + 1;
