@@ -7,8 +7,6 @@ mod error;
 mod form;
 mod keeper;
 mod state;
-#[cfg(test)]
-mod tests;
 mod theorems;
 
 pub use desk::{Activation, Desk};

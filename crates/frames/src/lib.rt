@@ -6,8 +6,6 @@ mod error;
 mod head;
 mod joiner;
 mod parts;
-#[cfg(test)]
-mod tests;
 mod theorems;
 
 pub use error::{JoinError, PartFault};

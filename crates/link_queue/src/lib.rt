@@ -5,8 +5,6 @@
 mod cover;
 mod logs;
 mod queue;
-#[cfg(test)]
-mod tests;
 mod theorems;
 
 pub use cover::covers;

@@ -13,8 +13,6 @@ mod parcel_writers;
 mod reading;
 mod rows;
 mod sink;
-#[cfg(test)]
-mod tests;
 mod theorems;
 
 pub use devices::DeviceFault;

@@ -10,8 +10,6 @@ mod message_readers;
 mod message_writers;
 mod numbers;
 mod rows;
-#[cfg(test)]
-mod tests;
 mod theorems;
 mod write_fault;
 

@@ -9,8 +9,6 @@ mod hello;
 mod keyed_hash;
 mod keys;
 mod membership;
-#[cfg(test)]
-mod tests;
 mod theorems;
 
 pub use frame_reader::{FrameError, FrameReader};

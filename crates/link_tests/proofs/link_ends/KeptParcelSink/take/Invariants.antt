@@ -1,6 +1,6 @@
 -- The sink has what it had, and the parcel is not kept yet.
 use Rattle.std.proofs.Common.{◌≡◌}
-use Rattle.links.proofs.tests.KeptParcelSink.take.Given as goal
+use Rattle.link_tests.proofs.link_ends.KeptParcelSink.take.Given as goal
 
 abbrev pub invariant-loop : goal.invariant-loop
 invariant-loop g l = record {

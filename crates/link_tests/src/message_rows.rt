@@ -1,10 +1,10 @@
 // That calls do not give up while there is memory, which no clause says: a message of each form is
 // written to its bytes, and read from them.
 
-use crate::{WriteFault, read_message, write_message};
 use ballot_base::{Body, Log, Members, Message};
 use broker_spec::{Command, ConnectionName, SizedPacket};
 use bytes::Bytes;
+use message_form::{WriteFault, read_message, write_message};
 use packet::Packet;
 use packet_base::ClientId;
 use std::alloc::Global;

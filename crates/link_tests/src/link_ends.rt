@@ -1,7 +1,7 @@
 // Two ends over devices in memory, which give and take few bytes a call, and of which one call
 // fails. The other end's bytes are those of `seal`.
 
-use crate::{
+use links::{
     DeviceFault, HandshakeFault, LinkFault, LinkReadError, LinkReader, LinkWriter, Parcel,
     ParcelSink, Party, Way, read_link, shake,
 };
