@@ -129,6 +129,9 @@ fn ends_meet_or_say_why_not(rt: HostRuntime) -> Result<(), Fail> {
     let other_rules = listener_bytes(rt.alloc(), hello_of(8, 3, 9), KEY)?;
     let fault = HandshakeFault::Hello(HelloFault::Rules(8));
     assert!(rt; meets(rt.alloc(), &other_rules, 99, 99) == Err(fault));
+    // Its version and its rules show the fault.
+    let front = other_rules.as_slice().get(..6).unwrap_or(&[]);
+    assert!(rt; meets(rt.alloc(), front, 99, 99) == Err(fault));
     let front = right.as_slice().get(..54).unwrap_or(&[]);
     let fault = HandshakeFault::Device(DeviceFault::Ended);
     assert!(rt; meets(rt.alloc(), front, 99, 99) == Err(fault));
