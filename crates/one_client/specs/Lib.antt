@@ -6,3 +6,4 @@ pub mod Promised
 pub mod ConnectsFirst
 pub mod Ports
 pub mod Rows
+pub mod Runs

@@ -12,4 +12,6 @@ pub use connection_theorems::{
     ports_have_names, proposals_are_in_range,
 };
 pub use rows::accepts_beside_a_stranger;
-pub use theorems::{clients_with_own_ports_are_promised, one_client_is_promised};
+pub use theorems::{
+    clients_of_runs_are_promised, clients_with_own_ports_are_promised, one_client_is_promised,
+};

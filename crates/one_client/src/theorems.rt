@@ -2,6 +2,7 @@
 
 ghost use Rattle.one_client.specs.Ports.{ClientsWithOwnPortsArePromised};
 ghost use Rattle.one_client.specs.Promised.{OneClientIsPromised};
+ghost use Rattle.one_client.specs.Runs.{ClientsOfRunsArePromised};
 
 /// States that in all steps of any group a client that keeps its side gets what is promised, by
 /// each list on which the nodes agree and in which nobody else uses its identifier. What other
@@ -14,4 +15,10 @@ pub fn one_client_is_promised()
 /// for no other, and nobody else uses its identifier, the names of its connections follow.
 pub fn clients_with_own_ports_are_promised()
     ensures { ClientsWithOwnPortsArePromised }
+{}
+
+/// States that it gets the same in each run that nodes have on record, as the one that a server
+/// returns: there it is what the server promises, if sockets do what the steps say.
+pub fn clients_of_runs_are_promised()
+    ensures { ClientsOfRunsArePromised }
 {}
