@@ -1,5 +1,6 @@
 """What the scripts of this folder start on loopback: a `serve`, and the load program."""
 import os
+import queue
 import re
 import subprocess
 import sys
@@ -9,6 +10,7 @@ import threading
 TOP = os.path.dirname(os.path.dirname(os.path.abspath(__file__)))
 PROVED = f"{TOP}/crates/vbroker/out/vbroker"
 TRIAL = f"{TOP}/crates/vbroker/out/trial/vbroker"
+LATE = "nothing in time"
 # The proved program, or the trial one of ./serve if there is none.
 PROGRAM = PROVED if os.path.exists(PROVED) or not os.path.exists(TRIAL) else TRIAL
 
@@ -52,6 +54,40 @@ class Server:
     def __exit__(self, *_):
         self.process.kill()
         self.process.wait()
+
+
+class Lines:
+    """The lines that a process prints, which are taken as they come; each is shown to `hear`."""
+
+    def __init__(self, output, hear=lambda line: None):
+        self.came, self.hear = queue.Queue(), hear
+        threading.Thread(target=self.take_all, args=[output], daemon=True).start()
+
+    def take_all(self, output):
+        for line in output:
+            self.hear(line.rstrip("\n"))
+            self.came.put(line.rstrip("\n"))
+        self.came.put(None)
+
+    def get(self, seconds):
+        """Returns the next line, None at the end, or that none came."""
+        try:
+            return self.came.get(timeout=seconds)
+        except queue.Empty:
+            return LATE
+
+
+def program_of(words):
+    """Takes the program to start from a script's words: the proved one, with `--trial` the trial
+    one, which is built first if there is none of these sources, or a file."""
+    named = words.pop(0) if words and (words[0] == "--trial" or os.path.isfile(words[0])) else PROVED
+    if named == "--trial":
+        build = 'top=$1; . "$top/tools/program"; is_of_these_sources "$trial" || build_trial'
+        subprocess.run(["bash", "-euo", "pipefail", "-c", build, "tools", TOP], check=True)
+        named = TRIAL
+    if not os.access(named, os.X_OK):
+        sys.exit(f"no program {named}: `rt ci` or `./serve` builds one")
+    return os.path.abspath(named)
 
 
 def install(*packages):

@@ -1,5 +1,5 @@
 """What several tools need: lines of a file, where its functions begin and end, the groups of
-crates.txt, where the path of an import leads, a script as a module."""
+crates.txt, a script as a module."""
 import functools
 import importlib.machinery
 import importlib.util
@@ -10,17 +10,6 @@ import sys
 
 # The indent of a function, its `pub` if it has one, its name.
 FUNCTION = re.compile(r"( *)(pub(?:\([^)]*\))? )?(?:const )?(?:unsafe )?fn (\w+)")
-# What comes before and after the name in a definition of specs or proofs.
-DEFINITION = (r"(?:(?:abbrev|data|instance|lemma|macro|opaque|pattern|private|pub|record|tactic"
-    r"|unfoldable) +)*", r"(?= *[:({]| +[^\W\d_]| *$)")
-# What comes before and after the name of a list of rules.
-RULES = (r"(?:pub +)?ruleset +", r" *=")
-# What a file of specs re-exports: the path, and words of it or a name for it.
-REEXPORT = re.compile(r"(?m)^pub use Rattle\.([\w.]+?)(?:\.\{([^}]*)\})?(?: as (\w+))?\s*$")
-# An import: its path, and words of it or a name for it. A word, and the name that it gets.
-IMPORT = re.compile(r"(?m)^ *(?:ghost )?(?:pub )?use Rattle\.([^\s{;]+?)\.?(?:\{([^}]*)\})?"
-    r"(?: as ([^\s;]+?))?;?\s*$")
-IMPORTED = re.compile(r"([^\s,]+)(?: as ([^\s,]+))?")
 
 
 def lines_of(file):
@@ -78,46 +67,6 @@ def groups():
         crate = re.match(r"\w+", line)
         found.update({crate[0]: group} if crate else {})
     return found
-
-
-@functools.cache
-def reexported(crate, part):
-    """Returns what the specs or the proofs of a crate re-export: a path for each name."""
-    found = REEXPORT.finditer(text_of(f"crates/{crate}/{part}/Lib.antt"))
-    return {it[3] or it[1].split(".")[-1]: it[1] for it in found if it[2] is None}
-
-
-def led_to(path):
-    """Returns the file of specs or proofs to which a path leads that begins with a crate, through
-    what crates re-export, and the words that follow in the path. The file is None if there is none,
-    as for a type that code declares. Returns None outside of this repository."""
-    crate, *parts = path.split(".")
-    if not os.path.isdir(f"crates/{crate}") or not parts or parts[0] not in ("specs", "proofs"):
-        return None
-    part, *rest = parts
-    there = reexported(crate, part)
-    if rest and rest[0] in there:
-        return led_to(".".join([there[rest[0]], *rest[1:]]))
-    for count in range(len(rest), 0, -1):
-        file = f"crates/{crate}/{part}/{'/'.join(rest[:count])}.antt"
-        if os.path.isfile(file):
-            return file, rest[count:]
-    return None, rest
-
-
-def defined_in(file, word, most=3):
-    """Returns the file that defines a word: this one, or the one from which this one re-exports it.
-    Returns None if there is none."""
-    for begin, end in (DEFINITION, (r"[ \t│|]+" + DEFINITION[0], DEFINITION[1]), RULES):
-        if re.search(rf"(?m)^{begin}{re.escape(word)}{end}", text_of(file)):
-            return file
-    for path, words, _ in REEXPORT.findall(text_of(file)) if most else []:
-        there = led_to(path)
-        may_have = word in re.split(r"[,\s]+", words) if words else there and not there[1]
-        at = defined_in(there[0], word, most - 1) if may_have and there and there[0] else None
-        if at:
-            return at
-    return None
 
 
 def module_of(path):
