@@ -1,5 +1,6 @@
-//! Tests in code of packets, of the broker and of replication: what is no row of text. Printed
-//! texts and orders, long runs by a fixed rule, and groups and nodes that go on after a loss.
+//! Tests in code of packets, of the broker, of replication and of whole worlds: what is no row of
+//! text. Printed texts and orders, long runs by a fixed rule, worlds event by event, and what goes
+//! on after a loss.
 #![tactic(auto)]
 
 #[cfg(test)]
@@ -13,6 +14,8 @@ mod readings;
 mod replicas;
 #[cfg(test)]
 mod told;
+#[cfg(test)]
+mod worlds;
 
 pub use limits::numbers_of_texts;
 pub use ranges::ranges_have_their_edges;

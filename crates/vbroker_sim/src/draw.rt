@@ -1,6 +1,6 @@
 // Numbers that follow from a seed.
 
-use random_numbers::Numbers;
+use rows::Numbers;
 
 /// A sequence of numbers that depends only on its seed.
 #[derive(Clone, Copy)]

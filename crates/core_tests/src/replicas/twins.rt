@@ -4,7 +4,7 @@ use super::groups::opened;
 use ballot_base::{Body, Config, Effect, Members};
 use machine::{Tally, TallyCommand};
 use master::{Event, Group};
-use random_numbers::Numbers;
+use rows::Numbers;
 use std::alloc::Global;
 
 // How many events there are besides the cuts, and how many nodes.

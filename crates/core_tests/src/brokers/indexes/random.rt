@@ -2,7 +2,7 @@
 
 use super::grants::{Shown, shown};
 use packet_base::{ClientId, QoS};
-use random_numbers::Numbers;
+use rows::Numbers;
 use std::alloc::Global;
 use std::test::*;
 use subs::TreeIndex;

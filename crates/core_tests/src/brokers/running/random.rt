@@ -5,7 +5,7 @@ use broker::BrokerMachine;
 use broker_spec::Output;
 use machine::Machine;
 use packet::{Packet, encode};
-use random_numbers::Numbers;
+use rows::Numbers;
 use std::alloc::Global;
 use std::test::*;
 

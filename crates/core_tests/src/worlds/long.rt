@@ -1,7 +1,7 @@
 // Twenty thousand events by a fixed rule, over three nodes and four clients.
 
-use crate::tests::course::{CLIENTS, Course, crash_primary, step_next};
-use crate::tests::opening::{named, opened_for};
+use crate::worlds::course::{CLIENTS, Course, crash_primary, step_next};
+use crate::worlds::opening::{named, opened_for};
 use client_base::Accepted;
 use packet_base::QoS;
 use std::alloc::Global;

@@ -1,10 +1,10 @@
 // Ways out: after every event of the known courses, for members and a client, the end that is
 // promised, or Idle.
 
-use crate::rows::{Action, PRESENT, Row, let_happen, named, opened};
-use crate::tables::tests::courses::{
+use crate::worlds::tables::courses::{
     COURSES, Course, WAITS, all_hold, begun, is_kept, last_ballot, may_lead,
 };
+use crate::worlds::world_rows::{Action, PRESENT, Row, let_happen, named, opened};
 use broker_spec::Command;
 use packet_base::ClientId;
 use std::alloc::Global;

@@ -1,8 +1,8 @@
 // How a long run of events by a fixed rule continues.
 
-use crate::tests::opening::{config_of, named};
+use crate::worlds::opening::{config_of, named};
 use packet_base::{ClientId, Payload, QoS};
-use random_numbers::Numbers;
+use rows::Numbers;
 use session_base::Publication;
 use std::alloc::Global;
 use topics::{Filter, TopicName};

@@ -1,6 +1,8 @@
 // An administrator ends a client's session.
 
-use crate::rows::{ABSENT, Action, Agreed, Row, Said, Sent, Session, Table, fault_in};
+use crate::worlds::world_rows::{
+    ABSENT, Action, Agreed, Row, Said, Sent, Session, Table, fault_in,
+};
 
 // SUBACK of QoS 2 (MQTT 3.9), and the PUBLISH of `x` about `t/1` at QoS 2 with identifier 1 (3.3).
 const GRANTED_AND_SENT: &[u8] = b"\x90\x03\x00\x01\x02\x34\x08\x00\x03t/1\x00\x01x";

@@ -1,6 +1,6 @@
 // A ballot that waits for its activation when the next one is given.
 
-use crate::rows::{
+use crate::worlds::world_rows::{
     ABSENT, Action, Agreed, CONNECT_A, NOTHING, Row, Said, Sent, Session, Table, fault_in,
 };
 

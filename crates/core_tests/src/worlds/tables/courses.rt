@@ -1,11 +1,11 @@
 // The known courses of events, and what is known of a world after some of their rows.
 
-use crate::rows::{Action, Agreed, Row, Sent, is_right, opened};
-use crate::tables::tests::crashes::CRASHED;
-use crate::tables::tests::expelled::EXPELLED;
-use crate::tables::tests::stale::STALE;
-use crate::tables::tests::superseded::SUPERSEDED;
-use crate::tables::tests::travelling::TRAVELLED;
+use crate::worlds::tables::crashes::CRASHED;
+use crate::worlds::tables::expelled::EXPELLED;
+use crate::worlds::tables::stale::STALE;
+use crate::worlds::tables::superseded::SUPERSEDED;
+use crate::worlds::tables::travelling::TRAVELLED;
+use crate::worlds::world_rows::{Action, Agreed, Row, Sent, is_right, opened};
 use std::alloc::Global;
 use world::World;
 

@@ -1,6 +1,6 @@
 // Tables of rows: the first row that does not hold, and what the world shows then.
 
-use crate::rows::row::{Row, Said, Table, accepted, is_right, is_said, opened};
+use crate::worlds::world_rows::row::{Row, Said, Table, accepted, is_right, is_said, opened};
 use broker_spec::Command;
 use std::alloc::Global;
 use world::World;

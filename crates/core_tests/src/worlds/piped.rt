@@ -3,11 +3,11 @@
 
 mod row;
 
-use crate::tests::piped::row::Row::{
+use crate::worlds::piped::row::Row::{
     Abandon, Accepted, CannotDisconnect, CannotSubscribe, Connected, Count, Disconnect, Down,
     IsOpen, Kept, Leads, Open, Publish, Sent, Subscribe, Unsubscribe, Up, UpSome, Violates,
 };
-use crate::tests::piped::row::{Row, fault_of};
+use crate::worlds::piped::row::{Row, fault_of};
 
 // CONNECT of client `a` with CleanSession 0 and keep alive 0 (MQTT 3.1).
 const CONNECT: &[u8] = &[

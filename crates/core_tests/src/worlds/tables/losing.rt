@@ -1,6 +1,6 @@
 // Connections that are lost and ended, at one end and at the other.
 
-use crate::rows::{
+use crate::worlds::world_rows::{
     ABSENT, Action, Agreed, CONNECT_A, NOTHING, PRESENT, PUBLISH, PUBREC, Row, Sent, Table,
     fault_in,
 };

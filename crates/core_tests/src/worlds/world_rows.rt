@@ -1,5 +1,5 @@
-//! Rows of what happens in a world, and of what is seen of it then, byte by byte; for tests that
-//! are tables of such rows.
+// Rows of what happens in a world, and of what is seen of it then, byte by byte; for tests that are
+// tables of such rows.
 
 mod fault;
 mod row;

@@ -1,6 +1,6 @@
 // A primary that crashes.
 
-use crate::rows::{
+use crate::worlds::world_rows::{
     Action, Agreed, CONNECT_A, CONNECT_B, NOTHING, PRESENT, PRESENT_AND_PUBLISH, PUBLISH_AGAIN,
     PUBREC, PUBREL, Row, Said, Sent, Session, Table, fault_in,
 };

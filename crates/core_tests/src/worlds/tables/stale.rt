@@ -1,6 +1,6 @@
 // A primary of a ballot that is over.
 
-use crate::rows::{
+use crate::worlds::world_rows::{
     Action, Agreed, Fault, NOTHING, PRESENT_AND_PUBLISH, PUBREC, Row, Said, Sent, Session, Table,
     UNOPENED, fault_at, fault_in, is_right, opened,
 };

@@ -3,7 +3,7 @@
 // allocation of a test fail in turn; in the gate none fails. A step that runs out of memory counts
 // a loss, and otherwise all comes as usual.
 
-use crate::tests::opening::{named, opened};
+use crate::worlds::opening::{named, opened};
 use std::alloc::Global;
 use world::World;
 use world_pipes::events::Event;

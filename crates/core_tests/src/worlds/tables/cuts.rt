@@ -1,8 +1,8 @@
 // A node cuts its log after a row of a table, each after each row; all other rows hold as usual.
 
-use crate::rows::{Fault, Row, UNOPENED, fault_after, fault_at, is_right, opened};
-use crate::tables::tests::crashes::CRASHED;
-use crate::tables::tests::stale::STALE;
+use crate::worlds::tables::crashes::CRASHED;
+use crate::worlds::tables::stale::STALE;
+use crate::worlds::world_rows::{Fault, Row, UNOPENED, fault_after, fault_at, is_right, opened};
 use std::alloc::Global;
 use world::World;
 use world_pipes::events::Event;

@@ -1,6 +1,6 @@
 // Nodes that cut their logs.
 
-use crate::rows::{Action, Agreed, PRESENT, Row, Said, Sent, Table, fault_in};
+use crate::worlds::world_rows::{Action, Agreed, PRESENT, Row, Said, Sent, Table, fault_in};
 
 // What is agreed before and after the other member takes over.
 const BEFORE: &[Said] = &[Said::Connect("a")];

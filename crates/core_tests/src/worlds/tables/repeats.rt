@@ -1,6 +1,8 @@
 // Messages that come again, or in another order.
 
-use crate::rows::{ABSENT, Action, Agreed, CONNECT_A, NOTHING, Row, Sent, Table, fault_in};
+use crate::worlds::world_rows::{
+    ABSENT, Action, Agreed, CONNECT_A, NOTHING, Row, Sent, Table, fault_in,
+};
 
 // A CONNECT is answered once the backup holds it. Then the Commit comes again, the Held, and the
 // Append, which is held again; an Append that is already there adds nothing.

@@ -1,6 +1,6 @@
 // Many changes of the configuration.
 
-use crate::tests::opening::{config_of, opened};
+use crate::worlds::opening::{config_of, opened};
 use std::alloc::Global;
 use world::World;
 use world_pipes::events::Event;

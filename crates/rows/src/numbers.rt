@@ -1,7 +1,7 @@
 // Numbers by a fixed rule.
 
 ghost use Rattle.std.specs.Prelude.{◌≡◌};
-ghost use Rattle.random_numbers.specs.Numbers.{next_state, number_of};
+ghost use Rattle.rows.specs.Numbers.{next_state, number_of};
 
 use std::marker::Model;
 

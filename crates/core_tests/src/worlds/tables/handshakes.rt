@@ -1,6 +1,6 @@
 // A publication at QoS 2 from one client to another, byte by byte.
 
-use crate::rows::{
+use crate::worlds::world_rows::{
     Action, Agreed, NOTHING, PUBLISH, PUBREC, PUBREL, Row, Sent, Session, Table, fault_in,
 };
 

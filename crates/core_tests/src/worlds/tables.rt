@@ -1,5 +1,5 @@
-// What no clause says: which events are idle, what is carried on connections, and what clients take
-// in.
+// Worlds as tables of rows: which events are idle, what is carried on connections, and what clients
+// take in.
 
 mod courses;
 mod crashes;
