@@ -1,0 +1,2 @@
+pub mod EscapedTexts
+pub mod LinesLimited
