@@ -1,0 +1,5 @@
+pub mod Appended
+pub mod BytesEscaped
+pub mod BytesKept
+pub mod DevicesRead
+pub mod PagesTurned
