@@ -1,0 +1,3 @@
+pub mod Added
+pub mod Plain
+pub mod Counted

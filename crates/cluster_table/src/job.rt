@@ -1,0 +1,25 @@
+// What a command line asks for.
+
+/// The job that a command line asks for: a subcommand with its values. The texts are the user's
+/// words.
+#[derive(Debug, Drop)]
+pub enum Job<'a> {
+    /// Runs the master of a cluster.
+    Master(RunMaster<'a>),
+    /// Makes a key.
+    Key(MakeKey<'a>),
+}
+
+/// The words of `master`.
+#[derive(Debug, Drop)]
+pub struct RunMaster<'a> {
+    /// The file with the table of the cluster.
+    pub config: &'a str,
+}
+
+/// The words of `key`.
+#[derive(Debug, Drop)]
+pub struct MakeKey<'a> {
+    /// The file that gets the key.
+    pub file: &'a str,
+}
