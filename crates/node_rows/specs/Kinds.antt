@@ -6,6 +6,7 @@ use Rattle.node_rows.specs.Values.{Is}
 use Rattle.node_rows.specs.Openings.{OpeningsAgree}
 use Rattle.node_rows.specs.NodeSteps.{NodeAgrees}
 use Rattle.node_rows.specs.GroupSteps.{GroupAgrees}
+use Rattle.node_rows.specs.ClientSteps.{ClientAgrees}
 
 -- the steps of a row of this kind agree
 pub data KindAgrees : Text → List Line → Type 0 where
@@ -20,6 +21,12 @@ pub data KindAgrees : Text → List Line → Type 0 where
       → KindAgrees kind steps
   -- a group of nodes
   group : {kind : Text} {steps : List Line} → Is kind (codes "group") → GroupAgrees steps
+      → KindAgrees kind steps
+  -- a client; each piece of its server is also cut in two
+  client : {kind : Text} {steps : List Line} → Is kind (codes "client") → ClientAgrees steps
+      → KindAgrees kind steps
+  -- a client with pieces as they are written
+  whole : {kind : Text} {steps : List Line} → Is kind (codes "whole") → ClientAgrees steps
       → KindAgrees kind steps
 
 -- the first line of a row has its kind and its name

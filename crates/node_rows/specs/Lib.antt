@@ -7,4 +7,7 @@ pub mod NodeSteps
 pub mod Events
 pub mod GroupAnswers
 pub mod GroupSteps
+pub mod ClientAnswers
+pub mod ClientCalls
+pub mod ClientSteps
 pub mod Kinds

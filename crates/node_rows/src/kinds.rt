@@ -3,6 +3,7 @@
 ghost use Rattle.std.specs.Prelude.{◌≡◌};
 ghost use Rattle.node_rows.specs.Kinds.{KindAgrees, NamedAgrees};
 
+use crate::client_steps::{play_cut_client, play_whole_client};
 use crate::cut_pieces::play_cut;
 use crate::group_steps::play_group;
 use crate::openings::play_openings;
@@ -14,7 +15,7 @@ const NODE_CUTS: usize = 16_400;
 
 const FLOOD_CUTS: usize = 30;
 
-/// The kinds `opening`, `node`, `flood` and `group`.
+/// The kinds `opening`, `node`, `flood`, `group`, `client` and `whole`.
 pub(crate) struct Kinds;
 
 impl Player for Kinds {
@@ -41,7 +42,7 @@ fn play_named(alloc: Global, number: u64, fields: &[Field], steps: &[Line]) -> O
 }
 
 // Plays the steps of a row of this kind.
-#[tactic(auto, using(crate::proofs::KindAnswers::opening_kind, crate::proofs::KindAnswers::node_kind, crate::proofs::KindAnswers::flood_kind, crate::proofs::KindAnswers::group_kind))]
+#[tactic(auto, using(crate::proofs::KindAnswers::opening_kind, crate::proofs::KindAnswers::node_kind, crate::proofs::KindAnswers::flood_kind, crate::proofs::KindAnswers::group_kind, crate::proofs::KindAnswers::client_kind, crate::proofs::KindAnswers::whole_kind))]
 fn play_kind(alloc: Global, number: u64, kind: &Field, steps: &[Line]) -> Outcome
     ensures { result ≡ Outcome.Agrees → KindAgrees kind.now steps.now }
 {
@@ -53,6 +54,10 @@ fn play_kind(alloc: Global, number: u64, kind: &Field, steps: &[Line]) -> Outcom
         play_cut(alloc, steps, FLOOD_CUTS)
     } else if kind.is(b"group") {
         play_group(alloc, steps)
+    } else if kind.is(b"client") {
+        play_cut_client(alloc, steps)
+    } else if kind.is(b"whole") {
+        play_whole_client(alloc, steps)
     } else {
         Outcome::Malformed(number)
     }

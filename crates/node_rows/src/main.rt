@@ -1,7 +1,10 @@
-//! Plays rows of one node and of groups of nodes: files of data/.
+//! Plays rows of one node, of groups of nodes and of a client: files of data/.
 #![tactic(auto)]
 
+mod accepted;
 mod answers;
+mod client_calls;
+mod client_steps;
 mod cut_pieces;
 mod group_events;
 mod group_messages;
@@ -17,7 +20,7 @@ use anyhow::{Context, Result, bail};
 use rows::play_file;
 
 // The files whose rows have to agree.
-const FILES: &[&str] = &["clients.rows", "replica.rows", "group.rows"];
+const FILES: &[&str] = &["node.rows", "replica.rows", "group.rows", "client.rows"];
 
 // The file whose rows have to differ.
 const TURNED: &str = "must_differ.rows";

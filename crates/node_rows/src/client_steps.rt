@@ -3,15 +3,16 @@
 ghost use Rattle.std.specs.Prelude.{◌≡◌, ◌++◌, ◌∷◌, [], IfOk, OnOk, codes, map};
 ghost use Rattle.rows.specs.Playing.{Agrees};
 ghost use Rattle.client.specs.Core.{new_core, without_accepted};
-ghost use Rattle.client_rows.specs.Answers.{accepted_fields, call_fields, refusal_fields, state_fields};
-ghost use Rattle.client_rows.specs.ClientSteps.{ClientAgrees, ClientDoes, StepDoes, without_out};
+ghost use Rattle.node_rows.specs.ClientAnswers.{accepted_fields, call_fields, refusal_fields, state_fields};
+ghost use Rattle.node_rows.specs.ClientSteps.{ClientAgrees, ClientDoes, StepDoes, without_out};
 
-use crate::answers::{append_accepted, only, put_flag, put_number};
-use crate::calls::call;
+use crate::accepted::{append_accepted, put_flag};
+use crate::answers::put_number;
+use crate::client_calls::call;
 use client::ClientCore;
 use client_base::ClientError;
 use packet_base::ClientId;
-use rows::{Field, Fields, Line, Outcome, StepFault, Tested, play_steps};
+use rows::{Field, Fields, Line, Outcome, StepFault, Tested, only, play_steps};
 use std::alloc::Global;
 
 // How many ways a piece of the server is cut in two: no piece of a row is longer.
@@ -29,7 +30,7 @@ impl Drop for Client {
 }
 
 impl Tested for Client {
-    ghost use Rattle.client_rows.specs.ClientSteps.{StepDoes};
+    ghost use Rattle.node_rows.specs.ClientSteps.{StepDoes};
 
     ghost Does = { StepDoes };
 
@@ -58,7 +59,7 @@ fn done(
 }
 
 // Does a step that is only a word.
-#[tactic(auto, using(crate::proofs::StepAnswers::state_step, crate::proofs::StepAnswers::take_step))]
+#[tactic(auto, using(crate::proofs::ClientStepAnswers::state_step, crate::proofs::ClientStepAnswers::take_step))]
 fn done_alone(alloc: Global, core: &mut ClientCore, word: &Field) -> Result<Vec<Fields>, StepFault>
     ensures { IfOk result (λ answers.
         ClientDoes core.old (word.now ∷ []) answers.items core.new) }
@@ -151,8 +152,8 @@ fn taken(alloc: Global, core: &mut ClientCore) -> Result<Vec<Fields>, StepFault>
 }
 
 /// Plays the steps of a client as they are written.
-#[tactic(auto, using(crate::proofs::KindAnswers::of_client))]
-pub(crate) fn play_whole(alloc: Global, steps: &[Line]) -> Outcome
+#[tactic(auto, using(crate::proofs::ClientStepAnswers::of_client))]
+pub(crate) fn play_whole_client(alloc: Global, steps: &[Line]) -> Outcome
     ensures { result ≡ Outcome.Agrees → ClientAgrees steps.now }
 {
     match ClientId::new(alloc, "a") {
@@ -175,10 +176,10 @@ fn play_client(alloc: Global, client: ClientId, steps: &[Line]) -> Outcome
 
 /// Plays the steps as they are written, and then with each piece of the server cut in two, at each
 /// index up to 25.
-pub(crate) fn play_cut(alloc: Global, steps: &[Line]) -> Outcome
+pub(crate) fn play_cut_client(alloc: Global, steps: &[Line]) -> Outcome
     ensures { result ≡ Outcome.Agrees → ClientAgrees steps.now }
 {
-    let outcome = play_whole(alloc, steps);
+    let outcome = play_whole_client(alloc, steps);
     if !outcome.is_agreement() {
         return outcome;
     }

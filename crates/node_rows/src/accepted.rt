@@ -1,28 +1,12 @@
-// Parts of answers.
+// The answers that are accepted publications.
 
-ghost use Rattle.std.specs.Prelude.{◌≡◌, ◌++◌, ◌∷◌, [], IfOk, OnOk, map};
-ghost use Rattle.client_rows.specs.Answers.{accepted_fields, content_fields, flag_fields, mark_fields, number_fields};
+ghost use Rattle.std.specs.Prelude.{◌≡◌, ◌++◌, IfOk, OnOk, map};
+ghost use Rattle.node_rows.specs.ClientAnswers.{accepted_fields, content_fields, flag_fields, mark_fields};
 
+use crate::answers::put_number;
 use client_base::Accepted;
 use rows::Fields;
 use std::alloc::{AllocError, Global};
-
-/// Returns the answers that are only this one.
-pub(crate) fn only(alloc: Global, answer: Fields) -> Result<Vec<Fields>, AllocError>
-    ensures { IfOk result (λ answers. answers.items ≡ answer ∷ []) }
-{
-    let mut answers = Vec::new(alloc);
-    answers.push(answer)?;
-    Ok(answers)
-}
-
-/// Appends a word and a number.
-pub(crate) fn put_number(word: &str, number: u64, out: &mut Fields) -> Result<(), AllocError>
-    ensures { OnOk result (out.new ≡ out.old ++ number_fields word.now number) }
-{
-    out.text(word)?;
-    out.number(number)
-}
 
 /// Appends a word and a flag, 0 or 1.
 pub(crate) fn put_flag(word: &str, flag: bool, out: &mut Fields) -> Result<(), AllocError>
@@ -47,7 +31,7 @@ pub(crate) fn append_accepted(
     Ok(())
 }
 
-#[tactic(auto, unfolding(crate::specs::Answers::accepted_fields))]
+#[tactic(auto, unfolding(crate::specs::ClientAnswers::accepted_fields))]
 fn accepted_fields(alloc: Global, accepted: &Accepted) -> Result<Fields, AllocError>
     ensures { IfOk result (λ answer. answer ≡ accepted_fields accepted.now) }
 {

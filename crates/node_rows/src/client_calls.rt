@@ -1,7 +1,7 @@
-// The call that a step is.
+// The call of a client that a step is.
 
 ghost use Rattle.std.specs.Prelude.{◌≡◌, ◌∷◌, [], IfOk};
-ghost use Rattle.client_rows.specs.Calls.{Calls, IsQoS};
+ghost use Rattle.node_rows.specs.ClientCalls.{Calls, IsQoS};
 
 use client::ClientCore;
 use client_base::ClientError;
@@ -28,7 +28,7 @@ pub(crate) fn call(
     }
 }
 
-#[tactic(auto, using(crate::proofs::CallAnswers::open_call, crate::proofs::CallAnswers::lost_call, crate::proofs::CallAnswers::disconnect_call))]
+#[tactic(auto, using(crate::proofs::ClientCallAnswers::open_call, crate::proofs::ClientCallAnswers::lost_call, crate::proofs::ClientCallAnswers::disconnect_call))]
 fn call_alone(core: &mut ClientCore, word: &Field) -> Result<Result<(), ClientError>, StepFault>
     ensures { IfOk result (λ ended. Calls (word.now ∷ []) core.old ended core.new) }
 {
@@ -44,7 +44,7 @@ fn call_alone(core: &mut ClientCore, word: &Field) -> Result<Result<(), ClientEr
     }
 }
 
-#[tactic(auto, using(crate::proofs::CallAnswers::bytes_call))]
+#[tactic(auto, using(crate::proofs::ClientCallAnswers::bytes_call))]
 fn call_with_value(
     alloc: Global,
     core: &mut ClientCore,
@@ -75,7 +75,7 @@ fn unsubscribe(
     Ok(core.unsubscribe(filter))
 }
 
-#[tactic(auto, using(crate::proofs::CallAnswers::subscribe_call))]
+#[tactic(auto, using(crate::proofs::ClientCallAnswers::subscribe_call))]
 fn subscribe(
     alloc: Global,
     core: &mut ClientCore,
@@ -94,7 +94,7 @@ fn subscribe(
     Ok(core.subscribe(filter, qos))
 }
 
-#[tactic(auto, using(crate::proofs::CallAnswers::publish_call))]
+#[tactic(auto, using(crate::proofs::ClientCallAnswers::publish_call))]
 fn publish(
     alloc: Global,
     core: &mut ClientCore,

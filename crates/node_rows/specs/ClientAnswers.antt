@@ -1,7 +1,6 @@
--- The fields of answers.
-use Rattle.std.specs.Prelude.{◌≡◌, ◌^◌, ◌-◌, ℕ, Bool, true, List, [], ◌∷◌, ◌++◌, bytes_eq, codes}
+-- The fields of answers of a client.
+use Rattle.std.specs.Prelude.{◌^◌, ◌-◌, Bool, List, [], ◌∷◌, ◌++◌, codes}
 use Rattle.std.specs.Prelude.{length, Result, Ok, Err, min}
-use Rattle.std.specs.Fmt.{decimal}
 use Rattle.rows.specs.Fields.{Text}
 use Rattle.packet_base.specs.Spelling.{bit}
 use Rattle.packet_base.specs.QoS.{qos_number}
@@ -10,14 +9,7 @@ use Rattle.client_base.specs.Refusals.{client_number}
 use Rattle.client_base.specs.State.{is_online, kept_count}
 use Rattle.client_base.specs.declared.accepted.Accepted.{Accepted}
 use Rattle.client_base.specs.declared.error.ClientError.{ClientError}
-
--- a field is this word
-abbrev pub Is : Text → Text → Type 0
-Is field word = bytes_eq field word ≡ true
-
--- a word and a number
-abbrev pub number_fields : Text → ℕ → List Text
-number_fields word number = word ∷ decimal number ∷ []
+use Rattle.node_rows.specs.Answers.{number_fields}
 
 -- a word and a flag, 0 or 1
 abbrev pub flag_fields : Text → Bool → List Text

@@ -4,9 +4,10 @@ use Rattle.rows.specs.Fields.{Text}
 use Rattle.rows.specs.Playing.{Answers, Agrees}
 use Rattle.rows.specs.declared.line.Line.{Line}
 use Rattle.client.specs.Core.{Core, new_core, without_accepted}
-use Rattle.client_rows.specs.Answers.{Is, accepted_fields, call_fields, state_fields}
-use Rattle.client_rows.specs.Calls.{Calls, Ended}
-use Rattle.client_rows.specs.declared.client_steps.Client.{Client}
+use Rattle.node_rows.specs.Values.{Is}
+use Rattle.node_rows.specs.ClientAnswers.{accepted_fields, call_fields, state_fields}
+use Rattle.node_rows.specs.ClientCalls.{Calls, Ended}
+use Rattle.node_rows.specs.declared.client_steps.Client.{Client}
 
 -- what it wrote is taken
 abbrev pub without_out : Core → Core

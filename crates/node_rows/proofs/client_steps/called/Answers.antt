@@ -1,6 +1,6 @@
 use Rattle.std.proofs.Common.{◌∷◌}
-use Rattle.client_rows.proofs.StepAnswers.{call_step}
-use Rattle.client_rows.proofs.client_steps.called.Goals as goal
+use Rattle.node_rows.proofs.ClientStepAnswers.{call_step}
+use Rattle.node_rows.proofs.client_steps.called.Goals as goal
 
 pub returns : goal.returns
 returns c =

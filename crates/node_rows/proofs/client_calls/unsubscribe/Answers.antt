@@ -1,6 +1,6 @@
 use Rattle.std.proofs.Common.{rules}
-use Rattle.client_rows.proofs.CallAnswers.{unsubscribe_call}
-use Rattle.client_rows.proofs.calls.unsubscribe.Goals as goal
+use Rattle.node_rows.proofs.ClientCallAnswers.{unsubscribe_call}
+use Rattle.node_rows.proofs.client_calls.unsubscribe.Goals as goal
 
 pub returns : goal.returns
 returns c =

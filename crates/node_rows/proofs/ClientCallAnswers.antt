@@ -1,11 +1,11 @@
--- CallAnswers.antt: a call, by its word.
+-- ClientCallAnswers.antt: a call of a client, by its word.
 use Rattle.std.proofs.Common.{◌≡◌, true, false, [], ◌∷◌, Ok, codes, bytes_eq, refl, subst}
 use Rattle.rows.specs.Fields.{Text}
 use Rattle.packet_base.specs.declared.qos.QoS.{QoS}
 use Rattle.client.specs.Core.{AnswersCall, Core, LeavesServer, OpensConnection, gone, publication_with}
 use Rattle.client.specs.Input.{OnBytes}
 use Rattle.client_base.specs.Steps.{Call, keeper_step}
-use Rattle.client_rows.specs.Calls.{Calls, Ended, IsQoS}
+use Rattle.node_rows.specs.ClientCalls.{Calls, Ended, IsQoS}
 
 pub open_call : (word : Text) (old new : Core) (ended : Ended) → bytes_eq word (codes "open") ≡ true
     → OpensConnection (keeper_step Call.Opens old.state) old ended new → Calls (word ∷ []) old ended new

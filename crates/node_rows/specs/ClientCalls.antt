@@ -1,4 +1,4 @@
--- The call that a step is, and what it does.
+-- The call of a client that a step is, and what it does.
 use Rattle.std.specs.Prelude.{◌≡◌, false, List, [], ◌∷◌, codes, Some, Result, Ok}
 use Rattle.packet_base.specs.QoS.{qos_number}
 use Rattle.packet_base.specs.declared.qos.QoS.{QoS}
@@ -7,7 +7,7 @@ use Rattle.client.specs.Core.{AnswersCall, Core, LeavesServer, OpensConnection, 
 use Rattle.client.specs.Input.{OnBytes}
 use Rattle.client_base.specs.Steps.{Call, keeper_step}
 use Rattle.client_base.specs.declared.error.ClientError.{ClientError}
-use Rattle.client_rows.specs.Answers.{Is}
+use Rattle.node_rows.specs.Values.{Is}
 
 -- how a call ends
 abbrev pub Ended : Type 0

@@ -1,3 +1,0 @@
-pub mod CallAnswers
-pub mod StepAnswers
-pub mod KindAnswers
