@@ -4,5 +4,9 @@ mod SameNumbers
 mod NodesOpened
 mod NodesEnded
 mod KeptEnds
+mod LanesCame
 mod ReportsTold
 mod ListenersFound
+mod OpeningsCounted
+mod Strangers
+mod PortsOnce

@@ -1,11 +1,11 @@
 -- NodesEnded.antt: the log by which all nodes are settled is a run that was served.
-use Rattle.std.proofs.Common.{◌≡◌, ℕ, ◌+◌, ◌<◌, ◌≤◌, ◌==◌, zero, suc, Bool, true, false, List, [], ◌∷◌, ◌++◌, Some, length, map, get_or, refl, ◌∙◌, ap, sym, subst, arith, inl, inr, ◌⊎◌}
-use Rattle.std.specs.Prelude.{slice_get}
+use Rattle.std.proofs.Common.{◌≡◌, ℕ, ◌+◌, ◌<◌, ◌==◌, zero, suc, Bool, true, false, List, [], ◌∷◌, ◌++◌, length, map, get_or, refl, ◌∙◌, ap, sym, subst, arith, inl, inr, ◌⊎◌}
 use Rattle.std.specs.List.{All, Contains}
 use Rattle.std.specs.List.Sorted.{IsNonDecreasingBy, IsPermutation}
 use Rattle.std.proofs.lemmas.Bool.{false≢true}
 use Rattle.std.proofs.lemmas.List.{get_or-map, length-map}
 use Rattle.std.proofs.lemmas.List.Elements.{All-contains, All-map, Contains-append_cases, Contains-append_right, Contains-get_or}
+use mathlib.Core.List.{IsPrefix}
 use Rattle.std.proofs.lemmas.List.Sorted.{Contains-permutation, IsPermutation-refl, IsPermutation-sym, IsPermutation-trans}
 use Rattle.ballot_base.specs.LawfulConfig.{max_node}
 use Rattle.ballot_base.specs.declared.config.Config.{Config}
@@ -17,29 +17,31 @@ use Rattle.run_history.specs.History.{IsHistory}
 use Rattle.run_history.specs.Log.{events_by, items_taken}
 use Rattle.run_history.specs.Masters.{MasterView}
 use Rattle.run_history.specs.Parties.{NodeView}
+use Rattle.run_history.proofs.Prefixes.{prefix_trans}
 use Rattle.run_history.proofs.Settling.{at_index}
 use Rattle.server.specs.declared.node_threads.served_node.NodeReport.{NodeReport}
 use Rattle.server.specs.declared.served_run.ServedRun.{ServedRun}
-use Rattle.server.specs.Ended.{EndedView, IsReportOf, IsTold}
+use Rattle.server.specs.Ended.{EndedView, IsTold}
 use Rattle.server.specs.Ends.{IsReportIn, IsServedRun}
 use Rattle.server.specs.Inside.{IsIdle, numbers_of}
 use Rattle.server.proofs.NodesOpened.{has_contains}
+use Rattle.server.proofs.of_node_threads.OwnSendsJoin.{own_later}
 
 -- ---- lists
 
-contains_map : {A B : Type 0} (f : A → B) (xs : List A) (x : A) → Contains xs x → Contains (map f xs) (f x)
+pub contains_map : {A B : Type 0} (f : A → B) (xs : List A) (x : A) → Contains xs x → Contains (map f xs) (f x)
 contains_map f [] x (k, less, is) = absurd (omega (arith, less))
 contains_map f (y ∷ xs) x (zero, less, is) = (zero, omega arith, ap f is)
 contains_map f (y ∷ xs) x (suc k, less, is) =
     let at = contains_map f xs x (k, omega (arith, less), is) in (suc at.0, omega (arith, at.1), at.2)
 
 -- what the images of a list have is the image of one that it has
-record Image {A B : Type 0} (f : A → B) (xs : List A) (y : B) : Type 0 where
-  of : A
-  among : Contains xs of
-  is : f of ≡ y
+pub record Image {A B : Type 0} (f : A → B) (xs : List A) (y : B) : Type 0 where
+  pub of : A
+  pub among : Contains xs of
+  pub is : f of ≡ y
 
-image_of : {A B : Type 0} (f : A → B) (xs : List A) (y : B) → Contains (map f xs) y → Image f xs y
+pub image_of : {A B : Type 0} (f : A → B) (xs : List A) (y : B) → Contains (map f xs) y → Image f xs y
 image_of f [] y (k, less, is) = absurd (omega (arith, less))
 image_of f (x ∷ xs) y (zero, less, is) = record { of = x; among = (zero, omega arith, refl); is = is }
 image_of f (x ∷ xs) y (suc k, less, is) =
@@ -97,8 +99,8 @@ ended_at config log nodes node all long at =
     all at.0 node (omega (arith, at.1, long)) (at_index nodes at.0 node at.1 (sym at.2))
 
 report_in : (config : Config) (log : List RunEvent) (one : EndedView) (index : ℕ)
-    → IsTold one → IsEnded max_node config log index one.node → IsReportIn config log one.report
-report_in config log one index told ended = record {
+    → IsTold one → IsPrefix one.log log → IsEnded max_node config log index one.node → IsReportIn config log one.report
+report_in config log one index told known ended = record {
   index = one.node.index;
   named = told.named;
   ended = one.node.node.core;
@@ -111,9 +113,16 @@ report_in config log one index told ended = record {
     by_lanes = told.is.by_lanes;
     lanes = told.is.lanes;
     counted = told.is.counted;
+    connections = told.is.connections;
+    own = own_later one.log log one.report.number [] _ known told.is.own;
     base = told.is.base;
   };
 }
+
+-- what nodes know of messages is known by a longer log
+pub known_later : (seen log : List RunEvent) (served : List EndedView) → IsPrefix seen log
+    → All (λ (one : EndedView). IsPrefix one.log seen) served → All (λ (one : EndedView). IsPrefix one.log log) served
+known_later seen log served longer known k d less = prefix_trans (get_or served k d).log seen log (known k d less) longer
 
 -- a node that has no report did nothing
 others_idle : (config : Config) (log : List RunEvent) (nodes others : List NodeView) (served : List EndedView) (index : ℕ) (node : NodeView)
@@ -139,10 +148,11 @@ map_twice (one ∷ served) = ap (λ (l : List ℕ). one.report.number ∷ l) (ma
 pub served_run : (config : Config) (log : List RunEvent) (party : MasterView) (nodes others : List NodeView) (served : List EndedView) (run : ServedRun)
     → IsEnd max_node config log party nodes → length nodes ≡ max_node
     → IsPermutation (others ++ map (λ (one : EndedView). one.node) served) nodes
-    → All IsTold served → All IsIdle others → IsNonDecreasingBy (λ (one : EndedView). one.report.number) served
+    → All IsTold served → All (λ one. IsPrefix one.log log) served → All IsIdle others
+    → IsNonDecreasingBy (λ (one : EndedView). one.report.number) served
     → run.log ≡ log → run.reports.items ≡ map (λ (one : EndedView). one.report) served
     → IsServedRun config (numbers_of served) run
-served_run config log party nodes others served run end long moved told idle rising is_log reports =
+served_run config log party nodes others served run end long moved told known idle rising is_log reports =
     let node_of : EndedView → NodeView = λ (one : EndedView). one.node in
     let among : (one : EndedView) → Contains served one → Contains nodes one.node =
     λ one at. Contains-permutation (others ++ map node_of served) nodes one.node moved (Contains-append_right others (map node_of served) one.node (contains_map node_of served one at)) in record {
@@ -153,7 +163,7 @@ served_run config log party nodes others served run end long moved told idle ris
           (All-map (IsReportIn config log) (λ (one : EndedView). one.report) served
           (λ k d less.
           let at = among (get_or served k d) (Contains-get_or served k d less) in
-          report_in config log (get_or served k d) at.0 (told k d less) (ended_at config log nodes (get_or served k d).node end.settled long at))));
+          report_in config log (get_or served k d) at.0 (told k d less) (known k d less) (ended_at config log nodes (get_or served k d).node end.settled long at))));
       served =
           subst (IsPermutation (numbers_of served)) (sym (ap (map (λ (report : NodeReport). report.number)) reports ∙ map_twice served))
           (IsPermutation-refl (numbers_of served));

@@ -7,7 +7,7 @@ use Rattle.ballot_base.specs.LawfulConfig.{max_node}
 use Rattle.ballot_base.specs.declared.config.Config.{Config}
 use Rattle.run_history.specs.declared.event.RunEvent.{RunEvent}
 use Rattle.run_history.specs.History.{IsHistory}
-use Rattle.run_history.specs.Log.{events_by, nodes_in}
+use Rattle.run_history.specs.Log.{events_by, nodes_in, sent_in}
 use Rattle.world_base.specs.node_core.Core.{CoreState}
 use Rattle.server.specs.Ended.{IsReportOf}
 use Rattle.server.specs.declared.node_threads.served_node.NodeReport.{NodeReport}
@@ -19,7 +19,7 @@ pub record IsReportIn (config : Config) (log : List RunEvent) (report : NodeRepo
   pub named : index + 1 ≡ report.number
   pub ended : CoreState
   pub at_end : slice_get (nodes_in max_node config log) index ≡ Some ended
-  pub is : IsReportOf log ended report
+  pub is : IsReportOf (sent_in log) log ended report
 
 -- What was served is one run of the model of groups, which opened in this configuration. The nodes
 -- of these numbers each have a report of it, in rising order, and the other nodes did nothing.

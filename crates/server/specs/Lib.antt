@@ -3,4 +3,5 @@ pub mod Ended
 pub mod Ends
 pub mod Inside
 pub mod Opening
+pub mod Ports
 pub mod Refusals

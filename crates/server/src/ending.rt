@@ -43,16 +43,29 @@ pub(crate) fn settle<H: RunNaming, R: Wait>(
     ensures run { IfOk result (λ run.
         IsServedRun H.config (numbers_of ended.served.items) run) }
 {
+    let seen = with_ended(seen, ended.served.as_slice());
     let (nodes, reports) = parted(ended)?;
     let nodes = by_index(nodes);
     if nodes.len() != usize::from(MAX_NODE) {
         return Err(ServeError::Memory);
     }
-    let log = settle_all(rt, seen, master, nodes.as_slice());
+    let log = settle_all(rt, &seen, master, nodes.as_slice());
     Ok(ServedRun {
         log: log.into_log(),
         reports,
     })
+}
+
+// Returns a prefix of the log that has what was seen, and what these nodes know of messages.
+fn with_ended<H: RunNaming>(seen: &SeenRun<H>, served: &[EndedNode<H>]) -> SeenRun<H>
+    ensures seen { IsPrefix seen.now result }
+    ensures known { All (λ one. IsPrefix one.log result) served.now }
+{
+    let mut joined = seen.again();
+    for one in served {
+        joined.learn(one.seen());
+    }
+    joined
 }
 
 // Returns all nodes, and the reports of those that were served.
@@ -74,7 +87,7 @@ fn parted<H: RunNaming>(
     let mut nodes = others;
     let mut reports = reports;
     for one in served {
-        let EndedNode { report, node } = one;
+        let EndedNode { report, node, .. } = one;
         nodes.push(node)?;
         reports.push(report)?;
     }

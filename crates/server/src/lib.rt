@@ -12,6 +12,7 @@ mod serve_error;
 mod served_run;
 mod service;
 mod shutdown;
+mod theorems;
 mod thread_starts;
 
 pub use crate::node_threads::{NodeReport, THREADS};
@@ -28,3 +29,4 @@ pub use serve_error::ServeError;
 pub use served_run::ServedRun;
 pub use service::{serve_gated, serve_while};
 pub use streams::{Listener, MAX_CONNECTIONS};
+pub use theorems::ports_come_once;

@@ -13,6 +13,7 @@ mod node_context;
 mod opened_node;
 mod own_lane;
 mod own_thread;
+mod served_lane;
 mod served_node;
 mod shared;
 mod theorems;

@@ -5,7 +5,6 @@ use Rattle.ballot_base.specs.declared.message.Message.{Message}
 use Rattle.broker_spec.specs.declared.command.Command.{Command}
 use Rattle.mailbox.specs.Ends.{LaneView}
 use Rattle.world_base.specs.declared.node_core.item.Item.{Item}
-use Rattle.world_base.specs.declared.node_core.item.Item.TheVariants.{Peer}
 use Rattle.post.specs.outbox.Queued.{IsPosted}
 use Rattle.post.specs.outbox.Queued.IsPosted.{sent_to, ordered}
 use Rattle.run_history.specs.declared.event.RunEvent.{RunEvent}
@@ -32,7 +31,7 @@ pub posted_later : (xs ys : List RunEvent) (number : ℕ) (item : Item) → IsPr
 posted_later xs ys number _ longer (sent_to message sent) = sent_to message (in_later (number, message) xs ys longer sent)
 posted_later xs ys number item longer (ordered order) = ordered order
 
-own_later : (xs ys : List RunEvent) (number : ℕ) (before after : List Item) → IsPrefix xs ys
+pub own_later : (xs ys : List RunEvent) (number : ℕ) (before after : List Item) → IsPrefix xs ys
     → SendsOwn (sent_in xs) number before after → SendsOwn (sent_in ys) number before after
 own_later xs ys number before _ longer starts = starts
 own_later xs ys number before _ longer (ticks now rest) = ticks now (own_later xs ys number before _ longer rest)

@@ -1,13 +1,19 @@
 // The threads of a node, each with a slot, and most with a lane for good.
+//
+// A lane lies in its slot before its thread begins, when it has sent nothing, and again after the
+// thread has returned. Both are under a lock, so the type of the slot says what the lane has sent.
 
-ghost use Rattle.std.specs.Prelude.{◌≡◌, ℕ, ◌<◌, None, length, slice_index_or};
-ghost use Rattle.server.specs.node_threads.ThreadLives.{Returns};
+ghost use Rattle.std.specs.Prelude.{◌≡◌, ℕ, ◌<◌, ◌∷◌, [], IfOk, IfSome, None, OnOk, length, slice_index_or};
+ghost use Rattle.server.specs.node_threads.ThreadLives.{AddsServed, CameBack, HasServed, Returns};
 
+use crate::node_threads::own_lane::OwnLane;
+use crate::node_threads::served_lane::ServedLane;
 use crate::node_threads::served_node::ServedNode;
+use machine::Memory;
 use mailbox::Lane;
 use node::{HasState, NodeNaming};
 use node_base::devices::Gate;
-use run_history::{RunNaming, SentItem};
+use run_history::{RunNaming, SeenRun, SentItem};
 use std::marker::Model;
 use std::sync::Wait;
 use std::thread;
@@ -22,31 +28,68 @@ pub(crate) const LANES: u8 = MAX_CONNECTIONS + 2;
 /// How many threads a node has: one for each lane, and the blocked writer.
 pub const THREADS: usize = LANES as usize + 1;
 
-/// The slot of a thread: its lane, while the thread does not use it, and the witness with which the
-/// thread returned. The first slot is that of the node's own thread, the last that of the blocked
-/// writer. These two have no lane in their slots: the own thread's is under a lock.
+/// The slot of a thread: its lane, before the thread begins and after it has returned, and the
+/// witness with which it returned. The first slot is that of the node's own thread, the last that of
+/// the blocked writer. These two have no lane in their slots: the own thread's is under a lock.
 #[derive(Drop)]
 pub(crate) struct LaneSlot<H: RunNaming, J: NodeNaming> {
-    /// None while its thread uses it, and in slots without a lane.
+    /// The lane of a thread that has not begun: it has sent nothing.
     pub(crate) lane: Option<Lane<SentItem<H>, J>>,
+    /// The lane of a thread that has returned.
+    pub(crate) back: Option<ServedLane<H, J>>,
     /// None until the thread returns.
     pub(crate) closed: Option<Closed>,
 }
 
 impl<H: RunNaming, J: NodeNaming> Model for LaneSlot<H, J> {
+    ghost use Rattle.std.specs.Prelude.{◌≡◌, [], IfSome};
     ghost use Rattle.server.specs.node_threads.ThreadLives.{LaneSlotView};
 
     ghost Value = { LaneSlotView };
 
-    ghost view = { λ slot. record { lane = slot.lane; closed = slot.closed } };
+    ghost view = { λ slot. record { lane = slot.lane; back = slot.back; closed = slot.closed } };
+
+    ghost invariant = { λ slot. IfSome slot.lane (λ lane. lane.sent ≡ []) };
 }
 
 impl<H: RunNaming, J: NodeNaming> LaneSlot<H, J> {
     /// Returns the slot of a thread that has not begun.
     pub(crate) fn new(lane: Option<Lane<SentItem<H>, J>>) -> LaneSlot<H, J>
-        ensures { result ≡ record { lane = lane; closed = None } }
+        requires { IfSome lane (λ lane. lane.sent ≡ []) }
+        ensures { result ≡ record { lane = lane; back = None; closed = None } }
     {
-        LaneSlot { lane, closed: None }
+        LaneSlot {
+            lane,
+            back: None,
+            closed: None,
+        }
+    }
+
+    // Appends the lane, whether its thread has begun or not, to a list that has capacity for it.
+    // Fails if it has not, or if the lane is another than the one that served, which does not occur.
+    fn give_back(self, lanes: &mut Vec<Lane<SentItem<H>, J>>) -> Result<(), Memory>
+        ensures { OnOk result (AddsServed lanes.old.items lanes.new.items) }
+    {
+        let LaneSlot { lane, back, .. } = self;
+        add(lanes, lane)?;
+        match back {
+            Some(served) => add(lanes, Some(served.into_lane()?)),
+            None => Ok(()),
+        }
+    }
+}
+
+// Appends the lane, if there is one, to a list that has capacity for it. Fails if it has not.
+fn add<H: RunNaming, J: NodeNaming>(
+    lanes: &mut Vec<Lane<SentItem<H>, J>>,
+    lane: Option<Lane<SentItem<H>, J>>,
+) -> Result<(), Memory>
+    requires { IfSome lane HasServed }
+    ensures { OnOk result (AddsServed lanes.old.items lanes.new.items) }
+{
+    match lane {
+        Some(lane) => Ok(lanes.push(lane)?),
+        None => Ok(()),
     }
 }
 
@@ -57,20 +100,36 @@ pub(crate) struct LaneSlots<H: RunNaming, J: NodeNaming> {
     pub(crate) slots: Vec<LaneSlot<H, J>>,
     /// Empty until the end, with capacity for [`LANES`].
     pub(crate) back: Vec<Lane<SentItem<H>, J>>,
+    pub(crate) ghost none: { back.items ≡ [] },
 }
 
 impl<H: RunNaming, J: NodeNaming> LaneSlots<H, J> {
-    /// Returns the node's own lane, followed by those that are back in their slots.
-    pub(crate) fn into_lanes(self, own: Lane<SentItem<H>, J>) -> Vec<Lane<SentItem<H>, J>> {
+    /// Returns all lanes of the node of this number, its own first, and the prefix of the log by
+    /// which what that one handed on had been sent. Needs no memory, since the list has its
+    /// capacity; fails with `Memory` if it has not, or if a lane is that of another node or of
+    /// another thread, which does not occur.
+    pub(crate) fn into_lanes(
+        self,
+        number: u8,
+        own: OwnLane<H, J>,
+    ) -> Result<(Vec<Lane<SentItem<H>, J>>, SeenRun<H>), Memory>
+        ensures { IfOk result (λ ended. CameBack number ended.1 ended.0.items) }
+    {
+        let (own, seen) = own.into_lane_of(number)?;
+        let lanes = self.into_served(own)?;
+        Ok((lanes, seen))
+    }
+
+    // Returns the own lane, followed by those in the slots.
+    fn into_served(self, own: Lane<SentItem<H>, J>) -> Result<Vec<Lane<SentItem<H>, J>>, Memory>
+        ensures { IfOk result (λ lanes. AddsServed (own ∷ []) lanes.items) }
+    {
         let LaneSlots { slots, mut back } = self;
-        // There is room for all.
-        let _ = back.push(own);
+        back.push(own)?;
         for slot in slots {
-            if let Some(lane) = slot.lane {
-                let _ = back.push(lane);
-            }
+            slot.give_back(&mut back)?;
         }
-        back
+        Ok(back)
     }
 }
 
@@ -112,8 +171,9 @@ impl<'a, H: RunNaming, J: NodeNaming, S: HasState<H, J>, G: Gate> ServedNode<'a,
     {
         match slot.lane.take() {
             Some(lane) => {
+                let number = lane.lane();
                 let (lane, closed) = self.serve_lane(rt, all, lane);
-                slot.lane = Some(lane);
+                slot.back = Some(ServedLane::new(number, lane));
                 slot.closed = closed;
             }
             None => slot.closed = Some(self.work_without(rt, index)),

@@ -1,9 +1,10 @@
 // The lane for everything that does not come from a node's clients.
 
-ghost use Rattle.std.specs.Prelude.{◌≡◌, []};
+ghost use Rattle.std.specs.Prelude.{◌≡◌, [], IfOk};
 ghost use Rattle.run_history.specs.Log.{sent_in};
 ghost use Rattle.server.specs.node_threads.LaneReports.{SendsOwn};
 
+use machine::Memory;
 use mailbox::Lane;
 use node::NodeNaming;
 use run_history::{RunNaming, SeenRun, SentItem};
@@ -54,10 +55,27 @@ impl<H: RunNaming, J: NodeNaming> OwnLane<H, J> {
         self.number
     }
 
-    pub(crate) fn into_lane(self) -> Lane<SentItem<H>, J>
-        ensures lane { result ≡ self.lane }
-        ensures sent { SendsOwn (sent_in self.log) self.number [] result.sent }
+    /// Returns the lane, and the prefix of the log by which what it handed on had been sent to the
+    /// node of this number. Fails with `Memory` if it is the lane of another node, which does not
+    /// occur.
+    pub(crate) fn into_lane_of(
+        self,
+        number: u8,
+    ) -> Result<(Lane<SentItem<H>, J>, SeenRun<H>), Memory>
+        ensures lane { IfOk result (λ ended. ended.0 ≡ self.lane) }
+        ensures log { IfOk result (λ ended. ended.1 ≡ self.log) }
+        ensures sent { IfOk result (λ ended.
+            SendsOwn (sent_in ended.1) number [] ended.0.sent) }
     {
-        self.lane
+        let OwnLane {
+            number: own,
+            lane,
+            seen,
+        } = self;
+        if own == number {
+            Ok((lane, seen))
+        } else {
+            Err(Memory)
+        }
     }
 }

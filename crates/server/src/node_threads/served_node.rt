@@ -69,6 +69,8 @@ pub struct NodeReport {
 pub struct EndedNode<H: RunNaming> {
     pub(crate) report: NodeReport,
     pub(crate) node: NodeOnRecord<H>,
+    // A prefix of the log by which the messages that its own lane brought had been sent.
+    seen: SeenRun<H>,
 }
 
 impl<H: RunNaming> Model for EndedNode<H> {
@@ -76,9 +78,20 @@ impl<H: RunNaming> Model for EndedNode<H> {
 
     ghost Value = { EndedView };
 
-    ghost view = { λ ended. record { report = ended.report; node = ended.node } };
+    ghost view = { λ ended.
+        record { report = ended.report; node = ended.node; log = ended.seen } };
 
-    ghost invariant = { λ ended. IsTold (record { report = ended.report; node = ended.node }) };
+    ghost invariant = { λ ended.
+        IsTold (record { report = ended.report; node = ended.node; log = ended.seen }) };
+}
+
+impl<H: RunNaming> EndedNode<H> {
+    /// Returns a prefix of the log by which the messages that its own lane brought had been sent.
+    pub(crate) fn seen(&self) -> &SeenRun<H>
+        ensures { result.now ≡ self.now.log }
+    {
+        &self.seen
+    }
 }
 
 impl<'a, H: RunNaming, J: NodeNaming, G: Gate> ServedNode<'a, H, J, NodeState<H, J>, G> {
@@ -128,8 +141,8 @@ impl<'a, H: RunNaming, J: NodeNaming, G: Gate> ServedNode<'a, H, J, NodeState<H,
 
     /// Ends the node, whose listener is closed and whose threads have returned. Reports the fate of
     /// the items that were sent to it, and returns the node as the run has it on record. Fails if
-    /// not all its lanes came back. They were under a lock, so the clauses say nothing of what they
-    /// sent; that the report is right about what the node took is said by the type.
+    /// not all its lanes came back. What they sent, and that the report is right about what the node
+    /// took, is said by the types.
     pub fn close<R: Wait>(self, rt: &R, _closed: Closed) -> Result<EndedNode<H>, Memory>
         requires { _closed ≡ self.number }
         ensures { IfOk result (λ ended. ended.report.number ≡ self.entry.number) }
@@ -141,12 +154,12 @@ impl<'a, H: RunNaming, J: NodeNaming, G: Gate> ServedNode<'a, H, J, NodeState<H,
             lane_slots,
             ..
         } = self;
-        let mut lanes = lane_slots
+        let (mut lanes, seen) = lane_slots
             .into_inner()
-            .into_lanes(own.into_inner().into_lane());
+            .into_lanes(number, own.into_inner())?;
         let (report, node) = shared.close(rt, lanes.as_mut_slice())?;
         let report = NodeReport { number, report };
-        Ok(EndedNode { report, node })
+        Ok(EndedNode { report, node, seen })
     }
 }
 

@@ -48,6 +48,7 @@ impl<'a, H: RunNaming, J: NodeNaming, G: Gate> Shared<'a, H, J, NodeState<H, J>,
             All (ArrivesWhole ended.0.taken.items ended.0.left.items) lanes.new) }
         ensures lanes { OnOk result (map unmet lanes.new ≡ map unmet lanes.old) }
         ensures each { OnOk result (length lanes.new ≡ self.entry.node.lanes) }
+        ensures its { OnOk result (AreItsLanes self.entry.node lanes.old) }
         ensures reports { IfOk result (λ ended. ReportsOn
             (J.first_of self.entry.node.number) self.entry.node.number lanes.new ended.0 ended.1) }
         ensures err { OnErr result (AreItsLanes self.entry.node lanes.old → ⊥) }

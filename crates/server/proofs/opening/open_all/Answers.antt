@@ -1,4 +1,4 @@
-use Rattle.std.proofs.Common.{◌∙◌, ap, map, subst, sym, arith}
+use Rattle.std.proofs.Common.{◌∙◌, ap, map, sym, arith}
 use Rattle.std.proofs.lemmas.List.{length-map}
 use Rattle.run_history.specs.Log.{opening_log}
 use Rattle.run_history.specs.Parties.{NodeView}

@@ -1,4 +1,4 @@
-use Rattle.std.proofs.Common.{rules, ◌∙◌, ap}
+use Rattle.std.proofs.Common.{rules}
 use Rattle.server.proofs.of_node_threads.StartedAlike.{one_more_alike}
 use Rattle.server.proofs.node_threads.served_node.start_all.Goals as goal
 
