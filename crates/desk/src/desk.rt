@@ -140,6 +140,8 @@ impl<K: Keeper> Desk<K> {
         ensures lost { IsErrOf result DeskError.NotKept
             → Failed K.keeps K.stands self.old self.new
             (assigned_to self.old.state (record { members = members; primary = primary })) }
+        ensures asked { IsErrOf result DeskError.NotKept → assign_refusal self.old.state
+            (record { members = members; primary = primary }) ≡ None }
     {
         let config = Config { members, primary };
         if let Some(error) = self.state.refusal(&config) {

@@ -1,0 +1,5 @@
+pub mod FieldsGiven
+pub mod NumbersSaid
+pub mod OrdersRefused
+pub mod NextAnswers
+pub mod Standing

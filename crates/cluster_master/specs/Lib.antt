@@ -1,0 +1,3 @@
+pub mod Answers
+pub mod Errors
+pub mod Orders

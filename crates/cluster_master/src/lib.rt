@@ -1,0 +1,27 @@
+//! Runs the master of a cluster: gives numbers to nodes, hears what they report, and takes orders.
+#![tactic(auto)]
+
+mod hall;
+mod key_file;
+mod master_error;
+mod master_runs;
+mod node_link;
+mod obeying;
+mod order_socket;
+mod orders;
+mod parcels;
+mod roster;
+mod serving;
+mod state_file;
+mod timed_stream;
+mod told;
+mod word_fault;
+mod words;
+
+pub use hall::Hall;
+pub use key_file::{KEY_BYTES, KeyFault, make_key, read_key};
+pub use master_error::MasterError;
+pub use master_runs::{Opened, open_desk, run_key, run_master};
+pub use serving::{ServeFault, serve};
+pub use state_file::{StateFile, read_state};
+pub use told::{Told, activate, assign, begin, new_ballot, resume, start, was_given};
