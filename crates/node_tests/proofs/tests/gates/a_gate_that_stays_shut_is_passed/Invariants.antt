@@ -1,4 +1,0 @@
-use Rattle.node_tests.proofs.tests.gates.a_gate_that_stays_shut_is_passed.Given as goal
-
-abbrev pub ghosts-meet_of_opened : goal.ghosts-meet_of_opened
-ghosts-meet_of_opened g a = record { book = a.opened.run.book; nodes = 2; config = a.opened.config }

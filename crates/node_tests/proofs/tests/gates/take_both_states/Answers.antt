@@ -1,6 +1,0 @@
-use denote.Param.Send.{sendable}
-use Rattle.node.proofs.Crossing.{state_send}
-use Rattle.node_tests.proofs.tests.gates.take_both_states.Goals as goal
-
-pub take_both-requires-send-S : goal.take_both-requires-send-S
-take_both-requires-send-S g c κs within = search (state_send, sendable) depth 10

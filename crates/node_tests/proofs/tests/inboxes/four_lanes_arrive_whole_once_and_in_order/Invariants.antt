@@ -1,4 +1,0 @@
-use Rattle.node_tests.proofs.tests.inboxes.four_lanes_arrive_whole_once_and_in_order.Given as goal
-
-abbrev pub ghosts-pour_four : goal.ghosts-pour_four
-ghosts-pour_four g a = record { inbox_of = λ _. a.inbox }
