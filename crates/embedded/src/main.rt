@@ -8,7 +8,6 @@ mod machines;
 mod names;
 mod node_steps;
 mod nodes;
-mod program;
 mod replication;
 mod storage;
 mod words;
@@ -25,6 +24,5 @@ fn main(rt: HostRuntime) -> Result<()> {
     replication::run(&rt, alloc)?;
     clients::run(&rt, alloc)?;
     worlds::run(&rt, alloc)?;
-    nodes::run(&rt, alloc)?;
-    program::run(&rt, alloc)
+    nodes::run(&rt, alloc)
 }

@@ -5,6 +5,8 @@
 #[cfg(test)]
 mod inputs;
 #[cfg(test)]
+mod library;
+#[cfg(test)]
 mod scripts;
 #[cfg(test)]
 mod texts;
