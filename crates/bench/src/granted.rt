@@ -1,7 +1,7 @@
 // Grants a second, over an index of many clients with 64 filters each.
 
+use crate::measures::nanos_each;
 use anyhow::{Result, ensure};
-use bench_base::nanos_each;
 use packet_base::{ClientId, QoS};
 use std::alloc::Global;
 use std::time::CpuClock;

@@ -1,7 +1,7 @@
 // Matches a second, for filters and topics of 1 to 32 levels.
 
+use crate::measures::nanos_each;
 use anyhow::{Result, ensure};
-use bench_base::nanos_each;
 use std::alloc::{AllocError, Global};
 use std::time::CpuClock;
 use topics::{Filter, TopicName, matches};

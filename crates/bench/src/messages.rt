@@ -1,8 +1,8 @@
 // Bytes of the messages between nodes, and the time to write and to read one of each kind.
 
+use crate::measures::nanos_each;
 use anyhow::Result;
 use ballot_base::Message;
-use bench_base::nanos_each;
 use broker_spec::Command;
 use message_form::{read_message, write_message};
 use std::alloc::Global;

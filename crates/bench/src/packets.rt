@@ -2,9 +2,9 @@
 
 ghost use Rattle.packet.specs.Spelling.{IsListed};
 
+use crate::measures::nanos_each;
 use crate::publications::{encode_all, publication};
 use anyhow::{Result, bail};
-use bench_base::nanos_each;
 use packet::{Packet, Step, decode};
 use std::alloc::Global;
 use std::time::CpuClock;

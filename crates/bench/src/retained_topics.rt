@@ -1,7 +1,7 @@
 // Publications that are retained and found again, over a store of many topics.
 
+use crate::measures::nanos_each;
 use anyhow::{Result, ensure};
-use bench_base::nanos_each;
 use packet_base::{Payload, QoS};
 use retained::RetainedStore;
 use std::alloc::Global;

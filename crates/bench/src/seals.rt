@@ -2,8 +2,8 @@
 
 ghost use Rattle.std.specs.Prelude.{◌<◌, ◌^◌, length};
 
+use crate::measures::nanos_each;
 use anyhow::{Result, ensure};
-use bench_base::nanos_each;
 use seal::{FrameReader, Opener, Sealer};
 use std::time::CpuClock;
 

@@ -1,9 +1,9 @@
 // Times of a cutter, for large packets that come in small pieces and for small packets that come
 // all at once.
 
+use crate::measures::nanos_each;
 use crate::publications::append;
 use anyhow::{Result, ensure};
-use bench_base::nanos_each;
 use cutter::Cutter;
 use std::alloc::Global;
 use std::time::CpuClock;

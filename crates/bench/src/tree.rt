@@ -1,8 +1,8 @@
 // The tree index compared with the list index: a grant, a set and a clear, over many clients with
 // 64 filters each. In processor time.
 
+use crate::measures::{nanos_each, print_memory};
 use anyhow::{Result, ensure};
-use bench_base::{nanos_each, print_memory};
 use packet_base::{ClientId, QoS};
 use std::alloc::Global;
 use std::time::CpuClock;

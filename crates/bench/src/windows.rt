@@ -1,8 +1,8 @@
 // Entries that go through a session's window: started by `fill`, each finished by its PUBACK (MQTT
 // 4.3.2, 4.6).
 
+use crate::measures::nanos_each;
 use anyhow::Result;
-use bench_base::nanos_each;
 use packet::{Delivery, Packet};
 use packet_base::{Payload, QoS};
 use session::Session;

@@ -1,9 +1,9 @@
 // The frozen form of a broker with many sessions, for which publications wait.
 
-use crate::clients::Clients;
-use crate::crowd::{self, Filters};
+use crate::brokers::clients::Clients;
+use crate::brokers::crowd::{self, Filters};
+use crate::measures::nanos_each;
 use anyhow::Result;
-use bench_base::nanos_each;
 use broker::BrokerMachine;
 use machine::Machine;
 use packet_base::QoS;

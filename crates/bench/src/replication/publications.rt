@@ -1,6 +1,6 @@
 // Publications at QoS 2: `a` publishes to `b`, and `c` to `d`.
 
-use crate::course::{
+use crate::replication::course::{
     Course, carry_down, carry_up, connect, let_happen, let_happen_and_drop, named,
 };
 use anyhow::Result;

@@ -1,9 +1,9 @@
 // A change of configuration with a long log: the new primary fetches it, hands it to its backup,
 // and applies it, as the backup does.
 
-use crate::groups::{agreed_at_last, config_of, opened, proposal};
+use crate::measures::{print_memory, time_since};
+use crate::replication::groups::{agreed_at_last, config_of, opened, proposal};
 use anyhow::{Result, ensure};
-use bench_base::{print_memory, time_since};
 use machine::Tally;
 use master::{Event, Group};
 use std::time::{CpuClock, Duration};

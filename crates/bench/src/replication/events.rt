@@ -1,10 +1,10 @@
 // The time of an event, and how it continues as the world grows older.
 
-use crate::course::{Course, opened};
-use crate::publications::{Publications, begin, publish_both};
-use crate::takeovers::{Ends, take_over};
+use crate::measures::{print_memory, time_since};
+use crate::replication::course::{Course, opened};
+use crate::replication::publications::{Publications, begin, publish_both};
+use crate::replication::takeovers::{Ends, take_over};
 use anyhow::{Result, ensure};
-use bench_base::{print_memory, time_since};
 use std::time::{CpuClock, Duration};
 use world::World;
 

@@ -1,6 +1,6 @@
 // Sessions that exist in addition to what is measured.
 
-use crate::clients::Clients;
+use crate::brokers::clients::Clients;
 use anyhow::Result;
 use packet::Subscription;
 use packet_base::QoS;

@@ -1,8 +1,8 @@
 // A session that is away: its queue is filled, and emptied once its client is back.
 
-use crate::clients::Clients;
+use crate::brokers::clients::Clients;
+use crate::measures::nanos_each;
 use anyhow::Result;
-use bench_base::nanos_each;
 use packet_base::QoS;
 use std::time::CpuClock;
 use topics::TopicName;

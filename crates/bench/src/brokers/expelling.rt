@@ -1,9 +1,9 @@
 // A full session is expelled, while there are as many others as there may be.
 
-use crate::clients::Clients;
-use crate::crowd::{self, Filters};
+use crate::brokers::clients::Clients;
+use crate::brokers::crowd::{self, Filters};
+use crate::measures::nanos_each;
 use anyhow::Result;
-use bench_base::nanos_each;
 use packet_base::QoS;
 use std::time::CpuClock;
 use topics::TopicName;

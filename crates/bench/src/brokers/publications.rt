@@ -1,9 +1,9 @@
 // Publications a second, each with the handshakes of its publisher and of its subscribers.
 
-use crate::clients::Clients;
-use crate::crowd::{self, Filters};
+use crate::brokers::clients::Clients;
+use crate::brokers::crowd::{self, Filters};
+use crate::measures::nanos_each;
 use anyhow::Result;
-use bench_base::nanos_each;
 use packet_base::QoS;
 use std::alloc::Global;
 use std::time::CpuClock;

@@ -1,19 +1,10 @@
-//! What the benchmarks share: the list of their names, the processor's clock and the time of a
-//! round, and what the process holds for memory.
-#![tactic(auto)]
+// What the benchmarks share: the processor's clock and the time of a round, and what the process
+// holds for memory.
 
 use anyhow::Result;
 use std::fs;
 use std::rt::Files;
 use std::time::{CpuClock, Duration};
-
-/// Prints the names of a program's benchmarks, a line each.
-pub fn list<R: Print>(rt: &R, names: &[&str]) -> Result<()> {
-    for name in names {
-        println!(rt; "{name}")?;
-    }
-    Ok(())
-}
 
 /// Returns the processor time since a moment.
 pub fn time_since<R: CpuClock>(rt: &R, start: Duration) -> Result<Duration> {

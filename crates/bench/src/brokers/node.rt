@@ -1,10 +1,10 @@
 // Publications through one node, each with all handshakes, as bytes: items by themselves, and with
 // what is handed over.
 
-use crate::traffic::{Part, Traffic, connect, packets_of, subscribe};
+use crate::brokers::traffic::{Part, Traffic, connect, packets_of, subscribe};
+use crate::measures::nanos_each;
 use anyhow::{Result, anyhow, ensure};
 use ballot_base::{Config, Members};
-use bench_base::nanos_each;
 use packet_base::QoS;
 use std::alloc::Global;
 use std::time::CpuClock;

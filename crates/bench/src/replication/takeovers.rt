@@ -1,6 +1,8 @@
 // Another node becomes the primary, and all clients go to it.
 
-use crate::course::{Course, config, connect, deliver_all, let_happen_and_drop, named};
+use crate::replication::course::{
+    Course, config, connect, deliver_all, let_happen_and_drop, named,
+};
 use anyhow::Result;
 use std::alloc::Global;
 use world::World;

@@ -1,8 +1,8 @@
 // A short run, of which the gate compares what it prints.
 
-use crate::course::{Course, named, opened};
-use crate::publications::{Publications, begin, publish_both};
-use crate::takeovers::{Ends, take_over};
+use crate::replication::course::{Course, named, opened};
+use crate::replication::publications::{Publications, begin, publish_both};
+use crate::replication::takeovers::{Ends, take_over};
 use anyhow::{Result, anyhow, ensure};
 use std::alloc::Global;
 use world::World;

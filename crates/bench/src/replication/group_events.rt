@@ -2,9 +2,9 @@
 
 ghost use Rattle.std.specs.Prelude.{◌<◌};
 
-use crate::groups::{agreed_at_last, opened, proposal};
+use crate::measures::time_since;
+use crate::replication::groups::{agreed_at_last, opened, proposal};
 use anyhow::{Result, ensure};
-use bench_base::time_since;
 use machine::{Tally, TallyCommand};
 use master::{Event, Group};
 use std::time::CpuClock;

@@ -1,0 +1,11 @@
+// Measurements of the broker, alone and in a node.
+
+mod clients;
+mod crowd;
+pub mod expelling;
+pub mod freezing;
+pub mod node;
+pub mod publications;
+pub mod queue;
+pub mod retained_topics;
+mod traffic;
