@@ -3,4 +3,4 @@
 
 mod gates;
 mod lagging;
-mod links;
+mod listeners;
