@@ -10,3 +10,4 @@ mod ListenersFound
 mod OpeningsCounted
 mod Strangers
 mod PortsOnce
+mod PortsOfRuns

@@ -4,4 +4,5 @@ pub mod Ends
 pub mod Inside
 pub mod Opening
 pub mod Ports
+pub mod Promised
 pub mod Refusals

@@ -29,4 +29,4 @@ pub use serve_error::ServeError;
 pub use served_run::ServedRun;
 pub use service::{serve_gated, serve_while};
 pub use streams::{Listener, MAX_CONNECTIONS};
-pub use theorems::ports_come_once;
+pub use theorems::{ports_come_once, served_clients_are_promised};
