@@ -45,9 +45,9 @@ pub(super) enum Came {
     Lanes(usize, usize, bool, bool),
     // This many items were taken of the lane; none if the inbox is not its own.
     Met(Option<u64>),
-    // How many items of the first three lanes were taken before, and the first three that are left
-    // over (zeros after the last), with how many these are.
-    Settled([u64; 3], [(u8, u64); 3], usize),
+    // How many items of the first three lanes were taken before. Then of the first three that are
+    // left over their lanes and the items (zeros after the last), and how many are left over.
+    Settled([u64; 3], [u8; 3], [u64; 3], usize),
 }
 
 // Whose receiver and whose lanes are meant, by the indexes of two inboxes, the act, and what is to
@@ -115,14 +115,17 @@ fn settle<J: Naming, R: Wait>(
         return Came::Nothing;
     }
     receiver.take_rest(rt, lanes, counted.as_mut_slice(), &mut over);
-    let (mut counts, mut left) = ([0u64; 3], [(0u8, 0u64); 3]);
+    let (mut counts, mut of, mut left) = ([0u64; 3], [0u8; 3], [0u64; 3]);
     for (to, count) in counts.iter_mut().zip(counted.as_slice()) {
         *to = *count;
     }
-    for (to, item) in left.iter_mut().zip(over.as_slice()) {
-        *to = *item;
+    for (to, item) in of.iter_mut().zip(over.as_slice()) {
+        *to = item.0;
     }
-    Came::Settled(counts, left, over.len())
+    for (to, item) in left.iter_mut().zip(over.as_slice()) {
+        *to = item.1;
+    }
+    Came::Settled(counts, of, left, over.len())
 }
 
 // Does an act, and returns what came of it.
@@ -237,9 +240,6 @@ fn fault_of<R: Wait>(rt: &R, alloc: Global, rows: &[Row]) -> Option<Fault> {
     fault_of_two::<Brand, R>(rt, alloc, first, second, rows)
 }
 
-// What the lanes send that is not taken.
-const OVER: [(u8, u64); 3] = [(0, 11), (2, 21), (2, 22)];
-
 // What the rows show.
 const TABLES: &[(&str, &[Row])] = &[
     (
@@ -263,7 +263,11 @@ const TABLES: &[(&str, &[Row])] = &[
             ((0, 0), Act::Take, Came::Took(Some((0, 10)))),
             ((0, 0), Act::Take, Came::Took(Some((2, 20)))),
             ((0, 0), Act::Lanes, Came::Lanes(3, 3, true, true)),
-            ((0, 0), Act::Settle, Came::Settled([1, 0, 1], OVER, 3)),
+            (
+                (0, 0),
+                Act::Settle,
+                Came::Settled([1, 0, 1], [0, 2, 2], [11, 21, 22], 3),
+            ),
         ],
     ),
     (
@@ -304,7 +308,7 @@ const IN_MEMORY: &[Row] = &[
     (
         (0, 0),
         Act::Settle,
-        Came::Settled([1, 1, 0], [(1, 21), (0, 0), (0, 0)], 1),
+        Came::Settled([1, 1, 0], [1, 0, 0], [21, 0, 0], 1),
     ),
 ];
 
