@@ -200,6 +200,22 @@ held_taken {S = S} {C = C} {O = O} rules old after new from ballot held n progre
     ∙ ap (λ (r : ReplicaState S C). let z : ReplicaState S C = record r { progress = raised from held r.progress } in z) after_state)
     (losses ∙ ap (λ (z : CountedReplica S C). z.losses) a))
 
+-- Held with which all members hold more places commits them
+pub held_more : {S C O : Type 0} (rules : Rules S C O) (old : CountedReplica S C) (from ballot held n : ℕ)
+    (progress : List Progress) (long : ℕ) →
+    leads old.state ballot ≡ true → progress ≡ old.state.progress → long ≡ places old.state.log → n ≡ least long (raised from held progress) →
+    old.state.committed < n → old.state.committed < (on_held rules old.state from ballot held).state.committed
+held_more {S = S} {C = C} {O = O} rules old from ballot held n progress long leader m l h above =
+    let n' : n ≡ least (places old.state.log) (raised from held old.state.progress) =
+    h ∙ ap (λ k. least k (raised from held progress)) l ∙ ap (λ xs. least (places old.state.log) (raised from held xs)) m in
+    let row : on_held rules old.state from ballot held ≡ progress_raised from held (commit_at rules old.state n) =
+    on_held-raises rules old.state from ballot held leader
+    ∙ ap (commit_at rules (record old.state { progress = raised from held old.state.progress })) (sym n')
+    ∙ commit_at-raised rules old.state from held n in
+    let goes : (commit_at rules old.state n).state.committed ≡ n =
+    ap (λ (o : Outcome S C O). o.state.committed) (commit_at-goes rules old.state n above) in
+    subst (λ (o : Outcome S C O). old.state.committed < o.state.committed) (sym row) (omega (arith, goes, above))
+
 -- Held whose places found no memory when they were applied
 pub held_halted : {S C O : Type 0} (rules : Rules S C O) (old after new : CountedReplica S C) (from ballot held n : ℕ)
     (progress : List Progress) (long : ℕ) (before later : List (Effect C O)) →
@@ -248,6 +264,14 @@ commit_taken {S = S} {C = C} {O = O} rules old new ballot held machine follower 
     (went_whole old _ new []
     (state ∙ ap (λ t. let r : ReplicaState S C = record old.state { committed = held; machine = t } in r) done
     ∙ ap (applied_to rules old.state) e) refl losses)
+
+-- Commit of more places commits them
+pub commit_more : {S C O : Type 0} (rules : Rules S C O) (old : CountedReplica S C) (ballot held : ℕ) →
+    follows old.state ballot ≡ true → held ≤ places old.state.log → old.state.committed < held →
+    old.state.committed < (on_commit rules old.state ballot held).state.committed
+commit_more {S = S} {C = C} {O = O} rules old ballot held follower within above =
+    let row = on_commit-takes rules old.state ballot held follower within in
+    subst (λ (o : Outcome S C O). old.state.committed < o.state.committed) (sym row) (omega (arith, above))
 
 -- Commit whose places found no memory when they were applied
 pub commit_halted : {S C O : Type 0} (rules : Rules S C O) (old new : CountedReplica S C) (ballot held : ℕ) →

@@ -1,5 +1,5 @@
 -- What the helpers of a replica ensure about the list of effects.
-use Rattle.std.specs.Prelude.{◌≡◌, Bool, true, false, List, ◌++◌}
+use Rattle.std.specs.Prelude.{◌≡◌, ◌<◌, Bool, true, false, List, ◌++◌}
 use Rattle.machine.specs.Machine.{Rules}
 use Rattle.ballot_base.specs.declared.message.Effect.{Effect}
 use Rattle.ballot_base.specs.Logs.{Log, places, pushed}
@@ -8,7 +8,8 @@ use Rattle.ballot_base.specs.Replica.{CountedReplica}
 use Rattle.ballot_base.specs.StepOutcome.{Outcome, message_to_followed}
 use Rattle.ballot_base.specs.Sends.{Sends}
 use Rattle.ballot_base.specs.Service.{commit}
-use Rattle.ballot_base.specs.declared.message.Body.TheVariants.{Append}
+use Rattle.ballot_base.specs.declared.message.Body.{Body}
+use Rattle.ballot_base.specs.declared.message.Body.TheVariants.{Activated, Append}
 use Rattle.ballot_base.specs.declared.errors.error.ProposeError.{ProposeError}
 use Rattle.ballot_base.specs.declared.errors.error.ProposeError.TheVariants.{NotActive, LogFull, Memory, Halted}
 
@@ -56,3 +57,12 @@ pub record ActivationOrLost {S C O : Type 0} (rules : Rules S C O) (old : Counte
       (Append old.state.joined (places front) last) old.state.progress
       ++ (commit rules old.state).effects) whole
   pub uncounted : new.losses ≡ old.losses
+
+-- a step commits more places
+abbrev pub CommitsMore : {S C O : Type 0} → CountedReplica S C → Outcome S C O → Type 0
+CommitsMore old outcome = old.state.committed < outcome.state.committed
+
+-- the step on a message applies commands: it begins a ballot, or commits more places
+abbrev pub AppliesMore : {S C O : Type 0} → Body C → CountedReplica S C → Outcome S C O → Type 0
+AppliesMore (Activated ballot) old outcome = Unit {0}
+AppliesMore body old outcome = CommitsMore old outcome

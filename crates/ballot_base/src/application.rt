@@ -1,6 +1,6 @@
 // Applying places of a log to the machine.
 
-ghost use Rattle.std.specs.Prelude.{◌≡◌, ◌≤◌, ◌++◌, map, OnOk, OnErr};
+ghost use Rattle.std.specs.Prelude.{◌≡◌, ◌<◌, ◌≤◌, ◌++◌, map, OnOk, OnErr};
 ghost use Rattle.machine.specs.Machine.{replay_from};
 ghost use Rattle.lists.specs.Lists.{IsPrefixOf};
 ghost use Rattle.ballot_base.specs.Application.{outputs_from};
@@ -37,8 +37,9 @@ pub fn apply_dropping<M: Machine>(
     requires kept { log.now.base ≤ from }
     requires rising { from ≤ to }
     requires within { to ≤ places log.now }
-    ensures { OnOk result
+    ensures state { OnOk result
         (machine.new ≡ replay_from M.rules machine.old (part log.now from to)) }
+    ensures some { OnErr result (from < to) }
 {
     let base = log.base();
     let rest = log.rest();
@@ -67,6 +68,7 @@ pub fn apply_places<M: Machine>(
     ensures outputs { OnOk result
         (out.new.items ≡ out.old.items ++
         outputs_from M.rules machine.old from (part log.now from to)) }
+    ensures some { OnErr result (from < to) }
     ensures err { OnErr result (IsPrefixOf out.old.items out.new.items) }
 {
     let base = log.base();

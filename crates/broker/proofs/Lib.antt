@@ -6,3 +6,4 @@ pub mod OwnersOfLast
 pub mod Writing
 pub mod StandsForLists
 pub mod PutAnew
+pub mod RowsCounted

@@ -52,6 +52,7 @@ impl Machine for BrokerMachine {
     ghost use Rattle.broker_base.specs.form.FormTheorems.{IsUsualState};
     ghost use Rattle.broker_base.proofs.of_form.Thawing.{frozen_is_thawed};
     ghost use Rattle.broker_base.specs.form.BrokerRules.{broker_rules};
+    ghost use Rattle.broker_base.specs.form.Needs.{broker_needs};
     ghost use Rattle.broker_base.proofs.of_form.UsualStates.{empty_is_usual, stays_usual};
 
     type Command = Command;
@@ -59,6 +60,8 @@ impl Machine for BrokerMachine {
     type Output = Output;
 
     ghost rules = { broker_rules };
+
+    ghost needs = { broker_needs };
 
     ghost IsState = { IsUsualState };
 

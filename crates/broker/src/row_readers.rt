@@ -3,7 +3,7 @@
 
 ghost use Rattle.std.specs.Prelude.{◌≡◌, true, IfOk};
 ghost use Rattle.packet_base.specs.ClientId.{is_client};
-ghost use Rattle.packet_base.specs.Outcome.{Gives, Reads};
+ghost use Rattle.packet_base.specs.Outcome.{Gives, Reads, TakesNoMemory};
 ghost use Rattle.session_base.specs.Counted.{check_form};
 ghost use Rattle.broker_base.specs.form.Form.{client_at, connection_at, head_at, name_at, retainable};
 ghost use Rattle.broker_base.specs.form.Form.{retained_at, row_at, size_at, wide_number_at};
@@ -25,7 +25,8 @@ use topics::{MalformedKind, TopicName};
 /// Reads the number of the form and the window: form 1 has the narrow one, form 2 names it.
 #[tactic(auto, unfolding(broker_base::specs::form::Form::head_at))]
 pub(crate) fn read_head(reader: &mut Reader) -> Result<Window, Stop>
-    ensures { Reads (λ value. value) result reader.new (head_at reader.old) }
+    ensures exact { Reads (λ value. value) result reader.new (head_at reader.old) }
+    ensures memory { TakesNoMemory result }
 {
     let form = reader.byte()?;
     check_form(form == 1 || form == 2)?;
@@ -38,7 +39,8 @@ pub(crate) fn read_head(reader: &mut Reader) -> Result<Window, Stop>
 // Reads the window of form 2: one byte, 16 or 64.
 #[tactic(auto, unfolding(broker_base::specs::form::Form::size_at))]
 fn read_window(reader: &mut Reader) -> Result<Window, Stop>
-    ensures { Reads (λ value. value) result reader.new (size_at reader.old) }
+    ensures exact { Reads (λ value. value) result reader.new (size_at reader.old) }
+    ensures memory { TakesNoMemory result }
 {
     match Window::of(reader.byte()?) {
         Some(window) => Ok(window),

@@ -1,12 +1,13 @@
 // The sessions of a frozen broker while they are read, with the map of their connections.
 
 ghost use Rattle.std.specs.Prelude.{◌≡◌, false, true, [], ◌∷◌, ◌++◌, IfOk, OnOk};
-ghost use Rattle.packet_base.specs.Outcome.{Reads};
+ghost use Rattle.packet_base.specs.Outcome.{IsOutOfMemory, Reads};
 ghost use Rattle.packet_base.specs.Readers.{number_at};
 ghost use Rattle.session_base.specs.Counted.{counted_items_at, items_after, last_of, AddsItem};
 ghost use Rattle.broker_spec.specs.Connection.{ConnectionName as SpecName};
 ghost use Rattle.broker_base.specs.rows.Owners.{owned_by};
 ghost use Rattle.broker_base.specs.form.Form.{row_at};
+ghost use Rattle.broker_base.specs.form.Needs.{counts_some};
 ghost use Rattle.broker_base.specs.form.Follows.{is_after, is_owned, row_follows};
 ghost use Rattle.broker.specs.tables.Tables.{owners_at};
 ghost use Rattle.broker.specs.Inside.{AreOwned};
@@ -32,14 +33,19 @@ pub(crate) struct Rows {
 impl Rows {
     /// Reads the sessions: their count, and as many rows with ascending clients. `Shape` if a
     /// connection occurs twice.
-    #[tactic(auto, unfolding(session_base::specs::Counted::counted_items_at))]
+    #[tactic(auto, unfolding(session_base::specs::Counted::counted_items_at, session_base::specs::Counted::items_after))]
     pub(crate) fn read(alloc: Global, window: Window, reader: &mut Reader) -> Result<Rows, Stop>
         ensures exact { Reads (λ rows. rows.sessions.entries) result reader.new
             (counted_items_at number_at row_follows (row_at window) MAX_SESSIONS reader.old) }
         ensures owned { IfOk result AreOwned }
+        ensures memory { IsOutOfMemory result →
+            counts_some MAX_SESSIONS (number_at reader.old) ≡ true }
     {
         let count = reader.number()?;
         check_form(usize::from(count) <= MAX_SESSIONS)?;
+        if count == 0 {
+            return Ok(Rows::new(alloc));
+        }
         read_rows(alloc, window, count, reader)
     }
 

@@ -1,16 +1,17 @@
 // Reading the tables of a frozen broker.
 
-ghost use Rattle.std.specs.Prelude.{◌≡◌, ◌<◌, ◌≤◌, [], length, IfOk};
+ghost use Rattle.std.specs.Prelude.{◌≡◌, ◌<◌, ◌≤◌, [], length, true, false, IfOk, IsOk};
 ghost use Rattle.std.specs.BTreeMap.{get};
 ghost use Rattle.std.specs.Cmp.Lexicographic.{slice_cmp};
 ghost use Rattle.std.specs.Ordering.{nat_cmp};
-ghost use Rattle.packet_base.specs.Outcome.{Gives, Reads};
+ghost use Rattle.packet_base.specs.Outcome.{Gives, IsOutOfMemory, Reads};
 ghost use Rattle.packet_base.specs.Readers.{number_at};
 ghost use Rattle.session_base.specs.Counted.{counted_items_at, items_after, last_of, AddsItem};
 ghost use Rattle.subs_base.specs.Content.{last_qos_in, no_subscriptions};
 ghost use Rattle.subs_base.specs.ListIndex.{content_of};
 ghost use Rattle.broker_base.specs.form.Form.{broker_at, retained_at};
 ghost use Rattle.broker_base.specs.form.Follows.{is_after, topic_follows};
+ghost use Rattle.broker_base.specs.form.Needs.{counts_some, needs_to_thaw};
 ghost use Rattle.broker.specs.tables.Tables.{IsTied, state_in};
 ghost use Rattle.retained.specs.Retained.{IsRising};
 ghost use Rattle.broker.specs.Inside.{AreOwned, state_read, all_put};
@@ -33,9 +34,10 @@ use subs_base::{ListIndex, SubIndex};
 use topics::{Filter, TopicName};
 
 /// Returns the tables that are frozen to these bytes, or why there are none: `Shape` if the bytes
-/// are not of the form, `Memory` if memory runs out.
+/// are not of the form, `Memory` if memory runs out, which bytes without rows do not need.
 pub(crate) fn thawed_tables(alloc: Global, bytes: &[u8]) -> Result<Tables, Stop>
     ensures exact { Gives state_in result (broker_at bytes.now) }
+    ensures memory { IsOutOfMemory result → needs_to_thaw bytes.now ≡ true }
     ensures tied { IfOk result IsTied }
 {
     thawed_is_in_range();
@@ -58,6 +60,9 @@ pub(crate) fn thawed_tables(alloc: Global, bytes: &[u8]) -> Result<Tables, Stop>
 fn read_broker(alloc: Global, bytes: &[u8]) -> Result<(Window, Rows, RetainedStore), Stop>
     ensures exact { Gives state_read result (broker_at bytes.now) }
     ensures owned { IfOk result (λ read. AreOwned read.1) }
+    ensures memory { IsOutOfMemory result → needs_to_thaw bytes.now ≡ true }
+    ensures none { IfOk result (λ read. needs_to_thaw bytes.now ≡ false →
+        read.1.sessions.entries ≡ []) }
 {
     let mut reader = Reader::new(bytes);
     let window = read_head(&mut reader)?;
@@ -70,13 +75,18 @@ fn read_broker(alloc: Global, bytes: &[u8]) -> Result<(Window, Rows, RetainedSto
 // ---- what is retained
 
 // Reads the retained publications: their count, and as many topics in ascending order.
-#[tactic(auto, unfolding(session_base::specs::Counted::counted_items_at))]
+#[tactic(auto, unfolding(session_base::specs::Counted::counted_items_at, session_base::specs::Counted::items_after))]
 fn read_retained(alloc: Global, reader: &mut Reader) -> Result<RetainedStore, Stop>
-    ensures { Reads (λ value. value) result reader.new
+    ensures exact { Reads (λ value. value) result reader.new
         (counted_items_at number_at topic_follows retained_at MAX_TOPICS reader.old) }
+    ensures memory { IsOutOfMemory result →
+        counts_some MAX_TOPICS (number_at reader.old) ≡ true }
 {
     let count = reader.number()?;
     check_form(usize::from(count) <= MAX_TOPICS)?;
+    if count == 0 {
+        return Ok(RetainedStore::new(alloc));
+    }
     read_topics(alloc, count, reader)
 }
 
@@ -125,9 +135,13 @@ fn is_after(retained: &RetainedStore, topic: &TopicName) -> bool
 
 // Returns the index of the subscriptions of all sessions.
 fn index_of(alloc: Global, sessions: &BTreeMap<ClientId, ClientRow>) -> Result<TreeIndex, Memory>
-    ensures { IfOk result
+    ensures content { IfOk result
         (λ index. content_of index ≡ all_put sessions.now.entries no_subscriptions) }
+    ensures nothing { sessions.now.entries ≡ [] → IsOk result }
 {
+    if sessions.is_empty() {
+        return Ok(TreeIndex::new(alloc));
+    }
     let mut list = ListIndex::new(alloc);
     for (client, row) in sessions {
         list.put(client, filters_of(alloc, &row.state)?)?;

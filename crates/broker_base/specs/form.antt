@@ -7,3 +7,4 @@ pub mod FormRows
 pub mod FullRow
 pub mod Bytes
 pub mod BrokerRules
+pub mod Needs

@@ -29,6 +29,12 @@ abbrev pub is_start : Command → Bool
 is_start (commands.Start ballot) = true
 is_start _ = false
 
+-- whether a copy of a command needs memory: of all but a Lost and a Start
+abbrev pub needs_to_copy : Command → Bool
+needs_to_copy (commands.Lost connection) = false
+needs_to_copy (commands.Start ballot) = false
+needs_to_copy _ = true
+
 -- the most sessions of a broker
 abbrev pub max_sessions : ℕ
 max_sessions = MAX_SESSIONS

@@ -1,6 +1,7 @@
 // The commands of the broker's replicated log, and their outputs.
 
-ghost use Rattle.std.specs.Prelude.{◌≡◌, IfOk};
+ghost use Rattle.std.specs.Prelude.{◌≡◌, IfOk, OnErr, true};
+ghost use Rattle.broker_spec.specs.Commands.{needs_to_copy};
 ghost use Rattle.broker_spec.specs.Logged.{IsBrokerCommand};
 
 use crate::connection_name::ConnectionName;
@@ -25,9 +26,11 @@ pub enum Command {
 }
 
 impl Command {
-    /// Returns a command equal to this one.
+    /// Returns a command equal to this one. The only error is that memory ran out, which a Lost and
+    /// a Start do not need.
     pub fn copy(&self) -> Result<Command, AllocError>
-        ensures { IfOk result (λ copy. copy ≡ self.now) }
+        ensures same { IfOk result (λ copy. copy ≡ self.now) }
+        ensures memory { OnErr result (needs_to_copy self.now ≡ true) }
     {
         Ok(match self {
             Command::Connect(connection, client, clean) => {

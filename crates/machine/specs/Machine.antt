@@ -1,5 +1,5 @@
 -- The rules of a machine, and what a list of commands does to it.
-use Rattle.std.specs.Prelude.{ℕ, List, [], ◌∷◌, Option}
+use Rattle.std.specs.Prelude.{ℕ, Bool, List, [], ◌∷◌, Option}
 use Rattle.machine.specs.declared.error.ThawFault.{ThawFault}
 use Rattle.machine.specs.declared.error.ThawFault.TheVariants.{Shape, Memory}
 
@@ -12,6 +12,14 @@ pub record Rules (S C O : Type 0) : Type 0 where
   pub gives : S → C → List O
   pub frozen : S → List ℕ
   pub thawed : List ℕ → Option S
+
+-- whether the calls of a machine may run out of memory: to make the opening state, to copy a
+-- command, to apply a command to a state, to thaw bytes
+pub record Needs (S C : Type 0) : Type 0 where
+  pub to_open : Bool
+  pub to_copy : C → Bool
+  pub to_apply : S → C → Bool
+  pub to_thaw : List ℕ → Bool
 
 -- the state after commands that are applied to this state, oldest first
 abbrev pub replay_from : {S C O : Type 0} → Rules S C O → S → List C → S

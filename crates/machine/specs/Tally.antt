@@ -1,8 +1,8 @@
 -- The machine that adds numbers modulo 2^64.
 use Rattle.std.specs.Prelude.{ℕ, ◌+◌, ◌%◌, ◌^◌, ◌<◌, ◌==◌, List, [], ◌∷◌, length, Option, Some}
-use Rattle.std.specs.Prelude.{None, if◌then◌else◌}
+use Rattle.std.specs.Prelude.{None, Bool, true, false, if◌then◌else◌}
 use Rattle.std.specs.Int.{w64, to_be_bytes, from_be_bytes}
-use Rattle.machine.specs.Machine.{Rules}
+use Rattle.machine.specs.Machine.{Needs, Rules}
 use Rattle.machine.specs.declared.tally.Tally.{Tally}
 use Rattle.machine.specs.declared.tally.TallyCommand.{TallyCommand}
 use Rattle.machine.specs.declared.tally.TallyCommand.TheVariants.{Add, Start}
@@ -41,4 +41,19 @@ tally_rules =
       gives = λ tally command. totals_given tally.total command;
       frozen = λ tally. total_bytes tally.total;
       thawed = tally_of;
+    }
+
+-- a number that is added is output, which takes memory
+abbrev pub outputs_some : TallyCommand → Bool
+outputs_some (Add number) = true
+outputs_some (Start ballot) = false
+
+-- a tally needs memory for its outputs alone
+abbrev pub tally_needs : Needs Tally TallyCommand
+tally_needs =
+    record {
+      to_open = false;
+      to_copy = λ command. false;
+      to_apply = λ tally command. outputs_some command;
+      to_thaw = λ bytes. false;
     }

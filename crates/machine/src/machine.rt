@@ -8,8 +8,8 @@
 // or reports that memory ran out; only `apply` may then leave the machine half changed, so its
 // replica halts and never uses it again.
 
-ghost use Rattle.std.specs.Prelude.{ℕ, List, Option, Some, None, ◌≡◌, ◌++◌, IfOk, OnOk, OnErr};
-ghost use Rattle.machine.specs.Machine.{Rules};
+ghost use Rattle.std.specs.Prelude.{ℕ, List, Option, Some, None, true, ◌≡◌, ◌++◌, IfOk, OnOk, OnErr};
+ghost use Rattle.machine.specs.Machine.{Needs, Rules};
 
 use crate::error::{Halted, Memory, ThawFault};
 use std::alloc::Global;
@@ -29,31 +29,39 @@ pub trait Machine: Drop {
     // The opening state, the step and the frozen form, as one record.
     ghost rules: { Rules Self Self.Command Self.Output };
 
+    // When a call may run out of memory; elsewhere none does.
+    ghost needs: { Needs Self Self.Command };
+
     ghost IsState: { Self → Type 0 };
 
     ghost IsCommand: { Self.Command → Type 0 };
 
-    /// Returns a copy of this command. The only error is that memory ran out.
+    /// Returns a copy of this command. The only error is that memory ran out, which `needs` allows
+    /// for some commands.
     fn copy(alloc: Global, command: &Self::Command) -> Result<Self::Command, Memory>
         ensures same { IfOk result (λ copied. copied ≡ command.now) }
+        ensures memory { OnErr result (needs.to_copy command.now ≡ true) }
         ensures valid { IsCommand command.now };
 
     /// Returns a machine in the opening state. All of them are equal; the only error is that memory
-    /// ran out.
+    /// ran out, if `needs` allows it.
     fn fresh(alloc: Global) -> Result<Self, Memory>
-        ensures { IfOk result (λ machine. machine ≡ rules.opening) };
+        ensures opening { IfOk result (λ machine. machine ≡ rules.opening) }
+        ensures memory { OnErr result (needs.to_open ≡ true) };
 
     /// Returns the command that is appended to the log at the start of each ballot after the first.
     fn start(ballot: u64) -> Self::Command
         ensures { result ≡ rules.start_of ballot };
 
     /// Applies one command and appends its outputs to `out`. [`Halted`] comes only if memory ran
-    /// out: `out` is then as before, and the machine is not used again.
+    /// out, which `needs` allows for some commands: `out` is then as before, and the machine is not
+    /// used again.
     fn apply(&mut self, command: &Self::Command, out: &mut Vec<Self::Output>) -> Result<(), Halted>
         ensures state { OnOk result (self.new ≡ rules.after self.old command.now) }
         ensures outputs { OnOk result
             (out.new.items ≡ out.old.items ++ rules.gives self.old command.now) }
         ensures err { OnErr result (out.new.items ≡ out.old.items) }
+        ensures memory { OnErr result (needs.to_apply self.old command.now ≡ true) }
         ensures valid { IsState self.old };
 
     /// Appends the bytes of this state to `bytes`, which stay as they were if memory runs out.
@@ -63,10 +71,12 @@ pub trait Machine: Drop {
         ensures valid { IsState self.now };
 
     /// Returns the machine that was frozen to these bytes. [`ThawFault::Shape`] comes only if no
-    /// machine is frozen to them, [`ThawFault::Memory`] only if memory ran out.
+    /// machine is frozen to them, [`ThawFault::Memory`] only if memory ran out, which `needs` allows
+    /// for some bytes.
     fn thaw(alloc: Global, bytes: &[u8]) -> Result<Self, ThawFault>
         ensures ok { IfOk result (λ machine. rules.thawed bytes.now ≡ Some machine) }
-        ensures shape { result ≡ Err ThawFault.Shape → rules.thawed bytes.now ≡ None };
+        ensures shape { result ≡ Err ThawFault.Shape → rules.thawed bytes.now ≡ None }
+        ensures memory { result ≡ Err ThawFault.Memory → needs.to_thaw bytes.now ≡ true };
 
     // The laws.
     ghost opens: { IsState rules.opening };

@@ -22,7 +22,8 @@ pub enum TallyCommand {
 
 impl Machine for Tally {
     ghost use Rattle.std.specs.Prelude.{ℕ, List, Option, Some, None, ◌≡◌, ◌<◌, ◌^◌};
-    ghost use Rattle.machine.specs.Tally.{tally_rules, total_bytes, tally_of, IsTallyCommand};
+    ghost use Rattle.machine.specs.Tally.{tally_needs, tally_rules, total_bytes, tally_of};
+    ghost use Rattle.machine.specs.Tally.{IsTallyCommand};
     ghost use Rattle.machine.specs.Inside.{IsTotal-opening, IsTotal-after, tally_of-bytes_of};
 
     type Command = TallyCommand;
@@ -30,6 +31,8 @@ impl Machine for Tally {
     type Output = u64;
 
     ghost rules = { tally_rules };
+
+    ghost needs = { tally_needs };
 
     ghost IsState = { λ tally. tally.total < 2 ^ 64 };
 

@@ -3,7 +3,7 @@
 
 ghost use Rattle.std.specs.Prelude.{◌≡◌, Ok};
 ghost use Rattle.packet.specs.Spelling.{max_body};
-ghost use Rattle.packet_base.specs.Outcome.{Gives, Reads};
+ghost use Rattle.packet_base.specs.Outcome.{Gives, Reads, TakesNoMemory};
 ghost use Rattle.session_base.specs.Counted.{check_form};
 ghost use Rattle.session_base.specs.Form.{flag_at, long_number_at, qos_at, body_length};
 ghost use Rattle.session_base.specs.Form.{publication_at, granted_subscription_at, waiting_at, sent_at};
@@ -17,7 +17,8 @@ use topics::{Filter, MalformedKind};
 
 /// Returns `Shape` unless the test holds.
 pub fn check_form(test: bool) -> Result<(), Stop>
-    ensures { Gives (λ value. value) result (check_form test) }
+    ensures exact { Gives (λ value. value) result (check_form test) }
+    ensures memory { TakesNoMemory result }
 {
     if test {
         return Ok(());

@@ -1,7 +1,7 @@
 // Handling the messages of other nodes.
 
 ghost use Rattle.std.specs.Prelude.{◌≡◌, ◌↔◌, true, false, [], ◌∷◌, OnErr, IsErr};
-ghost use Rattle.ballot.specs.Inside.{PlainStepOrLost, ReadingStepOrLost};
+ghost use Rattle.ballot.specs.Inside.{AppliesMore, CommitsMore, PlainStepOrLost, ReadingStepOrLost};
 ghost use Rattle.ballot.specs.Told.{StepTold};
 ghost use Rattle.ballot_base.specs.Sends.{Sends};
 ghost use Rattle.ballot_base.specs.Losses.{AppendedStepOrLost, SendsAndAddsNothing, one_more};
@@ -45,6 +45,10 @@ impl<M: Machine> Replica<M> {
             self.new ≡ record self.old { losses = one_more self.old.losses } }
 
         ensures halted { IsErr result ↔ (self.new.state.stopped ≡ true) }
+        // It halts only in a step that applies commands.
+        ensures applies { IsErr result → self.old.state.stopped ≡ false →
+            AppliesMore message.body self.old
+            (replica_step M.rules self.old.state (Receives message)) }
         ensures stopped { self.old.state.stopped ≡ true → self.new ≡ self.old }
         ensures err { OnErr result (out.new.items ≡ out.old.items) }
     {
@@ -73,6 +77,9 @@ impl<M: Machine> Replica<M> {
         ensures stopped { self.old.state.stopped ≡ true →
             (result ≡ true) × (self.new ≡ self.old) × (out.new.items ≡ out.old.items) }
         ensures stops { self.new.state.stopped ≡ true → out.new.items ≡ out.old.items }
+        ensures applies { self.new.state.stopped ≡ true → self.old.state.stopped ≡ false →
+            AppliesMore message.body self.old
+            (replica_step M.rules self.old.state (Receives message)) }
     {
         if self.stopped {
             return true;
@@ -97,6 +104,8 @@ impl<M: Machine> Replica<M> {
         ensures unread { is_unread M.rules self.old.state body ≡ true →
             (result ≡ false) × (self.new ≡ self.old) }
         ensures stops { self.new.state.stopped ≡ true → out.new.items ≡ out.old.items }
+        ensures applies { self.new.state.stopped ≡ true →
+            AppliesMore body self.old (received M.rules self.old.state from body) }
     {
         match body {
             Body::NewBallot(ballot, members, previous, previous_members) => {
@@ -174,6 +183,8 @@ impl<M: Machine> Replica<M> {
             (on_held M.rules self.old.state from ballot held) result
             self.new out.old.items out.new.items }
         ensures stops { self.new.state.stopped ≡ true → out.new.items ≡ out.old.items }
+        ensures commits { self.new.state.stopped ≡ true →
+            CommitsMore self.old (on_held M.rules self.old.state from ballot held) }
     {
         if !self.leads(ballot) {
             return true;
@@ -196,8 +207,10 @@ impl<M: Machine> Replica<M> {
     // the primary returns.
     fn on_commit(&mut self, ballot: u64, held: u64) -> bool
         requires { self.old.state.stopped ≡ false }
-        ensures { PlainStepOrLost M.rules self.old
+        ensures step { PlainStepOrLost M.rules self.old
             (on_commit M.rules self.old.state ballot held) result self.new [] [] }
+        ensures commits { self.new.state.stopped ≡ true →
+            CommitsMore self.old (on_commit M.rules self.old.state ballot held) }
     {
         if !self.follows(ballot) {
             return true;

@@ -1,6 +1,6 @@
 // Dispatching a packet to the client on whose connection it came.
 
-ghost use Rattle.std.specs.Prelude.{◌≡◌, Some, IfOk, OnOk};
+ghost use Rattle.std.specs.Prelude.{◌≡◌, Some, IfOk, OnErr, OnOk, is_some, true, false};
 ghost use Rattle.broker_spec.specs.declared.command.Command.TheVariants as commands;
 ghost use Rattle.broker_base.specs.rows.Owners.{owners_in};
 ghost use Rattle.broker.specs.one_session.OneSession.{is_handshake};
@@ -29,6 +29,10 @@ impl Tables {
             (DoesCommand self.old self.new out.old.items out.new.items
             (commands.Packet connection packet.now)) }
         ensures tied { OnOk result (IsTied self.new) }
+        ensures memory { OnErr result
+            (is_some (owners_in self.old.sessions.entries connection) ≡ true) }
+        ensures silent { is_some (owners_in self.old.sessions.entries connection) ≡ false →
+            out.new.items ≡ out.old.items }
     {
         match self.owner_of(connection)? {
             Some(client) => self.serve(connection, &client, packet, out)?,
@@ -76,7 +80,10 @@ impl Tables {
     // Returns the client that is served on this connection, if any.
     fn owner_of(&self, connection: ConnectionName) -> Result<Option<ClientId>, AllocError>
         requires { IsTied self.now }
-        ensures { IfOk result (λ client. client ≡ owners_in self.now.sessions.entries connection) }
+        ensures found { IfOk result (λ client.
+            client ≡ owners_in self.now.sessions.entries connection) }
+        ensures memory { OnErr result
+            (is_some (owners_in self.now.sessions.entries connection) ≡ true) }
     {
         match self.owners.get(&connection) {
             Some(client) => Ok(Some(client.clone()?)),

@@ -1,7 +1,7 @@
 // The end of a connection: its loss, DISCONNECT, and protocol violations (MQTT 3.1.2.4, 3.14.4,
 // 4.8).
 
-ghost use Rattle.std.specs.Prelude.{◌≡◌, ◌++◌, [], ◌∷◌, OnOk, OnErr};
+ghost use Rattle.std.specs.Prelude.{◌≡◌, ◌++◌, [], ◌∷◌, OnOk, OnErr, is_some, true};
 ghost use Rattle.broker_spec.specs.Answers.{close_outputs};
 ghost use Rattle.broker_spec.specs.Connection.{ConnectionName as SpecName};
 ghost use Rattle.broker_spec.specs.declared.command.Command.TheVariants as commands;
@@ -60,6 +60,7 @@ impl Tables {
 pub(crate) fn push_close(left: Option<ConnectionName>, out: &mut Vec<Output>) -> Result<(), Halted>
     ensures closes { OnOk result (out.new.items ≡ out.old.items ++ close_outputs left) }
     ensures unsent { OnErr result (out.new.items ≡ out.old.items) }
+    ensures memory { OnErr result (is_some left ≡ true) }
 {
     if let Some(left) = left {
         out.push(Output::Close(left))?;

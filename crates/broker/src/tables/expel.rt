@@ -1,8 +1,9 @@
 // An Expel: an administrator ends a client's session.
 
-ghost use Rattle.std.specs.Prelude.{◌≡◌, OnOk, OnErr};
+ghost use Rattle.std.specs.Prelude.{◌≡◌, OnOk, OnErr, true, false};
+ghost use Rattle.broker_base.specs.form.Needs.{needs_to_apply};
 ghost use Rattle.broker_spec.specs.declared.command.Command.TheVariants as commands;
-ghost use Rattle.broker.specs.tables.Tables.{DoesCommand, IsConsistent, IsTied};
+ghost use Rattle.broker.specs.tables.Tables.{DoesCommand, IsConsistent, IsTied, state_in};
 
 use crate::tables::disconnect::{push_close, remove_owner};
 use crate::tables::tables::Tables;
@@ -23,6 +24,10 @@ impl Tables {
         ensures tied { OnOk result (IsTied self.new) }
         ensures stays { OnErr result (self.new ≡ self.old) }
         ensures unsent { OnErr result (out.new.items ≡ out.old.items) }
+        ensures memory { OnErr result
+            (needs_to_apply (state_in self.old) (commands.Expel client.now) ≡ true) }
+        ensures silent { needs_to_apply (state_in self.old) (commands.Expel client.now) ≡ false →
+            out.new.items ≡ out.old.items }
     {
         let Some(_row) = self.sessions.get(client) else {
             return Ok(());

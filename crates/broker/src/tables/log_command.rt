@@ -1,7 +1,8 @@
 // Applying one command of the log.
 
-ghost use Rattle.std.specs.Prelude.{OnOk};
-ghost use Rattle.broker.specs.tables.Tables.{DoesCommand, IsConsistent, IsTied};
+ghost use Rattle.std.specs.Prelude.{◌≡◌, OnErr, OnOk, true, false};
+ghost use Rattle.broker_base.specs.form.Needs.{needs_to_apply};
+ghost use Rattle.broker.specs.tables.Tables.{DoesCommand, IsConsistent, IsTied, state_in};
 
 use crate::tables::tables::Tables;
 use broker_spec::{Command, Output};
@@ -15,6 +16,9 @@ impl Tables {
         ensures step { OnOk result
             (DoesCommand self.old self.new out.old.items out.new.items command.now) }
         ensures tied { OnOk result (IsTied self.new) }
+        ensures memory { OnErr result (needs_to_apply (state_in self.old) command.now ≡ true) }
+        ensures silent { needs_to_apply (state_in self.old) command.now ≡ false →
+            out.new.items ≡ out.old.items }
     {
         match command {
             Command::Connect(connection, client, clean) => {

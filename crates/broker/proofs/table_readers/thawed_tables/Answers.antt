@@ -10,6 +10,6 @@ returns-clause-tied c =
     (c.thawed_is_in_range.ensures c.args.bytes.now (λ i. omega (arith, c.type_inv.bytes i))) in
     record {
       owners = c.in_ok-window.ensures.owned;
-      index = c.in-Ok.ensures
+      index = c.in-Ok.ensures.content
           ∙ put_anew c.in_ok-window.rows.sessions.entries usual.0.sound.by_client usual.0.sound.sessions;
     }

@@ -4,7 +4,7 @@ use Rattle.ballot_base.specs.Replica.{CountedReplica}
 use Rattle.ballot_base.specs.Service.{least, raised}
 use Rattle.ballot_base.proofs.StepRows.{least-le, commit_at-stopped}
 use Rattle.ballot_base.proofs.MessageRows.{on_held-elsewhere}
-use Rattle.ballot.proofs.MessagesTaken.{went_same, held_taken, held_halted, written_back, taken_back}
+use Rattle.ballot.proofs.MessagesTaken.{went_same, held_more, held_taken, held_halted, written_back, taken_back}
 use Rattle.ballot.proofs.replica.Replica.on_held.Goals as goal
 
 pub returns-then-not-leads-clause-step : goal.returns-then-not-leads-clause-step
@@ -64,3 +64,23 @@ returns-in-Err-clause-step g c =
     refl
     (taken_back _ c.len-before.result c.in-Err.ensures.err
     (omega (arith, c.len-before.ensures, c.args.out.now.ok.0)) c.truncate.ensures.items)
+
+pub returns-in-Ok-clause-commits : goal.returns-in-Ok-clause-commits
+returns-in-Ok-clause-commits g c stopped =
+    let steps = g.M.Machine.rules in
+    let runs : c.self-2.inside.stopped ≡ false =
+    ap (λ (z : CountedReplica _ _). z.state.stopped) (c.self-2.view_is ∙ c.in-Ok.ensures.state)
+    ∙ commit_at-stopped steps c.args.self.now.state c.least_raised-least.result ∙ c.requires in
+    let f = sym stopped ∙ runs in cc
+
+pub returns-in-Err-clause-commits : goal.returns-in-Err-clause-commits
+returns-in-Err-clause-commits g c stopped =
+    let long : c.places.result ≡ places c.args.self.now.state.log =
+    rw (← c.self.view_is) c.places.ensures in
+    held_more g.M.Machine.rules c.args.self.now c.args.from c.args.ballot c.args.held c.least_raised-least.result
+    c.deref.result.now c.places.result
+    (sym c.leads.ensures ∙ c.if-not-leads.false)
+    (rw (← c.self.view_is) c.deref.ensures.value)
+    long
+    c.least_raised-least.ensures
+    c.in-Err.ensures.needed

@@ -7,8 +7,8 @@ use Rattle.broker.proofs.tables.tables.Tables.handle_packet.Goals as goal
 pub returns-in-None-clause-step : goal.returns-in-None-clause-step
 returns-in-None-clause-step c =
     record {
-      state = sym (ap (λ p. p.0) (nobodys_of c.args.self.now c.args.connection c.args.packet.now (sym c.in_ok-client.ensures ∙ c.in-None.is)));
+      state = sym (ap (λ p. p.0) (nobodys_of c.args.self.now c.args.connection c.args.packet.now (sym c.in_ok-client.ensures.found ∙ c.in-None.is)));
       outputs = sym (append-nil c.args.out.now.items)
           ∙ ap (λ given. c.args.out.now.items ++ given)
-          (sym (ap (λ p. p.1) (nobodys_of c.args.self.now c.args.connection c.args.packet.now (sym c.in_ok-client.ensures ∙ c.in-None.is))));
+          (sym (ap (λ p. p.1) (nobodys_of c.args.self.now c.args.connection c.args.packet.now (sym c.in_ok-client.ensures.found ∙ c.in-None.is))));
     }
