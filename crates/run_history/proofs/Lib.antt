@@ -10,3 +10,4 @@ pub mod Knowing
 pub mod Sent
 pub mod Settling
 pub mod MasterEvents
+pub mod LinksBring

@@ -20,7 +20,7 @@ use Rattle.headline.specs.node_group.Group.{opening_cores}
 use Rattle.run_history.specs.declared.event.MasterEvent.{MasterEvent}
 use Rattle.run_history.specs.declared.event.NodeEvent.{NodeEvent}
 use Rattle.run_history.specs.declared.event.RunEvent.{RunEvent}
-use Rattle.run_history.specs.declared.event.RunEvent.TheVariants.{Opens, ByNode, ByMaster}
+use Rattle.run_history.specs.declared.event.RunEvent.TheVariants.{Opens, ByNode, ByMaster, ByLink}
 use Rattle.run_history.specs.History.{IsMasterOf, IsNodeOf}
 use Rattle.run_history.specs.Log.{events_by, master_in, nodes_after, nodes_in, sent_by, sent_in, state_after}
 use Rattle.run_history.specs.Sending.{ItemWasSent}
@@ -31,12 +31,14 @@ pub nodes_append : (nodes : List CoreState) (xs ys : List RunEvent) → nodes_af
 nodes_append nodes [] ys = refl
 nodes_append nodes (Opens group ∷ xs) ys = nodes_append nodes xs ys
 nodes_append nodes (ByMaster event ∷ xs) ys = nodes_append nodes xs ys
+nodes_append nodes (ByLink brought ∷ xs) ys = nodes_append nodes xs ys
 nodes_append nodes (ByNode event ∷ xs) ys = nodes_append (slice_set nodes event.node event.after.core) xs ys
 
 pub state_append : (state : MasterState) (xs ys : List RunEvent) → state_after state (xs ++ ys) ≡ state_after (state_after state xs) ys
 state_append state [] ys = refl
 state_append state (Opens group ∷ xs) ys = state_append state xs ys
 state_append state (ByNode event ∷ xs) ys = state_append state xs ys
+state_append state (ByLink brought ∷ xs) ys = state_append state xs ys
 state_append state (ByMaster event ∷ xs) ys = state_append event.after xs ys
 
 pub sent_append : (xs ys : List RunEvent) → sent_in (xs ++ ys) ≡ sent_in xs ++ sent_in ys
@@ -70,6 +72,7 @@ pub untouched : (nodes : List CoreState) (node : ℕ) (ys : List RunEvent) → e
 untouched nodes node [] none = refl
 untouched nodes node (Opens group ∷ ys) none = untouched nodes node ys (omega (arith, none))
 untouched nodes node (ByMaster event ∷ ys) none = untouched nodes node ys (omega (arith, none))
+untouched nodes node (ByLink brought ∷ ys) none = untouched nodes node ys (omega (arith, none))
 untouched nodes node (ByNode event ∷ ys) none = untouched_by nodes node event ys (event.node + 1 == node + 1) refl none (untouched (slice_set nodes event.node event.after.core) node ys)
 
 -- events of nodes leave the master as it is
@@ -78,6 +81,7 @@ master_untouched state [] none = refl
 master_untouched state (Opens group ∷ ys) none = master_untouched state ys (omega (arith, none))
 master_untouched state (ByNode event ∷ ys) none = master_untouched state ys (omega (arith, none))
 master_untouched state (ByMaster event ∷ ys) none = absurd (omega (arith, none))
+master_untouched state (ByLink brought ∷ ys) none = absurd (omega (arith, none))
 
 -- ---- the parties
 

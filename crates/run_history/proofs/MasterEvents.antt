@@ -33,8 +33,8 @@ use Rattle.run_history.proofs.LongerLogs.{master_goes_on, master_stays, sent_mor
 use Rattle.run_history.proofs.Prefixes.{prefix_trans}
 
 -- the master as a run opens
-pub opening_known : (nodes : ℕ) (config : Config) → IsMasterOf config (opening_log nodes config) (opening_master max_node config) 0
-opening_known nodes config = record { has = refl; counted = omega arith }
+pub opening_known : (nodes : ℕ) (config : Config) (linked : Bool) → IsMasterOf config (opening_log nodes config linked) (opening_master max_node config) 0
+opening_known nodes config linked = record { has = refl; counted = omega arith }
 
 -- the answer says whether the ballot was granted
 pub answer_is : (granted : Bool) (answer : Activation) (ballot : ℕ) (body : Body Command) → answer ≡ (if granted then activation.Activated else activation.Superseded) → body ≡ activation_answer answer ballot

@@ -15,7 +15,8 @@ use Rattle.run_history.specs.declared.event.NodeAct.{NodeAct}
 use Rattle.run_history.specs.declared.event.NodeAct.TheVariants.{Takes, HandsOver}
 use Rattle.run_history.specs.declared.event.RunEvent.{RunEvent}
 use Rattle.run_history.specs.Log.{sent_in}
-use Rattle.run_history.specs.Rules.{MasterMayDo, NodeMayDo}
+use Rattle.run_history.specs.Linked.{NodeMayDo}
+use Rattle.run_history.specs.Rules.{MasterMayDo}
 use Rattle.run_history.proofs.LongerLogs.{in_later, item_sent_later}
 
 pub node_may_later : (node : ℕ) (core after : CoreState) (given : List (Effect Command Output)) (act : NodeAct) (seen log : List RunEvent) → IsPrefix seen log

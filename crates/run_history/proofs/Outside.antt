@@ -1,5 +1,5 @@
 -- What is no message needs no sender.
-use Rattle.std.proofs.Common.{◌≡◌, ℕ, Bool, false, List, true≢false}
+use Rattle.std.proofs.Common.{◌≡◌, ℕ, false, List, true≢false}
 use Rattle.ballot_base.specs.declared.message.Message.{Message}
 use Rattle.broker_spec.specs.declared.command.Command.{Command}
 use Rattle.world_base.specs.declared.node_core.item.Item.{Item}

@@ -11,7 +11,7 @@ use Rattle.agreement.specs.MasterState.{MasterState}
 use Rattle.headline.specs.node_group.Group.{opening_cores}
 use Rattle.world_base.specs.node_core.Core.{CoreState, CountedCore}
 use Rattle.run_history.specs.declared.event.RunEvent.{RunEvent}
-use Rattle.run_history.specs.declared.event.RunEvent.TheVariants.{Opens, ByNode, ByMaster}
+use Rattle.run_history.specs.declared.event.RunEvent.TheVariants.{Opens, ByNode, ByMaster, ByLink}
 use Rattle.run_history.specs.Ends.{AllEnded, IsEnd, IsMasterSettled, IsSettled}
 use Rattle.run_history.specs.History.{IsHistory, IsMasterOf, IsNodeOf}
 use Rattle.run_history.specs.Log.{events_by, nodes_after, nodes_in}
@@ -79,6 +79,7 @@ nodes_length_by : (nodes : List CoreState) (log : List RunEvent) → length (nod
 nodes_length_by nodes [] = refl
 nodes_length_by nodes (Opens group ∷ log) = nodes_length_by nodes log
 nodes_length_by nodes (ByMaster event ∷ log) = nodes_length_by nodes log
+nodes_length_by nodes (ByLink brought ∷ log) = nodes_length_by nodes log
 nodes_length_by nodes (ByNode event ∷ log) = nodes_length_by (slice_set nodes event.node event.after.core) log ∙ length-set nodes event.node event.after.core
 
 -- a log by which the master and each of all nodes are settled is their end

@@ -1,5 +1,5 @@
 -- An event that may be added is a step of the model, so the log with it is that of a run.
-use Rattle.std.proofs.Common.{◌≡◌, ℕ, List, [], ◌∷◌, ◌++◌, Some, refl, ap, sym, ◌∙◌, subst}
+use Rattle.std.proofs.Common.{◌≡◌, ℕ, Bool, true, false, List, [], ◌∷◌, ◌++◌, Some, refl, ap, sym, ◌∙◌, subst, true≢false}
 use Rattle.std.specs.Prelude.{Option, slice_get, slice_set}
 use Rattle.ballot_base.specs.LawfulConfig.{max_node}
 use Rattle.ballot_base.proofs.ThinnedEffects.{Thinned-same}
@@ -26,6 +26,7 @@ use Rattle.headline.specs.node_group.Losses.{WereSent}
 use Rattle.headline.specs.node_group.Steps.{GroupStep, GroupTrace, after_assign}
 use Rattle.headline.specs.node_group.Steps.GroupStep.{node_acts, node_loses, master_assigns, master_hears}
 use Rattle.headline.specs.node_group.Steps.GroupTrace.{then_went}
+use Rattle.run_history.specs.declared.event.BroughtMessage.{BroughtMessage}
 use Rattle.run_history.specs.declared.event.MasterAct.{MasterAct}
 use Rattle.run_history.specs.declared.event.MasterAct.TheVariants.{Assigns, Answers}
 use Rattle.run_history.specs.declared.event.MasterEvent.{MasterEvent}
@@ -33,11 +34,13 @@ use Rattle.run_history.specs.declared.event.NodeAct.{NodeAct}
 use Rattle.run_history.specs.declared.event.NodeAct.TheVariants.{Takes, HandsOver}
 use Rattle.run_history.specs.declared.event.NodeEvent.{NodeEvent}
 use Rattle.run_history.specs.declared.event.RunEvent.{RunEvent}
-use Rattle.run_history.specs.declared.event.RunEvent.TheVariants.{ByNode, ByMaster}
+use Rattle.run_history.specs.declared.event.RunEvent.TheVariants.{ByNode, ByMaster, ByLink}
 use Rattle.run_history.specs.History.{IsHistory, IsLogOf, IsMasterStep, IsNodeStep, IsReached}
 use Rattle.run_history.specs.History.IsLogOf.{opens, goes_on}
 use Rattle.run_history.specs.Log.{master_in, nodes_in, sent_in}
-use Rattle.run_history.specs.Rules.{IsOutcome, MasterMayDo, NodeMayDo}
+use Rattle.run_history.specs.Linked.{IsRun, NodeMayDo}
+use Rattle.run_history.specs.Linked.IsLinkedLog.{node_does, link_brings}
+use Rattle.run_history.specs.Rules.{IsOutcome, MasterMayDo}
 use Rattle.run_history.specs.Sending.{ItemWasSent}
 use Rattle.run_history.proofs.LongerLogs.{nodes_append, sent_more, state_append}
 
@@ -162,3 +165,20 @@ master_goes_on nodes config log state event history at may =
       went = then_went history.went stepped.step;
       is = goes_on history.is (ByMaster event) stepped.step stepped.is then;
     }
+
+-- ---- a run with one more event
+
+pub run_goes_on : (linked : Bool) (nodes : ℕ) (config : Config) (log : List RunEvent) (core : CoreState) (event : NodeEvent) → IsRun linked nodes config log → slice_get (nodes_in nodes config log) event.node ≡ Some core
+    → NodeMayDo (sent_in log) event.node core event.after.core event.given event.act → IsRun linked nodes config (log ++ ByNode event ∷ [])
+run_goes_on false nodes config log core event is at may = node_goes_on nodes config log core event is at may
+run_goes_on true nodes config log core event is at may = node_does is event core at may
+
+pub run_goes_on_with_master : (linked : Bool) (nodes : ℕ) (config : Config) (log : List RunEvent) (state : MasterState) (event : MasterEvent) → linked ≡ false → IsRun linked nodes config log → master_in config log ≡ state
+    → MasterMayDo (sent_in log) state event event.act → IsRun linked nodes config (log ++ ByMaster event ∷ [])
+run_goes_on_with_master false nodes config log state event own is at may = master_goes_on nodes config log state event is at may
+run_goes_on_with_master true nodes config log state event own is at may = absurd (true≢false own)
+
+pub run_goes_on_with_link : (linked : Bool) (nodes : ℕ) (config : Config) (log : List RunEvent) (brought : BroughtMessage) → linked ≡ true → IsRun linked nodes config log
+    → IsRun linked nodes config (log ++ ByLink brought ∷ [])
+run_goes_on_with_link false nodes config log brought is_linked is = absurd (true≢false (sym is_linked))
+run_goes_on_with_link true nodes config log brought is_linked is = link_brings is brought

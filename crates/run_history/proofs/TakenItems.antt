@@ -1,5 +1,5 @@
 -- The items that a node took, by longer and longer logs.
-use Rattle.std.proofs.Common.{◌≡◌, ℕ, ◌+◌, ◌==◌, Bool, true, false, if◌then◌else◌, List, [], ◌∷◌, ◌++◌, refl, ap, sym, ◌∙◌, subst, arith, append_assoc}
+use Rattle.std.proofs.Common.{◌≡◌, ℕ, ◌+◌, ◌==◌, Bool, true, false, if◌then◌else◌, List, [], ◌∷◌, ◌++◌, refl, ap, sym, ◌∙◌, arith, append_assoc}
 use Rattle.std.proofs.lemmas.List.{append-nil}
 use Rattle.std.proofs.lemmas.Bool.Decides.{nat_tests}
 use mathlib.Core.List.{IsPrefix}
@@ -65,5 +65,5 @@ pub handed_items : (old new : NodeView) (port : Port) → HandedOver old port ne
 handed_items old new port handed = did_items old new (HandsOver port) [] handed.did ∙ append-nil (items_taken (old.index + 1) old.log)
 
 -- no item was taken as the group opens
-pub opened_items : (number nodes : ℕ) (config : Config) → items_taken number (opening_log nodes config) ≡ []
-opened_items number nodes config = refl
+pub opened_items : (number nodes : ℕ) (config : Config) (linked : Bool) → items_taken number (opening_log nodes config linked) ≡ []
+opened_items number nodes config linked = refl

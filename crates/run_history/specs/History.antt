@@ -1,5 +1,5 @@
 -- Which logs are runs of the model of groups: each event is a step of it.
-use Rattle.std.specs.Prelude.{◌≡◌, ℕ, ◌+◌, true, List, [], ◌∷◌, ◌++◌, slice_get, Some}
+use Rattle.std.specs.Prelude.{◌≡◌, ℕ, ◌+◌, true, false, List, [], ◌∷◌, ◌++◌, slice_get, Some}
 use Rattle.ballot_base.specs.LawfulConfig.{max_node}
 use Rattle.ballot_base.specs.StepOutcome.{master}
 use Rattle.ballot_base.specs.declared.config.Config.{Config}
@@ -20,7 +20,7 @@ use Rattle.run_history.specs.declared.event.MasterAct.TheVariants.{Assigns, Answ
 use Rattle.run_history.specs.declared.event.NodeAct.{NodeAct}
 use Rattle.run_history.specs.declared.event.NodeAct.TheVariants.{Takes, HandsOver}
 use Rattle.run_history.specs.declared.event.RunEvent.{RunEvent}
-use Rattle.run_history.specs.declared.event.RunEvent.TheVariants.{Opens, ByNode, ByMaster}
+use Rattle.run_history.specs.declared.event.RunEvent.TheVariants.{Opens, ByNode, ByMaster, ByLink}
 use Rattle.run_history.specs.Log.{events_by, master_in, nodes_in, opening_log, sent_in}
 
 -- the call of a node that an act is
@@ -56,6 +56,7 @@ IsMasterStep act (node_loses node core item outcome kept by at runs sent thinned
 abbrev pub IsStep : RunEvent → {group next : Group} → GroupStep group next → Type 0
 IsStep (ByNode event) step = IsNodeStep event.node event.act event.after.core event.given step
 IsStep (ByMaster event) step = IsMasterStep event.act step
+IsStep (ByLink event) step = ⊥
 IsStep (Opens group) step = ⊥
 
 -- the group has the nodes, the master and the messages that the log leads to
@@ -70,7 +71,7 @@ pub record IsReached (nodes : ℕ) (config : Config) (log : List RunEvent)
 pub data IsLogOf (nodes : ℕ) (config : Config) : List RunEvent →
     (group : Group) → GroupTrace nodes config group → Type 0 where
   opens : (can : can_open max_node nodes config ≡ true) →
-      IsLogOf nodes config (opening_log nodes config)
+      IsLogOf nodes config (opening_log nodes config false)
       (opening_group max_node nodes config) (opened max_node can)
   goes_on : {log : List RunEvent} {group next : Group} {went : GroupTrace nodes config group} →
       IsLogOf nodes config log group went → (event : RunEvent) (step : GroupStep group next) →

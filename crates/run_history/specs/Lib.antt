@@ -1,6 +1,8 @@
 pub mod Log
 pub mod Sending
 pub mod History
+pub mod Linked
+pub mod Brought
 pub mod Rules
 pub mod ToldEvents
 pub mod Parties

@@ -15,17 +15,18 @@ use Rattle.headline.specs.node_group.Group.{opening_cores}
 use Rattle.run_history.specs.declared.event.NodeAct.{NodeAct}
 use Rattle.run_history.specs.declared.event.NodeAct.TheVariants.{Takes, HandsOver}
 use Rattle.run_history.specs.declared.event.RunEvent.{RunEvent}
-use Rattle.run_history.specs.declared.event.RunEvent.TheVariants.{Opens, ByNode, ByMaster}
+use Rattle.run_history.specs.declared.event.RunEvent.TheVariants.{Opens, ByNode, ByMaster, ByLink}
 
 -- ---- the opening
 
--- the event by which a group of this many nodes opens
-abbrev pub opening_event : ℕ → Config → RunEvent
-opening_event nodes config = Opens (record { nodes = nodes; config = config })
+-- the event by which a group of this many nodes opens, linked to other programs or not
+abbrev pub opening_event : ℕ → Config → Bool → RunEvent
+opening_event nodes config linked =
+    Opens (record { nodes = nodes; config = config; linked = linked })
 
 -- the log as a group opens
-abbrev pub opening_log : ℕ → Config → List RunEvent
-opening_log nodes config = opening_event nodes config ∷ []
+abbrev pub opening_log : ℕ → Config → Bool → List RunEvent
+opening_log nodes config linked = opening_event nodes config linked ∷ []
 
 -- ---- states
 
@@ -34,6 +35,7 @@ abbrev pub nodes_after : List CoreState → List RunEvent → List CoreState
 nodes_after nodes (ByNode event ∷ events) =
     nodes_after (slice_set nodes event.node event.after.core) events
 nodes_after nodes (ByMaster event ∷ events) = nodes_after nodes events
+nodes_after nodes (ByLink event ∷ events) = nodes_after nodes events
 nodes_after nodes (Opens group ∷ events) = nodes_after nodes events
 nodes_after nodes [] = nodes
 
@@ -45,6 +47,7 @@ nodes_in nodes config log = nodes_after (opening_cores nodes config) log
 abbrev pub state_after : MasterState → List RunEvent → MasterState
 state_after state (ByMaster event ∷ events) = state_after event.after events
 state_after state (ByNode event ∷ events) = state_after state events
+state_after state (ByLink event ∷ events) = state_after state events
 state_after state (Opens group ∷ events) = state_after state events
 state_after state [] = state
 
@@ -54,23 +57,26 @@ master_in config log = state_after (opening_master max_node config) log
 
 -- ---- messages
 
--- the messages that an event sends, each with its receiver
+-- the messages that an event sends or brings, each with its receiver
 abbrev pub sent_by : RunEvent → List (ℕ × Message Command)
 sent_by (ByNode event) = messages event.given
 sent_by (ByMaster event) = (event.receiver, event.message) ∷ []
+sent_by (ByLink event) = (event.receiver, event.message) ∷ []
 sent_by (Opens group) = []
 
--- all messages that were ever sent
+-- all messages that were ever sent or brought
 abbrev pub sent_in : List RunEvent → List (ℕ × Message Command)
 sent_in (event ∷ events) = sent_by event ++ sent_in events
 sent_in [] = []
 
 -- ---- parties
 
--- the number of the party that does an event; the opening is done by none
+-- the number of the party that does an event; the opening is done by none, and what links bring
+-- counts as the master's, who is elsewhere then
 abbrev pub party_of : RunEvent → ℕ
 party_of (ByNode event) = event.node + 1
 party_of (ByMaster event) = master
+party_of (ByLink event) = master
 party_of (Opens group) = master
 
 -- whether an event is one of this party

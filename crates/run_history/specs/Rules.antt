@@ -1,31 +1,26 @@
 -- The rule of the log, and what may be added to it.
-use Rattle.std.specs.Prelude.{◌≡◌, ℕ, ◌==◌, ◌+◌, ◌<◌, true, List, [], ◌∷◌, ◌++◌, length, MatchBool, None}
+use Rattle.std.specs.Prelude.{◌≡◌, ℕ, ◌==◌, ◌+◌, ◌<◌, Bool, true, false, List, [], ◌∷◌, ◌++◌, length, MatchBool, None}
 use mathlib.Core.List.{IsPrefix}
 use Rattle.logbook.specs.Pages.{Cell, cell, Step, View, Book, Named}
 use Rattle.lists.specs.Lists.{In}
 use Rattle.ballot_base.specs.StepOutcome.{master}
 use Rattle.ballot_base.specs.declared.config.Config.{Config}
 use Rattle.ballot_base.specs.declared.message.Body.TheVariants.{Activate}
-use Rattle.ballot_base.specs.declared.message.Effect.{Effect}
 use Rattle.ballot_base.specs.declared.message.Message.{Message}
 use Rattle.broker_spec.specs.declared.command.Command.{Command}
-use Rattle.broker_spec.specs.declared.command.Output.{Output}
 use Rattle.agreement.specs.MasterState.{MasterState, refusal}
 use Rattle.agreement.specs.cut_logs.Masters.{MasterOutcome, activated, assigned}
 use Rattle.world_base.specs.node_core.Core.{CoreState}
-use Rattle.world_base.specs.node_core.LossyStep.{RunsOn}
-use Rattle.world_base.specs.node_core.PortOutput.{hands_over}
+use Rattle.run_history.specs.declared.event.BroughtMessage.{BroughtMessage}
 use Rattle.run_history.specs.declared.event.MasterAct.{MasterAct}
 use Rattle.run_history.specs.declared.event.MasterAct.TheVariants.{Assigns, Answers}
 use Rattle.run_history.specs.declared.event.MasterEvent.{MasterEvent}
-use Rattle.run_history.specs.declared.event.NodeAct.{NodeAct}
-use Rattle.run_history.specs.declared.event.NodeAct.TheVariants.{Takes, HandsOver}
 use Rattle.run_history.specs.declared.event.NodeEvent.{NodeEvent}
 use Rattle.run_history.specs.declared.event.RunEvent.{RunEvent}
-use Rattle.run_history.specs.declared.event.RunEvent.TheVariants.{ByNode, ByMaster}
-use Rattle.run_history.specs.History.{IsHistory, IsMasterOf, IsNodeOf}
+use Rattle.run_history.specs.declared.event.RunEvent.TheVariants.{ByNode, ByMaster, ByLink}
+use Rattle.run_history.specs.History.{IsMasterOf, IsNodeOf}
+use Rattle.run_history.specs.Linked.{IsRun, NodeMayDo}
 use Rattle.run_history.specs.Log.{events_by, party_of, sent_in}
-use Rattle.run_history.specs.Sending.{ItemWasSent}
 
 -- ---- the rule
 
@@ -33,24 +28,16 @@ use Rattle.run_history.specs.Sending.{ItemWasSent}
 pub record IsKept (cells : List Cell) (log : List RunEvent) : Type 0 where
   pub nodes : ℕ
   pub config : Config
+  pub linked : Bool
   pub words : length cells ≡ nodes + 1
   pub counts : (party : ℕ) → party < length cells → cell cells party ≡ (events_by party log, true)
-  pub history : IsHistory nodes config log
+  pub run : IsRun linked nodes config log
 
 -- the word of a party
 abbrev pub word_of : Book → ℕ → Named
 word_of book party = record { tracked = true; key = party; book = book }
 
 -- ---- what may be added
-
--- a node may do this act, be so after it, and give this: it steps on an item, perhaps with losses,
--- which was sent to it; or it hands over the output of a port
-abbrev pub NodeMayDo : List (ℕ × Message Command) → ℕ → CoreState → CoreState →
-    List (Effect Command Output) → NodeAct → Type 0
-NodeMayDo sent node core after given (Takes item) =
-    ItemWasSent sent node item × RunsOn item core after given
-NodeMayDo sent node core after given (HandsOver port) =
-    (after ≡ hands_over port core) × (given ≡ [])
 
 -- the event has this outcome of the master's step
 pub record IsOutcome (event : MasterEvent) (outcome : MasterOutcome Command) : Type 0 where
@@ -69,18 +56,22 @@ MasterMayDo sent state event (Answers from ballot) =
 
 -- A party may add this event. By a prefix of what was seen it has a state from which the event
 -- goes, after this many events of its own; what the event takes was sent by what was seen.
-pub data MayAdd (nodes : ℕ) (config : Config) (seen : List RunEvent) (count : ℕ) :
+pub data MayAdd (nodes : ℕ) (config : Config) (linked : Bool) (seen : List RunEvent) (count : ℕ) :
     RunEvent → Type 0 where
   -- a node adds it
   node_may : (event : NodeEvent) (own : List RunEvent) (core : CoreState) → IsPrefix own seen →
       IsNodeOf nodes config own event.node core count → event.node < nodes →
       NodeMayDo (sent_in seen) event.node core event.after.core event.given event.act →
-      MayAdd nodes config seen count (ByNode event)
-  -- the master adds it
+      MayAdd nodes config linked seen count (ByNode event)
+  -- the master adds it, if it is in this program
   master_may : (event : MasterEvent) (own : List RunEvent) (state : MasterState) →
-      IsPrefix own seen → IsMasterOf config own state count →
+      linked ≡ false → IsPrefix own seen → IsMasterOf config own state count →
       MasterMayDo (sent_in seen) state event event.act →
-      MayAdd nodes config seen count (ByMaster event)
+      MayAdd nodes config linked seen count (ByMaster event)
+  -- a link adds it, if nodes are linked
+  link_may : (brought : BroughtMessage) (own : List RunEvent) →
+      linked ≡ true → IsPrefix own seen → events_by master own ≡ count →
+      MayAdd nodes config linked seen count (ByLink brought)
 
 -- ---- what steps of words tell
 

@@ -1,16 +1,16 @@
 -- The event that the code tells as it adds one.
-use Rattle.std.specs.Prelude.{[], drop}
+use Rattle.std.specs.Prelude.{[], drop, false}
 use Rattle.run_history.specs.declared.event.MasterAct.TheVariants.{Assigns, Answers}
 use Rattle.run_history.specs.declared.event.NodeAct.TheVariants.{Takes, HandsOver}
 use Rattle.run_history.specs.declared.event.RunEvent.{RunEvent}
-use Rattle.run_history.specs.declared.event.RunEvent.TheVariants.{ByNode, ByMaster}
+use Rattle.run_history.specs.declared.event.RunEvent.TheVariants.{ByNode, ByMaster, ByLink}
 use Rattle.run_history.specs.declared.told.Told.{Told}
 use Rattle.run_history.specs.declared.told.Told.TheVariants as told
 use Rattle.run_history.specs.Log.{opening_event}
 
 -- an event that is never added
 abbrev pub no_event : RunEvent
-no_event = opening_event 0 (record { members = []; primary = 0 })
+no_event = opening_event 0 (record { members = []; primary = 0 }) false
 
 -- the event that was told
 abbrev pub event_of : Told → RunEvent
@@ -42,3 +42,5 @@ event_of (told.Answered answered) =
       receiver = answered.from;
       message = answered.message.value;
     })
+event_of (told.Brought brought) =
+    ByLink (record { receiver = brought.receiver; message = brought.message.value })

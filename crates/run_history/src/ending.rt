@@ -32,6 +32,7 @@ pub fn settle_all<H: RunNaming, R: Wait>(
     learn_all(&mut mark, nodes);
     master.settle(rt, &mark);
     settle_each(rt, &mark, nodes);
+    master.has_all_nodes();
     mark.is_history();
     mark
 }

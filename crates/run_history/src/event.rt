@@ -7,13 +7,16 @@ use master::Master;
 use std::collections::LinkedList;
 use world_base::{Item, NodeCore, Port};
 
-/// The opening of a group: how many nodes it has, and the configuration of ballot 1.
+/// The opening of a group: how many nodes it has, the configuration of ballot 1, and whether all of
+/// its nodes are in this program.
 #[derive(Drop)]
 pub struct OpenedGroup {
     /// Nodes 1 to this number open.
     pub nodes: u8,
     /// The members and the primary of ballot 1.
     pub config: Config,
+    /// Whether links bring messages of other programs, where the master is then, too.
+    pub linked: bool,
 }
 
 /// What a node does in one event.
@@ -56,6 +59,14 @@ pub struct MasterEvent {
     pub message: Message<Command>,
 }
 
+/// A message that a link brought. No value of it is made.
+pub struct BroughtMessage {
+    /// The number of the node to which it is sent.
+    pub receiver: u8,
+    /// The message.
+    pub message: Message<Command>,
+}
+
 /// An event of a run. No value of it is made.
 pub enum RunEvent {
     /// The group opens.
@@ -64,4 +75,6 @@ pub enum RunEvent {
     ByNode(NodeEvent),
     /// The master assigns a ballot, or answers a node.
     ByMaster(MasterEvent),
+    /// A link brings a message of another program.
+    ByLink(BroughtMessage),
 }

@@ -5,6 +5,7 @@
 
 mod ending;
 mod event;
+mod links_on_record;
 mod master_on_record;
 mod naming;
 mod node_on_record;
@@ -19,7 +20,10 @@ mod told;
 mod waiting;
 
 pub use ending::settle_all;
-pub use event::{MasterAct, MasterEvent, NodeAct, NodeEvent, OpenedGroup, RunEvent};
+pub use event::{
+    BroughtMessage, MasterAct, MasterEvent, NodeAct, NodeEvent, OpenedGroup, RunEvent,
+};
+pub use links_on_record::LinksOnRecord;
 pub use master_on_record::MasterOnRecord;
 pub use naming::RunNaming;
 pub use node_on_record::NodeOnRecord;

@@ -3,7 +3,7 @@
 // The invariant: by that prefix of the log the master has just this state, and just as many events
 // as it counted. There is one master: a run has one word for it.
 
-ghost use Rattle.std.specs.Prelude.{◌≡◌, ◌+◌, ◌↔◌, true, None, IfOk, OnErr, OnOk};
+ghost use Rattle.std.specs.Prelude.{◌≡◌, ◌+◌, ◌↔◌, true, false, None, IfOk, OnErr, OnOk};
 ghost use mathlib.Core.List.{IsPrefix};
 ghost use Rattle.agreement.specs.MasterState.{refusal};
 ghost use Rattle.agreement.specs.cut_logs.Masters.{activated, assigned};
@@ -47,7 +47,7 @@ pub struct MasterOnRecord<H: RunNaming> {
 }
 
 impl<H: RunNaming> Model for MasterOnRecord<H> {
-    ghost use Rattle.std.specs.Prelude.{◌≡◌};
+    ghost use Rattle.std.specs.Prelude.{◌≡◌, false};
     ghost use Rattle.run_history.specs.History.{IsMasterOf};
     ghost use Rattle.run_history.specs.Masters.{MasterView};
     ghost use Rattle.run_history.specs.Rules.{word_of};
@@ -57,7 +57,8 @@ impl<H: RunNaming> Model for MasterOnRecord<H> {
     ghost view = { λ recorded. record { state = recorded.state; log = recorded.seen } };
 
     ghost invariant = { λ recorded. (recorded.word ≡ word_of H.book 0)
-        × IsMasterOf H.config recorded.seen recorded.state recorded.count };
+        × IsMasterOf H.config recorded.seen recorded.state recorded.count
+        × (H.linked ≡ false) };
 }
 
 impl<H: RunNaming> MasterOnRecord<H> {
@@ -69,6 +70,7 @@ impl<H: RunNaming> MasterOnRecord<H> {
     ) -> MasterOnRecord<H>
         requires word { word ≡ word_of H.book 0 }
         requires master { IsMasterOf H.config seen state 0 }
+        requires own { H.linked ≡ false }
         ensures { result ≡ record { state = state; log = seen } }
     {
         MasterOnRecord {
@@ -84,6 +86,13 @@ impl<H: RunNaming> MasterOnRecord<H> {
         ensures { result ≡ self.now.log }
     {
         self.seen.again()
+    }
+
+    /// Proves that all nodes are in this program, as their master is.
+    pub fn has_all_nodes(&self)
+        ensures { H.linked ≡ false }
+    {
+        let _state = &self.state;
     }
 
     /// Proves that by the log the master has the state that it has.

@@ -40,7 +40,7 @@ pub struct Begin;
 impl Opening<OpenedGroup, RunEvent> for Begin {
     ghost use Rattle.run_history.specs.Log.{opening_log};
 
-    ghost log = { λ words group. opening_log group.nodes group.config };
+    ghost log = { λ words group. opening_log group.nodes group.config group.linked };
 }
 
 /// A look at a word.

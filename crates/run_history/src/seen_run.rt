@@ -1,11 +1,12 @@
 // A prefix of the log that somebody has seen.
 //
-// It is a run of the model by its type, and takes no bytes, so it may be copied and sent along
+// It is that of a run by its type, and takes no bytes, so it may be copied and sent along
 // with any message. What it says stays true: the log only grows.
 
-ghost use Rattle.std.specs.Prelude.{◌≡◌, ◌+◌, ◌^◌, ◌<◌, ◌≤◌, true};
+ghost use Rattle.std.specs.Prelude.{◌≡◌, ◌+◌, ◌^◌, ◌<◌, ◌≤◌, true, false};
 ghost use mathlib.Core.List.{IsPrefix};
 ghost use Rattle.run_history.specs.History.{IsHistory};
+ghost use Rattle.run_history.specs.Linked.{IsRun};
 ghost use Rattle.run_history.specs.Log.{events_by, party_of};
 ghost use Rattle.run_history.specs.Rules.{Added, MayAdd, word_of};
 ghost use Rattle.run_history.specs.ToldEvents.{event_of};
@@ -30,21 +31,21 @@ pub struct SeenRun<H: RunNaming> {
 impl<H: RunNaming> Model for SeenRun<H> {
     ghost use Rattle.std.specs.Prelude.{◌≡◌, List};
     ghost use Rattle.run_history.specs.declared.event.RunEvent.{RunEvent};
-    ghost use Rattle.run_history.specs.History.{IsHistory};
+    ghost use Rattle.run_history.specs.Linked.{IsRun};
 
     ghost Value = { List RunEvent };
 
     ghost view = { λ run. run.seen.log };
 
     ghost invariant = { λ run.
-        (run.seen.book ≡ H.book) × IsHistory H.nodes H.config run.seen.log };
+        (run.seen.book ≡ H.book) × IsRun H.linked H.nodes H.config run.seen.log };
 }
 
 impl<H: RunNaming> SeenRun<H> {
     /// Returns what was seen of the log of this name.
     pub(crate) fn new(seen: Seen<RunEvent, u64, RunRule>) -> SeenRun<H>
         requires book { seen.book ≡ H.book }
-        requires history { IsHistory H.nodes H.config seen.log }
+        requires run { IsRun H.linked H.nodes H.config seen.log }
         ensures { result ≡ seen.log }
     {
         SeenRun {
@@ -79,11 +80,19 @@ impl<H: RunNaming> SeenRun<H> {
         RunLog::new(seen)
     }
 
-    /// Proves that the events are a run of the model.
-    pub fn is_history(&self)
-        ensures { IsHistory H.nodes H.config self.now }
+    /// Proves that the events are those of a run.
+    pub fn is_run(&self)
+        ensures { IsRun H.linked H.nodes H.config self.now }
     {
         let _seen = &self.seen;
+    }
+
+    /// Proves that the events are a run of the model, if all nodes are in this program.
+    pub fn is_history(&self)
+        requires { H.linked ≡ false }
+        ensures { IsHistory H.nodes H.config self.now }
+    {
+        self.is_run();
     }
 
     /// Extends the prefix to the whole log, and returns how many events of this word's party it
@@ -110,7 +119,7 @@ impl<H: RunNaming> SeenRun<H> {
     ) -> bool
         requires word { word.now ≡ word_of H.book (party_of (event_of told.now)) }
         requires room { count + 1 < 2 ^ 64 }
-        requires may { MayAdd H.nodes H.config self.old count (event_of told.now) }
+        requires may { MayAdd H.nodes H.config H.linked self.old count (event_of told.now) }
         ensures seen { IsPrefix self.old self.new }
         ensures added { result ≡ true → Added self.old count (event_of told.now) self.new }
     {
@@ -139,7 +148,7 @@ impl<H: RunNaming> SeenRun<H> {
     )
         requires word { word.now ≡ word_of H.book (party_of (event_of told.now)) }
         requires room { count + 1 < 2 ^ 64 }
-        requires may { MayAdd H.nodes H.config self.old count (event_of told.now) }
+        requires may { MayAdd H.nodes H.config H.linked self.old count (event_of told.now) }
         ensures { Added self.old count (event_of told.now) self.new }
     {
         if !self.add(word, count, told) {

@@ -42,6 +42,13 @@ pub struct Answered {
     pub message: Snapshot<Message<Command>>,
 }
 
+/// A message that a link brought.
+#[derive(Drop)]
+pub struct Brought {
+    pub receiver: u8,
+    pub message: Snapshot<Message<Command>>,
+}
+
 /// What is told of an event.
 #[derive(Drop)]
 pub enum Told {
@@ -49,4 +56,5 @@ pub enum Told {
     HandedOver(HandedOver),
     Assigned(Assigned),
     Answered(Answered),
+    Brought(Brought),
 }

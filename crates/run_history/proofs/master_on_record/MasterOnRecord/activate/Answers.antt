@@ -27,7 +27,7 @@ add_or_wait-requires-clause-may g c =
     let event : MasterEvent = record { act = Answers c.args.from ballot; after = c.of.result.value; receiver = c.args.from; message = c.of-2.result.value } in
     let body = answer_is (is_granted me.state ballot me.state.waiting) c.activate.result ballot c.activation_answer-body.result c.activate.ensures.answer c.activation_answer-body.ensures in
     let message = c.of-2.ensures ∙ ap (λ (b : Body Command). record { from = master; body = b }) body in
-    master_may event me.seen me.state begins c.self.invariant.1 (
+    master_may event me.seen me.state c.self.invariant.2 begins c.self.invariant.1 (
       in_later (master, record { from = c.args.from; body = Activate ballot }) c.args.known.now v c.learn.ensures.that c.requires,
       record { after = c.of.ensures ∙ c.activate.ensures.state; receiver = refl; message = message },
     )
@@ -40,7 +40,7 @@ invariant_of-self g c =
     let w = c.add_or_wait.new.self in
     let event : MasterEvent = record { act = Answers c.args.from c.args.ballot; after = c.of.result.value; receiver = c.args.from; message = c.of-2.result.value } in
     let begins : IsPrefix me.seen v = subst (λ l. IsPrefix l v) c.again-seen.ensures c.learn.ensures.this in
-    (c.self.invariant.0, subst (λ (m : MasterState). IsMasterOf config w m (me.count + 1)) c.of.ensures (master_after_added config me.seen v w event me.state me.count begins c.self.invariant.1 c.add_or_wait.ensures))
+    (c.self.invariant.0, subst (λ (m : MasterState). IsMasterOf config w m (me.count + 1)) c.of.ensures (master_after_added config me.seen v w event me.state me.count begins c.self.invariant.1 c.add_or_wait.ensures), c.self.invariant.2)
 
 pub new-sent-requires : goal.new-sent-requires
 new-sent-requires g c =

@@ -38,8 +38,8 @@ add_or_wait-requires-clause-may g c =
     let message = c.of-2.ensures ∙ ap (λ (b : Body Command). record { from = master; body = b }) body in
     let begins : IsPrefix me.seen v = subst (λ (l : List RunEvent). IsPrefix me.seen l) (sym c.again-seen.ensures) (prefix_self me.seen) in
     let event : MasterEvent = record { act = Assigns config; after = c.of.result.value; receiver = config.primary; message = c.of-2.result.value } in
-    subst (λ (k : Config). MayAdd g.H.RunNaming.nodes g.H.RunNaming.config v me.count (ByMaster (record { act = Assigns k; after = c.of.result.value; receiver = config.primary; message = c.of-2.result.value }))) (sym c.of-assigned.ensures)
-    (master_may event me.seen me.state begins c.self.invariant.1 (granted, record { after = c.of.ensures ∙ state; receiver = refl; message = message }))
+    subst (λ (k : Config). MayAdd g.H.RunNaming.nodes g.H.RunNaming.config g.H.RunNaming.linked v me.count (ByMaster (record { act = Assigns k; after = c.of.result.value; receiver = config.primary; message = c.of-2.result.value }))) (sym c.of-assigned.ensures)
+    (master_may event me.seen me.state c.self.invariant.2 begins c.self.invariant.1 (granted, record { after = c.of.ensures ∙ state; receiver = refl; message = message }))
 
 pub invariant_of-self : goal.invariant_of-self
 invariant_of-self g c =
@@ -49,7 +49,7 @@ invariant_of-self g c =
     let w = c.add_or_wait.new.self in
     let event : MasterEvent = record { act = Assigns c.of-assigned.result.value; after = c.of.result.value; receiver = c.args.config.primary; message = c.of-2.result.value } in
     let begins : IsPrefix me.seen v = subst (λ (l : List RunEvent). IsPrefix me.seen l) (sym c.again-seen.ensures) (prefix_self me.seen) in
-    (c.self.invariant.0, subst (λ (m : MasterState). IsMasterOf config w m (me.count + 1)) c.of.ensures (master_after_added config me.seen v w event me.state me.count begins c.self.invariant.1 c.add_or_wait.ensures))
+    (c.self.invariant.0, subst (λ (m : MasterState). IsMasterOf config w m (me.count + 1)) c.of.ensures (master_after_added config me.seen v w event me.state me.count begins c.self.invariant.1 c.add_or_wait.ensures), c.self.invariant.2)
 
 pub new-sent-requires : goal.new-sent-requires
 new-sent-requires g c =
