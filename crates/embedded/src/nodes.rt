@@ -5,10 +5,10 @@
 // knows by the numbers which lane is of which inbox; its caller passes `Brand`. What a node does is
 // on record in the log of a run, which has a name of its own, a `RunNaming`.
 
-ghost use Rattle.std.specs.Prelude.{◌≡◌, []};
+ghost use Rattle.std.specs.Prelude.{◌≡◌, false};
 ghost use Rattle.agreement.specs.MasterState.{opening_master};
 ghost use Rattle.ballot_base.specs.LawfulConfig.{max_node};
-ghost use Rattle.run_history.specs.Log.{items_taken};
+ghost use Rattle.run_history.specs.Log.{events_by};
 
 use crate::bytes::{ACCEPTED, CONNECT_A};
 use crate::names::Names;
@@ -141,6 +141,8 @@ fn use_run<H: RunNaming, R: Wait + Clock>(
     requires nodes { run.group.nodes ≡ H.nodes }
     requires one { H.nodes ≡ 1 }
     requires config { run.group.config ≡ H.config }
+    requires group { run.group.linked ≡ H.linked }
+    requires own { H.linked ≡ false }
     requires same { config.now ≡ H.config }
     requires master { master ≡ opening_master max_node H.config }
 {
@@ -159,7 +161,7 @@ fn use_node_of<H: RunNaming, R: Wait + Clock>(
     names: &mut Names,
 ) -> Result<()>
     requires index { node.index ≡ 0 }
-    requires none { items_taken 1 node.log ≡ [] }
+    requires none { events_by 1 node.log ≡ 0 }
 {
     let gate = OpenGate::new();
     match Inbox::new(alloc) {
@@ -184,7 +186,7 @@ fn use_named<H: RunNaming, J: NodeNaming, R: Wait + Clock>(
     requires inbox { inbox ≡ J.inbox_of 1 }
     requires first { node.node ≡ J.first_of 1 }
     requires index { node.index ≡ 0 }
-    requires none { items_taken 1 node.log ≡ [] }
+    requires none { events_by 1 node.log ≡ 0 }
 {
     match inbox.named::<J>(1, 1) {
         Ok((receiver, mut lanes)) => {

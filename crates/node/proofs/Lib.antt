@@ -1,6 +1,9 @@
 pub mod Crossing
 mod CutsApart
 mod Growing
+pub mod HandedInRun
+mod CountsRight
+mod CountsInRun
 mod ItsLanes
 mod OpenBytes
 mod ReportIsOn

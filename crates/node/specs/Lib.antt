@@ -1,3 +1,5 @@
+pub mod HandedBytes
+pub mod HandedCounts
 pub mod OpenBytes
 pub mod Intake
 pub mod CutTimes

@@ -4,8 +4,9 @@
 // order. Handing over queued bytes may come in between; nothing else changes the core. Receiver and
 // core are one value, kept under one lock, and no call returns the core to be changed. So no item
 // is taken without its step, and none is stepped twice. Each of these steps is an event of the run,
-// and by the run the node of the inbox's number took just these items. `grown` and `takings` are
-// counters beside it: when the size of the log makes a cut due, and what a gate is asked about.
+// and by the run the node of the inbox's number took just these items. `grown`, `takings` and
+// `counts` are counters beside it: when the size of the log makes a cut due, what a gate is asked
+// about, and how many bytes were handed over for each of the newest ports.
 
 ghost use Rattle.std.specs.Prelude.{◌≡◌, ◌≤◌, ◌+◌, ◌++◌, ◌∷◌, ◌*◌, ◌↔◌, [], length, map, slice_index};
 ghost use Rattle.std.specs.Prelude.{vec_capacity};
@@ -19,12 +20,14 @@ ghost use Rattle.world_base.specs.node_connections.Stands.{standing_of};
 ghost use Rattle.world_base.specs.node_connections.PendingOutput.{handed_after, pending_bytes};
 ghost use Rattle.world_base.specs.node_core.PortOutput.{hands_over, idle_ports, listed_at};
 ghost use Rattle.node.specs.Growth.{wants_cut};
+ghost use Rattle.node.specs.HandedCounts.{counted_at, counts_after, opening_counts};
 ghost use Rattle.node.specs.Report.{HasCapacity, ReportsAll};
 ghost use Rattle.node.specs.State.{AreOfLanes, IsOnRecord, Replays, TakesOne, items_of, next_taking, on_record};
-ghost use Rattle.run_history.specs.Log.{items_taken};
+ghost use Rattle.run_history.specs.Log.{events_by, items_taken};
 ghost use Rattle.run_history.specs.Parties.{HandedOver};
 
 use crate::growth::{grown, is_large};
+use crate::handed_counts::HandedCounts;
 use crate::naming::NodeNaming;
 use crate::report::Report;
 use ballot_base::{Effect, Status};
@@ -48,11 +51,14 @@ pub struct NodeState<H: RunNaming, J: NodeNaming> {
     grown: u64,
     // How many times [`NodeState::take_one`] was called (saturates at 2^64 - 1).
     takings: u64,
+    // How many bytes were handed over for the newest ports.
+    counts: HandedCounts,
 }
 
 impl<H: RunNaming, J: NodeNaming> Model for NodeState<H, J> {
     ghost use Rattle.std.specs.Prelude.{◌≡◌, ◌+◌};
     ghost use Rattle.node.specs.Growth.{bytes_since_cut, saturated};
+    ghost use Rattle.node.specs.HandedCounts.{CountsAreRight};
     ghost use Rattle.node.specs.State.{AreOfLanes, Replays, NodeStateView, items_of};
     ghost use Rattle.run_history.specs.Log.{items_taken};
 
@@ -63,6 +69,7 @@ impl<H: RunNaming, J: NodeNaming> Model for NodeState<H, J> {
       node = state.node.node;
       log = state.node.log;
       takings = state.takings;
+      counts = state.counts;
     } };
 
     ghost invariant = { λ state.
@@ -70,21 +77,23 @@ impl<H: RunNaming, J: NodeNaming> Model for NodeState<H, J> {
         × (state.grown ≡ saturated (bytes_since_cut state.receiver.taken))
         × (state.node.index + 1 ≡ state.receiver.inbox)
         × (items_taken state.receiver.inbox state.node.log ≡ items_of state.receiver.taken)
-        × AreOfLanes state.receiver };
+        × AreOfLanes state.receiver
+        × CountsAreRight H.nodes H.config state.node.index state.node.log state.counts };
 }
 
 impl<H: RunNaming, J: NodeNaming> NodeState<H, J> {
-    /// Returns a node that has taken no item: the one of the inbox's number in the run.
+    /// Returns a node that has done nothing yet: the one of the inbox's number in the run.
     pub fn new(receiver: Receiver<SentItem<H>, J>, node: NodeOnRecord<H>) -> NodeState<H, J>
         requires fresh { receiver.taken ≡ [] }
         requires first { node.node ≡ J.first_of receiver.inbox }
         requires number { node.index + 1 ≡ receiver.inbox }
-        requires none { items_taken receiver.inbox node.log ≡ [] }
+        requires none { events_by receiver.inbox node.log ≡ 0 }
         ensures { result ≡ record {
           receiver = receiver;
           node = node.node;
           log = node.log;
           takings = 0;
+          counts = opening_counts;
         } }
     {
         NodeState {
@@ -92,16 +101,17 @@ impl<H: RunNaming, J: NodeNaming> NodeState<H, J> {
             node,
             grown: 0,
             takings: 0,
+            counts: HandedCounts::new(),
         }
     }
 
-    /// Proves that the node is on record: by the log that it knows, which is a run of the model, it
-    /// has its state, and took just what was taken from its inbox.
+    /// Proves that the node is on record: by the log that it knows, which is that of a run, it has
+    /// its state, took just what was taken from its inbox, and handed over what it counts.
     pub fn is_on_record(&self)
-        ensures { IsOnRecord H.nodes H.config self.now }
+        ensures { IsOnRecord H.linked H.nodes H.config self.now }
     {
         self.node.is_of_run();
-        self.node.seen().is_history();
+        self.node.seen().is_run();
     }
 
     /// Returns the prefix of the run's log that it knows.
@@ -147,8 +157,7 @@ impl<H: RunNaming, J: NodeNaming> NodeState<H, J> {
         self.receiver.receipt()
     }
 
-    /// Returns the number of the next call of [`NodeState::take_one`], from 1 (saturates at 2^64 -
-    /// 1).
+    /// Returns the number of the next taking, from 1 (saturates at 2^64 - 1).
     pub fn next_taking(&self) -> u64
         ensures { result ≡ next_taking self.now.takings }
     {
@@ -213,9 +222,17 @@ impl<H: RunNaming, J: NodeNaming> NodeState<H, J> {
         self.receiver.meet(lane)
     }
 
+    /// Returns how many bytes were handed over for a port, if the node counts them: it does for the
+    /// newest port of each remainder by 64, as long as they are fewer than 2^62.
+    pub fn handed_at(&self, port: Port) -> Option<u64>
+        ensures { result ≡ counted_at self.now.counts port }
+    {
+        self.counts.at(port)
+    }
+
     /// Appends the bytes queued for a port and not yet handed over, and returns whether more may
-    /// come, as [`NodeOnRecord::outgoing`]. No item is taken. If memory runs out, nothing changes;
-    /// without bytes to hand over it never does.
+    /// come, as [`NodeOnRecord::outgoing`]. Counts them. No item is taken. If memory runs out,
+    /// nothing changes; without bytes to hand over it never does.
     pub fn outgoing<R: Wait>(
         &mut self,
         rt: &R,
@@ -229,6 +246,8 @@ impl<H: RunNaming, J: NodeNaming> NodeState<H, J> {
         ensures left { OnOk result (self.new ≡ record self.old {
           node = record self.old.node { core = hands_over port self.old.node.core };
           log = self.new.log;
+          counts = counts_after self.old.counts port
+              (length (pending_bytes (listed_at port self.old.node.core)));
         }) }
 
         // That is the next event of the node in the run.
@@ -244,7 +263,11 @@ impl<H: RunNaming, J: NodeNaming> NodeState<H, J> {
         ensures same { OnErr result (self.new ≡ self.old) }
         ensures err { OnErr result (out.new.items ≡ out.old.items) }
     {
-        self.node.outgoing(rt, port, out)
+        self.node.is_of_run();
+        let before = out.len();
+        let handed = self.node.outgoing(rt, port, out)?;
+        self.counts.add(port, (out.len() - before) as u64);
+        Ok(handed)
     }
 
     /// Appends the ports of the connections that are open and have nothing to hand over, as
@@ -292,8 +315,7 @@ impl<H: RunNaming, J: NodeNaming> NodeState<H, J> {
 
     /// Ends the node, once its lanes send no more. Reports the fate of everything that they sent,
     /// and returns the node as the run has it on record. Allocates nothing: `report` and
-    /// `envelopes` have their capacity. `gate_missed` is the count of takings for which the gate did
-    /// not open.
+    /// `envelopes` have their capacity. `gate_missed` counts takings at which the gate stayed shut.
     pub fn close<R: Wait>(
         self,
         rt: &R,
@@ -336,6 +358,7 @@ impl<H: RunNaming, J: NodeNaming> NodeState<H, J> {
             node,
             grown: _grown,
             takings: _takings,
+            counts: _counts,
         } = self;
         let mut report = report;
         let mut envelopes = envelopes;

@@ -222,7 +222,7 @@ impl<H: RunNaming> Peer<H> {
     /// Takes all that waits, in order. The clause says only that each item is one that may wait
     /// for this node.
     pub fn take_waiting<R: Wait>(&self, rt: &R, alloc: Global) -> Vec<SentItem<H>>
-        ensures { Each (IsQueued H.nodes H.config self.now.number) result.items }
+        ensures { Each (IsQueued H.linked H.nodes H.config self.now.number) result.items }
     {
         let mut outbox = self.outbox.lock(rt);
         // The numbers are always equal: the outbox is this node's (see `Peer::outbox`).

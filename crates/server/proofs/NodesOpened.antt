@@ -12,7 +12,7 @@ use Rattle.lists.proofs.OfEach.{each_append}
 use Rattle.lists.proofs.Tests.{eq_is, none_or}
 use Rattle.ballot_base.specs.declared.config.Config.{Config}
 use Rattle.run_history.specs.Parties.{NodeView}
-use Rattle.run_history.specs.Log.{events_by, items_taken, opening_log}
+use Rattle.run_history.specs.Log.{events_by, opening_log}
 use Rattle.server.specs.declared.opening.OpenedNodes.{OpenedNodes}
 use Rattle.server.specs.node_threads.Named.{AreFresh, AreNamed, IsFresh, OpenedView}
 use Rattle.server.specs.Inside.{IsIdle}
@@ -54,21 +54,21 @@ none_below number (one ∷ opened) below =
 
 -- ---- nodes
 
-fresh_so : (nodes index : ℕ) (config : Config) (one : OpenedView) → one.number ≡ index + 1 → one.node.index ≡ index
-    → one.node.log ≡ opening_log nodes config → IsFresh one
-fresh_so nodes index config one number at log = (
+fresh_so : (nodes index : ℕ) (config : Config) (linked : Bool) (one : OpenedView) → one.number ≡ index + 1 → one.node.index ≡ index
+    → one.node.log ≡ opening_log nodes config linked → IsFresh one
+fresh_so nodes index config linked one number at log = (
   ap (λ (n : ℕ). n + 1) at ∙ sym number,
-  ap (items_taken one.number) log,
+  ap (events_by one.number) log,
 )
 
-idle_so : (nodes : ℕ) (config : Config) (node : NodeView) → node.log ≡ opening_log nodes config → IsIdle node
-idle_so nodes config node log = ap (events_by (node.index + 1)) log
+idle_so : (nodes : ℕ) (config : Config) (linked : Bool) (node : NodeView) → node.log ≡ opening_log nodes config linked → IsIdle node
+idle_so nodes config linked node log = ap (events_by (node.index + 1)) log
 
-adds_served : {H : Type 0} (nodes index : ℕ) (config : Config) (numbers : List ℕ) (node : NodeView) (old new : OpenedNodes H)
+adds_served : {H : Type 0} (nodes index : ℕ) (config : Config) (linked : Bool) (numbers : List ℕ) (node : NodeView) (old new : OpenedNodes H)
     → AddsServed (index + 1) node old new → has_id (index + 1) numbers ≡ true
-    → node.index ≡ index → node.log ≡ opening_log nodes config → node.node ≡ first_in config (index + 1)
+    → node.index ≡ index → node.log ≡ opening_log nodes config linked → node.node ≡ first_in config (index + 1)
     → OpenedBelow config numbers index old → OpenedBelow config numbers (index + 1) new
-adds_served nodes index config numbers node old new adds listed at log core so =
+adds_served nodes index config linked numbers node old new adds listed at log core so =
     let one : OpenedView = record { number = index + 1; inbox = adds.inbox; node = node } in
     let numbers_now : map (λ (opened : OpenedView). opened.number) new.served.items
     ≡ map (λ (opened : OpenedView). opened.number) old.served.items ++ (index + 1) ∷ [] =
@@ -76,7 +76,7 @@ adds_served nodes index config numbers node old new adds listed at log core so =
       named = named_more config (index + 1) old.served.items new.served.items one adds.served refl core so.below so.named;
       fresh =
           subst AreFresh (sym adds.served)
-          (each_append IsFresh old.served.items (one ∷ []) so.fresh (fresh_so nodes index config one refl at log, tt));
+          (each_append IsFresh old.served.items (one ∷ []) so.fresh (fresh_so nodes index config linked one refl at log, tt));
       below = below_more (index + 1) old.served.items new.served.items one adds.served refl so.below;
       distinct =
           subst IsDistinct (sym numbers_now)
@@ -87,10 +87,10 @@ adds_served nodes index config numbers node old new adds listed at log core so =
       idle = subst (All IsIdle) (sym adds.others) so.idle;
     }
 
-adds_other : {H : Type 0} (nodes index : ℕ) (config : Config) (numbers : List ℕ) (node : NodeView) (old new : OpenedNodes H)
-    → AddsOther node old new → node.log ≡ opening_log nodes config
+adds_other : {H : Type 0} (nodes index : ℕ) (config : Config) (linked : Bool) (numbers : List ℕ) (node : NodeView) (old new : OpenedNodes H)
+    → AddsOther node old new → node.log ≡ opening_log nodes config linked
     → OpenedBelow config numbers index old → OpenedBelow config numbers (index + 1) new
-adds_other nodes index config numbers node old new adds log so = record {
+adds_other nodes index config linked numbers node old new adds log so = record {
   named = named_same config old.served.items new.served.items adds.served so.named;
   fresh = subst AreFresh (sym adds.served) so.fresh;
   below = below_same (index + 1) old.served.items new.served.items adds.served so.below;
@@ -98,18 +98,18 @@ adds_other nodes index config numbers node old new adds log so = record {
   listed = subst (λ (l : List OpenedView). Each (Contains numbers) (map (λ (one : OpenedView). one.number) l)) (sym adds.served) so.listed;
   idle =
       subst (All IsIdle) (sym adds.others)
-      (All-push IsIdle old.others.items node so.idle (idle_so nodes config node log));
+      (All-push IsIdle old.others.items node so.idle (idle_so nodes config linked node log));
 }
 
 -- one more node opened
-pub adds_one : {H : Type 0} (nodes index : ℕ) (config : Config) (numbers : List ℕ) (node : NodeView) (is_served : Bool) (old new : OpenedNodes H)
+pub adds_one : {H : Type 0} (nodes index : ℕ) (config : Config) (linked : Bool) (numbers : List ℕ) (node : NodeView) (is_served : Bool) (old new : OpenedNodes H)
     → AddsNode (index + 1) node is_served old new → is_served ≡ has_id (index + 1) numbers
-    → node.index ≡ index → node.log ≡ opening_log nodes config → node.node ≡ first_in config (index + 1)
+    → node.index ≡ index → node.log ≡ opening_log nodes config linked → node.node ≡ first_in config (index + 1)
     → OpenedBelow config numbers index old → OpenedBelow config numbers (index + 1) new
-adds_one nodes index config numbers node true old new adds is at log core so =
-    adds_served nodes index config numbers node old new adds (sym is) at log core so
-adds_one nodes index config numbers node false old new adds is at log core so =
-    adds_other nodes index config numbers node old new adds log so
+adds_one nodes index config linked numbers node true old new adds is at log core so =
+    adds_served nodes index config linked numbers node old new adds (sym is) at log core so
+adds_one nodes index config linked numbers node false old new adds is at log core so =
+    adds_other nodes index config linked numbers node old new adds log so
 
 -- if as many opened to serve as there are numbers, they have just these numbers
 pub all_opened : {H : Type 0} (config : Config) (numbers : List ℕ) (index : ℕ) (opened : OpenedNodes H)

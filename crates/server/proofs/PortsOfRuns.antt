@@ -17,7 +17,7 @@ use Rattle.one_client.specs.Ports.{HasOwnPorts}
 use Rattle.run_history.specs.declared.event.NodeAct.{NodeAct}
 use Rattle.run_history.specs.declared.event.NodeAct.TheVariants.{HandsOver, Takes}
 use Rattle.run_history.specs.declared.event.RunEvent.{RunEvent}
-use Rattle.run_history.specs.declared.event.RunEvent.TheVariants.{ByMaster, ByNode, Opens}
+use Rattle.run_history.specs.declared.event.RunEvent.TheVariants.{ByLink, ByMaster, ByNode, Opens}
 use Rattle.run_history.specs.History.{IsLogOf, IsStep, call_of}
 use Rattle.run_history.specs.History.IsLogOf.{opens, goes_on}
 use Rattle.run_history.specs.Log.{is_by, item_of, item_of_act, items_taken}
@@ -97,6 +97,7 @@ call_counts node m at port act node_call same is =
 step_counts : (node : ℕ) (port : Port) (event : RunEvent) (group next : Group) (step : GroupStep group next) → IsStep event step
     → (if opens_at node port (node_call_of step) then 1 else 0) ≡ openings_at port (if is_by (node + 1) event then item_of event else [])
 step_counts node port (Opens opening) group next step one = absurd one
+step_counts node port (ByLink brought) group next step one = absurd one
 step_counts node port (ByMaster event) group next (master_assigns config) one = sym (none_if port (is_by (node + 1) (ByMaster event)))
 step_counts node port (ByMaster event) group next (master_hears from ballot sent) one = sym (none_if port (is_by (node + 1) (ByMaster event)))
 step_counts node port (ByMaster event) group next (assigns_unheard config) one = absurd one

@@ -10,7 +10,7 @@ use Rattle.headline.specs.node_group.Steps.{GroupStep, GroupTrace}
 use Rattle.headline.specs.node_group.Steps.GroupStep.{node_acts, node_loses, master_assigns, master_hears, assigns_unheard, answers_unheard}
 use Rattle.run_history.specs.declared.event.NodeEvent.{NodeEvent}
 use Rattle.run_history.specs.declared.event.RunEvent.{RunEvent}
-use Rattle.run_history.specs.declared.event.RunEvent.TheVariants.{ByMaster, ByNode, Opens}
+use Rattle.run_history.specs.declared.event.RunEvent.TheVariants.{ByLink, ByMaster, ByNode, Opens}
 use Rattle.run_history.specs.History.{IsHistory, IsLogOf, IsNodeStep, IsStep}
 use Rattle.run_history.specs.History.IsLogOf.{opens, goes_on}
 use Rattle.run_history.specs.Log.{events_by, is_by, items_taken, nodes_after}
@@ -24,6 +24,7 @@ pub master_took_none : (log : List RunEvent) → items_taken 0 log ≡ []
 master_took_none [] = refl
 master_took_none (Opens group ∷ log) = master_took_none log
 master_took_none (ByMaster event ∷ log) = master_took_none log
+master_took_none (ByLink brought ∷ log) = master_took_none log
 master_took_none (ByNode event ∷ log) =
     let other : (event.node + 1 == 0) ≡ false = grind (arith, nat_tests) in rw other (master_took_none log)
 
@@ -32,6 +33,7 @@ as_many : (nodes : List CoreState) (log : List RunEvent) → length (nodes_after
 as_many nodes [] = refl
 as_many nodes (Opens group ∷ log) = as_many nodes log
 as_many nodes (ByMaster event ∷ log) = as_many nodes log
+as_many nodes (ByLink brought ∷ log) = as_many nodes log
 as_many nodes (ByNode event ∷ log) = as_many (slice_set nodes event.node event.after.core) log ∙ length-set nodes event.node event.after.core
 
 -- the node of a step is there
@@ -51,6 +53,7 @@ by_none : (index : ℕ) (event : RunEvent) (group next : Group) (step : GroupSte
     → is_by (index + 1) event ≡ false
 by_none index (Opens opening) group next step one past = refl
 by_none index (ByMaster event) group next step one past = grind (arith, nat_tests)
+by_none index (ByLink brought) group next step one past = absurd one
 by_none index (ByNode event) group next step one past =
     let less = within index event group next step one in grind (arith, nat_tests, less, past)
 

@@ -17,6 +17,10 @@ pub trait Attendant: Drop {
     /// Runs with these nodes. When it returns, they end. `seen` is the log of the run as it opened,
     /// and may be extended by what the orders show; the run that is returned at the end begins with
     /// it.
-    fn attend<H: RunNaming>(self, cluster: &Cluster<H>, seen: &mut SeenRun<H>) -> Self::Answer
+    fn attend<H: RunNaming + Send + Sync>(
+        self,
+        cluster: &Cluster<H>,
+        seen: &mut SeenRun<H>,
+    ) -> Self::Answer
         ensures { attends self cluster.now seen.new result };
 }

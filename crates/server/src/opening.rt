@@ -62,7 +62,7 @@ pub(crate) fn open_all<H: RunNaming>(
     requires nodes { H.nodes ≡ MAX_NODE }
     requires config { config.now ≡ H.config }
     requires maker { maker ≡ 0 }
-    requires log { log.now ≡ opening_log H.nodes H.config }
+    requires log { log.now ≡ opening_log H.nodes H.config H.linked }
     ensures named { IfOk result (λ opened.
         AreNamed (inbox_among opened.served.items) (first_in config.now) opened.served.items) }
     ensures fresh { IfOk result (λ opened. AreFresh opened.served.items) }

@@ -9,12 +9,11 @@
 // step from `serve_opened` to `serve_named` what the nodes' numbers name, once all inboxes exist.
 // `serve_states` is the one place where it is proved that threads may share a node's state.
 
-ghost use Rattle.std.specs.Prelude.{◌≡◌, ◌≤◌, [], All, IfOk, IsPermutation, length, map, vec_capacity};
+ghost use Rattle.std.specs.Prelude.{◌≡◌, ◌≤◌, [], false, All, IfOk, IsPermutation, length, map, vec_capacity};
 ghost use Rattle.std.specs.List.Sorted.{IsNonDecreasingBy};
 ghost use mathlib.Core.List.{IsPrefix};
 ghost use Rattle.agreement.specs.MasterState.{opening_master};
 ghost use Rattle.ballot_base.specs.LawfulConfig.{max_node};
-ghost use Rattle.node.specs.State.{EachOpensAs};
 ghost use Rattle.run_history.specs.Log.{opening_log};
 ghost use Rattle.server.specs.Ends.{HasAttended, IsServedRun};
 ghost use Rattle.server.specs.Inside.{IsIdle, numbers_of};
@@ -144,6 +143,8 @@ where
     requires book { opened.book ≡ H.book }
     requires nodes { opened.group.nodes ≡ H.nodes }
     requires config { opened.group.config ≡ H.config }
+    requires group { opened.group.linked ≡ H.linked }
+    requires own { H.linked ≡ false }
     requires all { H.nodes ≡ MAX_NODE }
     requires same { config.now ≡ H.config }
     requires master { master ≡ opening_master max_node H.config }
@@ -211,7 +212,7 @@ where
     requires nodes { H.nodes ≡ MAX_NODE }
     requires config { config.now ≡ H.config }
     requires maker { maker ≡ 0 }
-    requires log { log ≡ opening_log H.nodes H.config }
+    requires log { log ≡ opening_log H.nodes H.config H.linked }
     ensures attended { IfOk result (λ served.
         A.attends attendant contexts.now.cluster.now served.1 served.0) }
     ensures served { IfOk result (λ served. IsPermutation
@@ -227,7 +228,7 @@ where
         return Err(ServeError::Memory);
     };
     let (answer, seen, served) = serve_named::<H, Brand, R, G, A>(
-        rt, alloc, contexts, config, served, log, gate, attendant,
+        rt, alloc, contexts, served, log, gate, attendant,
     )?;
     let ended = EndedNodes {
         served,
@@ -242,7 +243,6 @@ fn serve_named<H, J, R, G, A>(
     rt: &R,
     alloc: Global,
     contexts: &NodeContexts<'_, H>,
-    config: &Config,
     opened: Vec<OpenedNode<H>>,
     log: SeenRun<H>,
     gate: Option<&G>,
@@ -256,7 +256,7 @@ where
     A: Attendant,
     requires named { AreNamed J.inbox_of J.first_of opened.items }
     requires fresh { AreFresh opened.items }
-    requires opens { EachOpensAs config.now J.first_of }
+    requires log { log ≡ opening_log H.nodes H.config H.linked }
     ensures attended { IfOk result (λ served.
         A.attends attendant contexts.now.cluster.now served.1 served.0) }
     ensures served { IfOk result (λ served. IsPermutation
@@ -264,7 +264,7 @@ where
     ensures rising { IfOk result (λ served.
         IsNonDecreasingBy (λ one. one.report.number) served.2.items) }
 {
-    let nodes = start_all::<H, J, R, G>(rt, alloc, contexts, config, opened, &log, gate)?;
+    let nodes = start_all::<H, J, R, G>(rt, alloc, contexts, opened, &log, gate)?;
     let Ok(mut outcome) = Outcome::new(alloc, nodes.len()) else {
         return Err(ServeError::Memory);
     };
@@ -386,7 +386,7 @@ struct Attending<H: RunNaming, A: Attendant> {
     seen: SeenRun<H>,
 }
 
-impl<H: RunNaming, A: Attendant> Attending<H, A> {
+impl<H: RunNaming + Send + Sync, A: Attendant> Attending<H, A> {
     // Runs the attendant. Returns what it returned, and what it saw of the log.
     fn attend(self, cluster: &Cluster<H>) -> (A::Answer, SeenRun<H>)
         ensures { A.attends self.attendant cluster.now result.1 result.0 }

@@ -2,4 +2,5 @@
 
 mod connections;
 mod counted;
+mod ends;
 mod fakes;

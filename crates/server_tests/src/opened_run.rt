@@ -1,6 +1,6 @@
 // Runs that have opened.
 
-ghost use Rattle.std.specs.Prelude.{◌≡◌};
+ghost use Rattle.std.specs.Prelude.{◌≡◌, false};
 ghost use Rattle.agreement.specs.MasterState.{opening_master};
 ghost use Rattle.ballot_base.specs.LawfulConfig.{max_node};
 
@@ -19,6 +19,7 @@ pub(crate) struct Opened {
     pub(crate) config: Config,
     pub(crate) ghost nodes: { run.group.nodes ≡ 2 },
     pub(crate) ghost same: { run.group.config ≡ config },
+    pub(crate) ghost own: { run.group.linked ≡ false },
     pub(crate) ghost opens: { master ≡ opening_master max_node config },
 }
 

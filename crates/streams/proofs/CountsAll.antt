@@ -1,49 +1,54 @@
--- CountsAll.antt: a tap counts all that was handed over by it.
-use Rattle.std.proofs.Common.{◌≡◌, ℕ, List, ◌++◌, length, refl, sym, ◌∙◌, ap, subst, inl, inr, arith, length-append}
+-- CountsAll.antt: a tap counts all that was handed over by it, and that is all that its node handed
+-- over for its port.
+use Rattle.std.proofs.Common.{◌≡◌, ℕ, Bool, List, [], ◌++◌, refl, sym, ◌∙◌, ap, subst, inl, inr, arith, length-append}
 use Rattle.std.proofs.lemmas.List.{append-nil}
+use Rattle.ballot_base.specs.declared.config.Config.{Config}
 use Rattle.world_base.specs.declared.node_connections.handed.Handed.{Handed}
-use Rattle.node.specs.Growth.{saturated}
 use Rattle.node_base.specs.declared.connection.flow.Flow.{Flow}
 use Rattle.node_base.specs.declared.connection.flow.Flow.TheVariants as flows
 use Rattle.node_base.specs.connection.Life.Lives.{begins, goes_on}
 use Rattle.node_base.specs.connection.Written.{HandsAny, HandsSo}
-use Rattle.streams.specs.Theorems.{TapsCountAll}
-use Rattle.streams.specs.Taps.{HandsOut}
-use Rattle.streams.specs.declared.port_tap.PortTap.{PortTap}
+use Rattle.streams.specs.Theorems.{HasAll, TapsCountAll}
+use Rattle.streams.specs.Taps.{HandsOut, TapView}
+use Rattle.streams.specs.Taps.HandsOut.{hands, refuses}
 
--- a tap counts these bytes, and its port is that of another
-abbrev Counts : PortTap → List ℕ → PortTap → Type 0
-Counts first handed tap = (tap.handed ≡ saturated (length handed)) × (tap.port ≡ first.port)
+module _ (linked : Bool) (nodes : ℕ) (config : Config) (first : TapView) where
+  -- nothing more
+  same_all : (before : TapView) (handed bytes : List ℕ) → HasAll nodes config first before handed → bytes ≡ [] → HasAll nodes config first before (handed ++ bytes)
+  same_all before handed bytes has none =
+      subst (HasAll nodes config first before) (sym (ap (λ (l : List ℕ). handed ++ l) none ∙ append-nil handed)) has
 
--- one more call
-counts_call : (first before after : PortTap) (handed bytes : List ℕ) (answer : Handed)
-    → Counts first handed before → HandsOut before bytes answer after → Counts first (handed ++ bytes) after
-counts_call first before after handed bytes answer (count, port) out =
-    let more = ap (λ (tap : PortTap). tap.handed) out.counts in
-    let same = ap (λ (tap : PortTap). tap.port) out.counts in (
-      omega (arith, count, more, length-append handed bytes),
-      same ∙ port,
-    )
+  -- one more call
+  call_all : (before after : TapView) (handed bytes : List ℕ) (answer : Handed) → HasAll nodes config first before handed
+      → HandsOut linked nodes config before bytes answer after → HasAll nodes config first after (handed ++ bytes)
+  call_all before after handed bytes answer has (hands out) =
+      let more = ap (λ (tap : TapView). tap.handed) out.counts in
+      let count = has.counted in
+      record {
+        all = ap (λ (l : List ℕ). l ++ bytes) has.all ∙ sym out.follows;
+        counted = omega (arith, count, more, length-append handed bytes);
+        port = ap (λ (tap : TapView). tap.port) out.counts ∙ has.port;
+        number = ap (λ (tap : TapView). tap.number) out.counts ∙ has.number;
+      }
+  call_all before _ handed _ _ has refuses = same_all before handed [] has refl
 
--- a call, or none
-counts_any : (first before after : PortTap) (handed bytes : List ℕ)
-    → Counts first handed before → HandsAny HandsOut before bytes after → Counts first (handed ++ bytes) after
-counts_any first before after handed bytes counts (inl (answer, out)) =
-    counts_call first before after handed bytes answer counts out
-counts_any first before after handed bytes counts (inr (none, same)) =
-    subst (λ (tap : PortTap). Counts first (handed ++ bytes) tap) (sym same)
-    (subst (λ (l : List ℕ). Counts first l before) (sym (ap (λ (l : List ℕ). handed ++ l) none ∙ append-nil handed)) counts)
+  -- a call, or none
+  any_all : (before after : TapView) (handed bytes : List ℕ) → HasAll nodes config first before handed
+      → HandsAny (HandsOut linked nodes config) before bytes after → HasAll nodes config first after (handed ++ bytes)
+  any_all before after handed bytes has (inl (answer, out)) = call_all before after handed bytes answer has out
+  any_all before after handed bytes has (inr (none, same)) =
+      subst (λ (tap : TapView). HasAll nodes config first tap (handed ++ bytes)) (sym same) (same_all before handed bytes has none)
 
--- one more write
-counts_flow : (first before after : PortTap) (handed bytes : List ℕ) (flow : Flow)
-    → Counts first handed before → HandsSo HandsOut flow before bytes after → Counts first (handed ++ bytes) after
-counts_flow first before after handed bytes flows.Open counts out = counts_call first before after handed bytes _ counts out
-counts_flow first before after handed bytes flows.Closed counts out = counts_call first before after handed bytes _ counts out
-counts_flow first before after handed bytes flows.Blocked counts out = counts_any first before after handed bytes counts out
-counts_flow first before after handed bytes flows.Stopped counts out = counts_any first before after handed bytes counts out
-counts_flow first before after handed bytes flows.Fault counts out = counts_any first before after handed bytes counts out
+  -- one more write
+  flow_all : (before after : TapView) (handed bytes : List ℕ) (flow : Flow) → HasAll nodes config first before handed
+      → HandsSo (HandsOut linked nodes config) flow before bytes after → HasAll nodes config first after (handed ++ bytes)
+  flow_all before after handed bytes flows.Open has out = call_all before after handed bytes _ has out
+  flow_all before after handed bytes flows.Closed has out = call_all before after handed bytes _ has out
+  flow_all before after handed bytes flows.Blocked has out = any_all before after handed bytes has out
+  flow_all before after handed bytes flows.Stopped has out = any_all before after handed bytes has out
+  flow_all before after handed bytes flows.Fault has out = any_all before after handed bytes has out
 
 pub counts_all : TapsCountAll
-counts_all first start _ _ _ _ none begins = (none, refl)
-counts_all first start _ _ _ _ none (goes_on flow after new rest lives write) =
-    counts_flow first _ after _ write.bytes flow (counts_all first start _ _ _ _ none lives) write.handed
+counts_all linked nodes config first start _ _ _ _ none begins = record { all = sym none.1; counted = none.0; port = refl; number = refl }
+counts_all linked nodes config first start _ _ _ _ none (goes_on flow after new rest lives write) =
+    flow_all linked nodes config first _ after _ write.bytes flow (counts_all linked nodes config first start _ _ _ _ none lives) write.handed

@@ -1,7 +1,6 @@
 mod BusyAdded
 mod CountsAll
 mod HandedByTap
-mod HandedInRun
 pub mod KeepsItsPort
 mod LanesAdded
 mod PortsTell

@@ -3,4 +3,3 @@ pub mod ListedConnections
 pub mod Ports
 pub mod WriteTokens
 pub mod Taps
-pub mod HandedBytes

@@ -3,7 +3,7 @@
 
 mod cleanup;
 mod closed_listener;
-mod connection_table;
+mod connections;
 mod idle_lanes;
 mod limits;
 mod link;
@@ -20,6 +20,7 @@ pub mod writer;
 
 pub use cleanup::forget;
 pub use closed_listener::Closed;
+pub use connections::Connections;
 pub use idle_lanes::IdleLanes;
 pub use limits::MAX_CONNECTIONS;
 pub use link::{BlockedLink, Link};

@@ -9,6 +9,7 @@ ghost use Rattle.streams.specs.declared.limits.TheConstants.{MAX_CONNECTIONS};
 use crate::idle_lanes::IdleLanes;
 use crate::limits::MAX_CONNECTIONS;
 use crate::link::Link;
+use run_history::RunNaming;
 use slab::Slab;
 use std::alloc::{AllocError, Global};
 use std::marker::Model;
@@ -17,10 +18,10 @@ use std::sync::Arc;
 /// The connections that a node serves, at most [`MAX_CONNECTIONS`], each at an index. An index is
 /// taken before the connection is reported to the node, and the connection is listed after that.
 #[derive(Drop)]
-pub(crate) struct Links {
+pub(crate) struct Links<H: RunNaming> {
     // Has capacity for all from the beginning. An entry is none while its connection is not yet
     // listed.
-    slots: Slab<Option<Arc<Link, Global>>>,
+    slots: Slab<Option<Arc<Link<H>, Global>>>,
     ghost few: { slab_len slots ≤ MAX_CONNECTIONS },
     ghost room: { slots.capacity ≡ MAX_CONNECTIONS },
 }
@@ -48,12 +49,12 @@ impl TakenIndex {
     }
 }
 
-impl Links {
+impl<H: RunNaming> Links<H> {
     ghost use Rattle.streams.specs.ListedConnections.{AddsBusy, busy_at, busy_between, connection_listed_at};
 
     /// Returns a table without connections, with memory for all. The only error is that memory ran
     /// out.
-    pub(crate) fn new(alloc: Global) -> Result<Links, AllocError>
+    pub(crate) fn new(alloc: Global) -> Result<Links<H>, AllocError>
         ensures { IfOk result (λ links. slab_len links.slots ≡ 0) }
     {
         let slots = Slab::with_capacity(alloc, usize::from(MAX_CONNECTIONS))?;
@@ -81,7 +82,7 @@ impl Links {
     }
 
     /// Lists a connection at its index, if that is taken; otherwise nothing changes.
-    pub(crate) fn list(&mut self, link: Arc<Link, Global>)
+    pub(crate) fn list(&mut self, link: Arc<Link<H>, Global>)
         ensures taken { ContainsKey self.old.slots (arc_value link).index →
             Updates self.old.slots self.new.slots (arc_value link).index (Some (Some link)) }
         ensures free { (ContainsKey self.old.slots (arc_value link).index → ⊥)
@@ -112,7 +113,7 @@ impl Links {
     }
 
     /// Returns the first connection that is listed at this index or after it, with its index.
-    pub(crate) fn first_from(&self, first: usize) -> Option<(usize, &Arc<Link, Global>)>
+    pub(crate) fn first_from(&self, first: usize) -> Option<(usize, &Arc<Link<H>, Global>)>
         ensures found { IfSome result (λ found.
             connection_listed_at (get self.now.slots found.0) ≡ Some found.1.now) }
         ensures from { IfSome result (λ found. first ≤ found.0) }
@@ -130,7 +131,7 @@ impl Links {
         None
     }
 
-    fn at(&self, index: usize) -> Option<&Arc<Link, Global>>
+    fn at(&self, index: usize) -> Option<&Arc<Link<H>, Global>>
         ensures { option_copied result ≡ connection_listed_at (get self.now.slots index) }
     {
         match self.slots.get(index) {
@@ -145,7 +146,7 @@ impl Links {
         &self,
         idle: IdleLanes,
         first: usize,
-        busy: &mut Vec<Arc<Link, Global>>,
+        busy: &mut Vec<Arc<Link<H>, Global>>,
     ) -> bool
         requires { first ≤ MAX_CONNECTIONS }
         ensures all { result ≡ true →
@@ -169,7 +170,7 @@ impl Links {
         idle: IdleLanes,
         first: usize,
         end: usize,
-        busy: &mut Vec<Arc<Link, Global>>,
+        busy: &mut Vec<Arc<Link<H>, Global>>,
     ) -> bool
         requires { first ≤ end }
         ensures all { result ≡ true →
@@ -187,7 +188,7 @@ impl Links {
 
     // Appends the connection listed at an index, if there is one and its lane is busy. Returns
     // false if memory ran out: then nothing changes.
-    fn add_at(&self, idle: IdleLanes, index: usize, busy: &mut Vec<Arc<Link, Global>>) -> bool
+    fn add_at(&self, idle: IdleLanes, index: usize, busy: &mut Vec<Arc<Link<H>, Global>>) -> bool
         ensures added { result ≡ true →
             map arc_value busy.new.items ≡ map arc_value busy.old.items
             ++ busy_at arc_value idle (connection_listed_at (get self.now.slots index)) }

@@ -1,24 +1,18 @@
-// Where a node accepts its clients, and the table of its connections.
+// Where a node accepts its clients.
 //
 // Nothing wakes a thread that waits in `accept`, so `close` connects to its own address as long as
-// one waits there, up to `WAKES` times. The table is closed first: each thread that wakes, and each
-// that comes later, gets the witness from `begin_wait` or `end_wait` in place of a stream. Ending a
-// connection also wakes the thread that reads it. Threads sleep and accept without a lock.
+// one waits there, up to `WAKES` times. The listener is closed first: each thread that wakes, and
+// each that comes later, gets the witness in place of a stream. Then the connections are ended,
+// which wakes the threads that read them. Threads sleep and accept without a lock. A listener is
+// made before its run has a name, so the connections, which know the run, are not part of it.
 
-ghost use Rattle.std.specs.Prelude.{◌≡◌, ◌<◌, ◌≤◌, IfErr, IfOk, IfSome, map};
-ghost use Rattle.std.specs.Arc.{arc_value};
-ghost use Rattle.streams.specs.ListedConnections.{AddsBusy};
+ghost use Rattle.std.specs.Prelude.{◌≡◌, IfErr, IfSome};
 
-use crate::closed_listener::Closed;
-use crate::connection_table::ConnectionTable;
-use crate::idle_lanes::IdleLanes;
-use crate::limits::MAX_CONNECTIONS;
-use crate::link::Link;
-use crate::links::TakenIndex;
-use machine::Memory;
-use std::alloc::Global;
+use crate::closed_listener::{Closed, Waiting};
+use crate::connections::Connections;
+use run_history::RunNaming;
 use std::net::{Net, SocketAddr, TcpListener, TcpStream};
-use std::sync::{Arc, Wait};
+use std::sync::{Mutex, Wait};
 use std::time::{Clock, Duration};
 use std::{io, thread};
 
@@ -29,27 +23,27 @@ const PAUSE_MILLIS: u64 = 1;
 /// How many times waiting threads are woken when a listener is closed, at most.
 const WAKES: u32 = 10_000;
 
-/// The TCP listener of a node, with the table of its connections. The table is under locks, so no
-/// clause of a call says what is listed, taken or freed there (those of `Links` do), or that a
-/// connection ends.
+/// The TCP listener of a node. Whether it is closed is under a lock, so a call that says that it is
+/// returns a witness.
 #[derive(Drop)]
 pub struct Listener {
     /// The node's number.
     pub number: u8,
     listener: TcpListener,
-    connections: ConnectionTable,
+    // The threads that wait for a client, and whether the listener is closed.
+    waiting: Mutex<Waiting>,
 }
 
 impl Listener {
-    /// Returns the listener of the node of this number. The only error is that memory ran out.
-    pub fn new(alloc: Global, number: u8, listener: TcpListener) -> Result<Listener, Memory>
-        ensures { IfOk result (λ made. made.number ≡ number) }
+    /// Returns the listener of the node of this number.
+    pub fn new(number: u8, listener: TcpListener) -> Listener
+        ensures { result.number ≡ number }
     {
-        Ok(Listener {
+        Listener {
             number,
             listener,
-            connections: ConnectionTable::new(alloc)?,
-        })
+            waiting: Mutex::new(Waiting::new()),
+        }
     }
 
     /// Returns the address to which clients connect. The errors are those of the TCP listener.
@@ -63,9 +57,9 @@ impl Listener {
         ensures { IfErr result (λ closed. closed ≡ self.now.number) }
     {
         for _ in rt.forever() {
-            self.connections.begin_wait(rt, self.number)?;
+            self.begin_wait(rt)?;
             let came = self.listener.accept();
-            self.connections.end_wait(rt, self.number)?;
+            self.end_wait(rt)?;
             match came {
                 Ok((stream, _)) => return Ok(stream),
                 Err(_) => thread::sleep(rt, Duration::from_millis(PAUSE_MILLIS)),
@@ -74,12 +68,30 @@ impl Listener {
         unreachable!()
     }
 
-    /// Ends all connections, admits no more, and wakes the threads that wait in `accept`. Returns
-    /// the witness that the listener is closed.
-    pub fn close<R: Wait + Clock + Net<Stream = TcpStream>>(&self, rt: &R) -> Closed
+    // Counts a thread as waiting for a client. Fails with the witness if the listener is closed.
+    fn begin_wait<R: Wait>(&self, rt: &R) -> Result<(), Closed>
+        ensures { IfErr result (λ closed. closed ≡ self.now.number) }
+    {
+        self.waiting.lock(rt).begin(self.number)
+    }
+
+    // Counts a thread as no longer waiting. Fails with the witness if the listener is closed.
+    fn end_wait<R: Wait>(&self, rt: &R) -> Result<(), Closed>
+        ensures { IfErr result (λ closed. closed ≡ self.now.number) }
+    {
+        self.waiting.lock(rt).end(self.number)
+    }
+
+    /// Admits no more connections, ends all of these, which are the node's, and wakes the threads
+    /// that wait in `accept`. Returns the witness that the listener is closed.
+    pub fn close<H, R>(&self, rt: &R, connections: &Connections<H>) -> Closed
+    where
+        H: RunNaming,
+        R: Wait + Clock + Net<Stream = TcpStream>,
         ensures { result ≡ self.now.number }
     {
-        let closed = self.connections.close(rt, self.number);
+        let closed = self.waiting.lock(rt).close(self.number);
+        connections.shut_all(rt);
         self.wake_all(rt);
         closed
     }
@@ -87,7 +99,7 @@ impl Listener {
     // Wakes the threads that wait in `accept`.
     fn wake_all<R: Wait + Clock + Net<Stream = TcpStream>>(&self, rt: &R) {
         for _ in 0..WAKES {
-            if !self.connections.is_waited_at(rt) {
+            if self.waiting.lock(rt).threads() == 0 {
                 return;
             }
             if let Ok(address) = self.address() {
@@ -102,52 +114,11 @@ impl Listener {
     pub fn closed<R: Wait>(&self, rt: &R) -> Option<Closed>
         ensures { IfSome result (λ closed. closed ≡ self.now.number) }
     {
-        self.connections.closed(rt, self.number)
+        self.waiting.lock(rt).closed(self.number)
     }
 
     /// Returns true if the listener is closed.
     pub fn is_closed<R: Wait>(&self, rt: &R) -> bool {
         self.closed(rt).is_some()
-    }
-
-    /// Takes an index for a connection. Returns none if [`MAX_CONNECTIONS`] are taken.
-    pub fn take_index<R: Wait>(&self, rt: &R) -> Option<TakenIndex>
-        ensures { IfSome result (λ index. index < MAX_CONNECTIONS) }
-    {
-        self.connections.take_index(rt)
-    }
-
-    /// Lists a connection at the index that was taken for it. It ends when the listener is closed.
-    pub fn list<R: Wait>(&self, rt: &R, link: Arc<Link, Global>) {
-        self.connections.list(rt, link);
-    }
-
-    /// Frees an index, and no longer lists the connection there.
-    pub fn free<R: Wait>(&self, rt: &R, index: TakenIndex) {
-        self.connections.free(rt, index);
-    }
-
-    /// Appends the listed connections, from index `first` on and then those before it, except those
-    /// of idle lanes. Leaves out a connection for which memory runs out; no clause says which ones.
-    pub fn add_busy<R: Wait>(
-        &self,
-        rt: &R,
-        idle: IdleLanes,
-        first: usize,
-        busy: &mut Vec<Arc<Link, Global>>,
-    )
-        ensures { AddsBusy idle MAX_CONNECTIONS
-            (map arc_value busy.old.items) (map arc_value busy.new.items) }
-    {
-        self.connections.add_busy(rt, idle, first, busy);
-    }
-
-    /// Returns the first connection that is listed at this index or after it, and the index after
-    /// that. Returns none also if `Arc::try_clone` fails for that connection.
-    pub fn link_from<R: Wait>(&self, rt: &R, first: usize) -> Option<(usize, Arc<Link, Global>)>
-        ensures from { IfSome result (λ found. first < found.0) }
-        ensures within { IfSome result (λ found. found.0 ≤ MAX_CONNECTIONS) }
-    {
-        self.connections.link_from(rt, first)
     }
 }

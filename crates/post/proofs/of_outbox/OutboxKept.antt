@@ -10,7 +10,7 @@ use Rattle.world_base.specs.declared.node_core.item.Item.TheVariants.{Peer, Cras
 use Rattle.lists.specs.Lists.{Each, In}
 use Rattle.lists.proofs.OfEach.{each_append, each_then}
 use Rattle.run_history.specs.declared.event.RunEvent.{RunEvent}
-use Rattle.run_history.specs.History.{IsHistory}
+use Rattle.run_history.specs.Linked.{IsRun}
 use Rattle.run_history.specs.Log.{sent_in}
 use Rattle.run_history.specs.Sending.{WasSentTo}
 use Rattle.run_history.proofs.LongerLogs.{in_later}
@@ -67,11 +67,11 @@ waits_later xs ys number items more waits = record {
 }
 
 -- what waits may be queued by a log of the run
-pub waits_queued : (nodes : ℕ) (config : Config) (log : List RunEvent) (number : ℕ) (items : List Item)
-    → IsHistory nodes config log → Waits (sent_in log) number items → Each (IsQueued nodes config number) items
-waits_queued nodes config log number items history waits =
-    each_then (IsPosted (sent_in log) number) (IsQueued nodes config number) items
-    (λ item posted. record { log = log; history = history; posted = posted }) waits.queued
+pub waits_queued : (linked : Bool) (nodes : ℕ) (config : Config) (log : List RunEvent) (number : ℕ) (items : List Item)
+    → IsRun linked nodes config log → Waits (sent_in log) number items → Each (IsQueued linked nodes config number) items
+waits_queued linked nodes config log number items run waits =
+    each_then (IsPosted (sent_in log) number) (IsQueued linked nodes config number) items
+    (λ item posted. record { log = log; run = run; posted = posted }) waits.queued
 
 -- ---- one more item
 

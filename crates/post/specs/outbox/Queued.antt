@@ -1,6 +1,6 @@
 -- What may be queued for a node, and what is known of what waits for it: a message was sent to just
 -- this node, by an event of the run.
-use Rattle.std.specs.Prelude.{ℕ, List}
+use Rattle.std.specs.Prelude.{ℕ, Bool, List}
 use Rattle.ballot_base.specs.declared.config.Config.{Config}
 use Rattle.ballot_base.specs.declared.message.Message.{Message}
 use Rattle.broker_spec.specs.declared.command.Command.{Command}
@@ -8,7 +8,7 @@ use Rattle.lists.specs.Lists.{In}
 use Rattle.world_base.specs.declared.node_core.item.Item.{Item}
 use Rattle.world_base.specs.declared.node_core.item.Item.TheVariants.{Peer, Expel, Crash}
 use Rattle.run_history.specs.declared.event.RunEvent.{RunEvent}
-use Rattle.run_history.specs.History.{IsHistory}
+use Rattle.run_history.specs.Linked.{IsRun}
 use Rattle.run_history.specs.Log.{sent_in}
 
 -- an order of the program: nothing that comes from a node's own clients or from its clock
@@ -28,7 +28,8 @@ pub data IsPosted (sent : List (ℕ × Message Command)) (receiver : ℕ) : Item
 
 -- The item may be queued for this node: if it is a message, an event of a run of this group sent it
 -- to the node. That is all that is known of a queued item, whichever thread queued it.
-pub record IsQueued (nodes : ℕ) (config : Config) (receiver : ℕ) (item : Item) : Type 0 where
+pub record IsQueued (linked : Bool) (nodes : ℕ) (config : Config) (receiver : ℕ) (item : Item) :
+    Type 0 where
   pub log : List RunEvent
-  pub history : IsHistory nodes config log
+  pub run : IsRun linked nodes config log
   pub posted : IsPosted (sent_in log) receiver item

@@ -253,10 +253,10 @@ impl<H: RunNaming> Outbox<H> {
     /// Takes all that waits, in order.
     pub fn take(&mut self, alloc: Global) -> Vec<SentItem<H>>
         ensures all { result.items ≡ self.old.items }
-        ensures queued { Each (IsQueued H.nodes H.config self.old.number) result.items }
+        ensures queued { Each (IsQueued H.linked H.nodes H.config self.old.number) result.items }
         ensures empty { self.new ≡ record self.old { items = [] } }
     {
-        self.seen.is_history();
+        self.seen.is_run();
         mem::replace(&mut self.items, Vec::new(alloc))
     }
 }

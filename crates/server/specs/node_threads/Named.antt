@@ -1,7 +1,7 @@
 -- The numbers of nodes that are about to serve name their inboxes and first states.
 use Rattle.std.specs.Prelude.{◌≡◌, ℕ, ◌+◌, List, []}
 use Rattle.atomic_table.specs.Seated.{TableId}
-use Rattle.run_history.specs.Log.{items_taken}
+use Rattle.run_history.specs.Log.{events_by}
 use Rattle.run_history.specs.Parties.{NodeView}
 use Rattle.world_base.specs.node_core.Core.{CountedCore}
 use Rattle.lists.specs.Lists.{Each}
@@ -18,10 +18,10 @@ AreNamed inbox_of first_of =
     Each (λ (opened : OpenedView).
     (opened.inbox ≡ inbox_of opened.number) × (opened.node.node ≡ first_of opened.number))
 
--- the node is the one of its number in the run, and took nothing yet
+-- the node is the one of its number in the run, and did nothing yet
 abbrev pub IsFresh : OpenedView → Type 0
 IsFresh opened = (opened.node.index + 1 ≡ opened.number)
-    × (items_taken opened.number opened.node.log ≡ [])
+    × (events_by opened.number opened.node.log ≡ 0)
 
 -- each of these is
 abbrev pub AreFresh : List OpenedView → Type 0

@@ -28,7 +28,7 @@ pub(crate) struct LaneReporter<'e, 'a, H: RunNaming, J: NodeNaming, S: HasState<
     pub(crate) served: &'e ServedNode<'a, H, J, S, G>,
     /// All nodes of the program, whose turns it may do.
     pub(crate) all: &'e [ServedNode<'a, H, J, S, G>],
-    pub(crate) link: &'e Arc<Link, Global>,
+    pub(crate) link: &'e Arc<Link<H>, Global>,
     /// The lane. While the connection lasts, it sends nothing else.
     pub(crate) lane: Lane<SentItem<H>, J>,
 }
@@ -71,9 +71,8 @@ impl<'e, 'a, H: RunNaming, J: NodeNaming, S: HasState<H, J>, G: Gate> ReportSink
         let served = self.served;
         let shared = &served.shared;
         let standing = shared.node.lock(rt).state().standing(self.link.port);
-        let listener = shared.context.listener;
-        listener.list(rt, link);
-        standing != Standing::Closed && !listener.is_closed(rt)
+        shared.connections.list(rt, link);
+        standing != Standing::Closed && !shared.context.listener.is_closed(rt)
     }
 }
 

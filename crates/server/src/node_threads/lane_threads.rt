@@ -59,15 +59,15 @@ impl<'a, H: RunNaming, J: NodeNaming, S: HasState<H, J>, G: Gate> ServedNode<'a,
     ) -> Lane<SentItem<H>, J>
         ensures { ReportsOne port lane.sent result.sent }
     {
-        let listener = self.shared.context.listener;
-        let Some(index) = listener.take_index(rt) else {
+        let connections = &self.shared.connections;
+        let Some(index) = connections.take_index(rt) else {
             return lane;
         };
         let lane = match self.shared.link(rt, port, index.number(), stream) {
             Some(link) => self.serve_link(rt, all, lane, link),
             None => lane,
         };
-        listener.free(rt, index);
+        connections.free(rt, index);
         lane
     }
 
@@ -78,7 +78,7 @@ impl<'a, H: RunNaming, J: NodeNaming, S: HasState<H, J>, G: Gate> ServedNode<'a,
         rt: &R,
         all: &[ServedNode<'a, H, J, S, G>],
         lane: Lane<SentItem<H>, J>,
-        link: Arc<Link, Global>,
+        link: Arc<Link<H>, Global>,
     ) -> Lane<SentItem<H>, J>
         ensures { SendsWhole (arc_value link).port lane.sent result.sent }
     {
@@ -95,7 +95,7 @@ impl<'a, H: RunNaming, J: NodeNaming, S: HasState<H, J>, G: Gate> ServedNode<'a,
         rt: &R,
         all: &[ServedNode<'a, H, J, S, G>],
         lane: Lane<SentItem<H>, J>,
-        link: &Arc<Link, Global>,
+        link: &Arc<Link<H>, Global>,
     ) -> Lane<SentItem<H>, J>
         ensures { SendsWhole (arc_value link.now).port lane.sent result.sent }
     {
@@ -120,11 +120,13 @@ impl<'a, H: RunNaming, J: NodeNaming, S: HasState<H, J>, G: Gate> Shared<'a, H, 
         port: Port,
         index: usize,
         stream: TcpStream,
-    ) -> Option<Arc<Link, Global>>
+    ) -> Option<Arc<Link<H>, Global>>
         ensures { IfSome result (λ link. (arc_value link).port ≡ port) }
     {
         let opened = self.context.now(rt);
-        Link::of_stream(self.alloc, port, index, opened, stream)
+        let number = self.node.number();
+        let opening = self.opening.again();
+        Link::of_stream(self.alloc, number, port, index, opened, stream, opening)
     }
 
     // Drops what the node still holds for a connection that has ended.

@@ -145,7 +145,7 @@ impl<'a, H: RunNaming, J: NodeNaming, S: HasState<H, J>, G: Gate> Shared<'a, H, 
     fn end_overdue<R: Wait>(&self, rt: &R, now: u64) {
         let mut index = 0;
         for _ in 0..MAX_CONNECTIONS {
-            let Some((next, link)) = self.context.listener.link_from(rt, index) else {
+            let Some((next, link)) = self.connections.link_from(rt, index) else {
                 return;
             };
             if self.awaits_too_long(rt, &link, now) {
@@ -156,7 +156,7 @@ impl<'a, H: RunNaming, J: NodeNaming, S: HasState<H, J>, G: Gate> Shared<'a, H, 
     }
 
     // Returns true if the first packet of a connection is overdue.
-    fn awaits_too_long<R: Wait>(&self, rt: &R, link: &Link, now: u64) -> bool {
+    fn awaits_too_long<R: Wait>(&self, rt: &R, link: &Link<H>, now: u64) -> bool {
         let standing = self.node.lock(rt).state().standing(link.port);
         is_overdue(standing, link.opened, now)
     }
@@ -186,7 +186,7 @@ impl<'a, H: RunNaming, J: NodeNaming, S: HasState<H, J>, G: Gate> Shared<'a, H, 
 
     // Sends a queued item. One that is not for this node is dropped, which does not occur.
     fn send_queued<R: Wait + Clock>(&self, rt: &R, own: &mut OwnLane<H, J>, item: SentItem<H>)
-        requires { IsQueued H.nodes H.config self.now.context.peer.now.number item }
+        requires { IsQueued H.linked H.nodes H.config self.now.context.peer.now.number item }
         ensures { SendsMore own.old own.new }
     {
         let (number, item, seen) = item.into_parts();

@@ -9,8 +9,7 @@
 
 ghost use Rattle.std.specs.Prelude.{◌≡◌, ◌+◌, [], IfOk, map};
 ghost use Rattle.lists.specs.Lists.{Each};
-ghost use Rattle.node.specs.State.{EachOpensAs};
-ghost use Rattle.run_history.specs.Log.{items_taken};
+ghost use Rattle.run_history.specs.Log.{events_by, opening_log};
 ghost use Rattle.server.specs.declared.node_threads.lane_slots.TheConstants.{LANES};
 ghost use Rattle.server.specs.node_threads.Named.{AreFresh, AreNamed};
 
@@ -19,7 +18,6 @@ use crate::node_threads::node_context::{NodeContext, NodeContexts};
 use crate::node_threads::opened_node::OpenedNode;
 use crate::node_threads::own_lane::OwnLane;
 use crate::node_threads::shared::Shared;
-use ballot_base::Config;
 use machine::Memory;
 use mailbox::Lane;
 use node::{HasState, Node, NodeNaming, NodeState, Report};
@@ -32,8 +30,8 @@ use std::net::{Net, TcpStream};
 use std::sync::{Mutex, Wait};
 use std::thread::Threads;
 use std::time::Clock;
-use streams::Closed;
 use streams::writer::BlockedLinks;
+use streams::{Closed, Connections};
 
 /// A node that serves: what its threads share, and their lanes.
 #[derive(Drop)]
@@ -100,7 +98,6 @@ impl<'a, H: RunNaming, J: NodeNaming, G: Gate> ServedNode<'a, H, J, NodeState<H,
         rt: &R,
         alloc: Global,
         context: NodeContext<'a, H>,
-        config: &'a Config,
         opened: OpenedNode<H>,
         opening: &SeenRun<H>,
         gate: Option<&'a G>,
@@ -109,8 +106,8 @@ impl<'a, H: RunNaming, J: NodeNaming, G: Gate> ServedNode<'a, H, J, NodeState<H,
         requires named { opened.inbox ≡ J.inbox_of opened.number }
         requires first { opened.node.node ≡ J.first_of opened.number }
         requires index { opened.node.index + 1 ≡ opened.number }
-        requires none { items_taken opened.number opened.node.log ≡ [] }
-        requires opens { EachOpensAs config.now J.first_of }
+        requires none { events_by opened.number opened.node.log ≡ 0 }
+        requires opening { opening.now ≡ opening_log H.nodes H.config H.linked }
         ensures { IfOk result (λ node. node.number ≡ opened.number) }
     {
         let OpenedNode {
@@ -122,6 +119,7 @@ impl<'a, H: RunNaming, J: NodeNaming, G: Gate> ServedNode<'a, H, J, NodeState<H,
         let (receiver, lanes) = inbox.named::<J>(number, LANES)?;
         let (own, lane_slots) = lane_slots_of(alloc, number, lanes, opening)?;
         let node = Node::start(alloc, NodeState::new(receiver, node), gate)?;
+        let connections = Connections::new(alloc)?;
         let blocked = BlockedLinks::new(alloc)?;
         Ok(ServedNode {
             number,
@@ -129,7 +127,7 @@ impl<'a, H: RunNaming, J: NodeNaming, G: Gate> ServedNode<'a, H, J, NodeState<H,
                 alloc,
                 node,
                 context,
-                config,
+                connections,
                 blocked,
                 opening: opening.again(),
             },
@@ -169,7 +167,10 @@ impl<'a, H: RunNaming, J: NodeNaming, S: HasState<H, J>, G: Gate> ServedNode<'a,
     pub fn close_listener<R: Wait + Clock + Net<Stream = TcpStream>>(&self, rt: &R) -> Closed
         ensures { result ≡ self.now.number }
     {
-        self.shared.context.listener.close(rt)
+        self.shared
+            .context
+            .listener
+            .close(rt, &self.shared.connections)
     }
 }
 
@@ -200,14 +201,13 @@ pub fn start_all<'a, H: RunNaming, J: NodeNaming, R: Wait, G: Gate>(
     rt: &R,
     alloc: Global,
     contexts: &NodeContexts<'a, H>,
-    config: &'a Config,
     opened: Vec<OpenedNode<H>>,
     opening: &SeenRun<H>,
     gate: Option<&'a G>,
 ) -> Result<Vec<ServedNode<'a, H, J, NodeState<H, J>, G>>, Memory>
     requires named { AreNamed J.inbox_of J.first_of opened.items }
     requires fresh { AreFresh opened.items }
-    requires opens { EachOpensAs config.now J.first_of }
+    requires opening { opening.now ≡ opening_log H.nodes H.config H.linked }
     ensures { IfOk result (λ nodes.
         map (λ node. node.number) nodes.items ≡ map (λ one. one.number) opened.items) }
 {
@@ -215,7 +215,7 @@ pub fn start_all<'a, H: RunNaming, J: NodeNaming, R: Wait, G: Gate>(
     for one in opened {
         // A node was opened for each listener, and is in the cluster. No clause says so.
         let context = contexts.context_of(one.number).ok_or(Memory)?;
-        nodes.push(ServedNode::start(rt, alloc, context, config, one, opening, gate)?)?;
+        nodes.push(ServedNode::start(rt, alloc, context, one, opening, gate)?)?;
     }
     Ok(nodes)
 }

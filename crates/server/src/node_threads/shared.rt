@@ -3,10 +3,9 @@
 ghost use Rattle.std.specs.Prelude.{◌≡◌, All, IfOk, OnErr, OnOk, length, map};
 ghost use Rattle.mailbox.specs.Ends.{ArrivesWhole, unmet};
 ghost use Rattle.node.specs.LockedNode.{AreItsLanes, ReportsOn};
-ghost use Rattle.node.specs.State.{EachOpensAs};
+ghost use Rattle.run_history.specs.Log.{opening_log};
 
 use crate::node_threads::node_context::NodeContext;
-use ballot_base::Config;
 use machine::Memory;
 use mailbox::Lane;
 use node::{HasState, Node, NodeNaming, NodeState, Report};
@@ -14,6 +13,7 @@ use node_base::devices::Gate;
 use run_history::{NodeOnRecord, RunNaming, SeenRun, SentItem};
 use std::alloc::Global;
 use std::sync::Wait;
+use streams::Connections;
 use streams::writer::{BlockedLinks, Writer};
 
 /// What the threads of a node share. No thread waits while it holds one of the locks, except for
@@ -24,12 +24,11 @@ pub(crate) struct Shared<'a, H: RunNaming, J: NodeNaming, S: HasState<H, J>, G: 
     pub(crate) node: Node<'a, H, J, S, G>,
     /// Its listener, the other nodes, and its clock.
     pub(crate) context: NodeContext<'a, H>,
-    /// The configuration in which all nodes opened.
-    pub(crate) config: &'a Config,
-    pub(crate) blocked: BlockedLinks,
+    pub(crate) connections: Connections<H>,
+    pub(crate) blocked: BlockedLinks<H>,
     /// The log of the run as it opened: all that is known of what comes from outside.
     pub(crate) opening: SeenRun<H>,
-    pub(crate) ghost opens: { EachOpensAs config.now J.first_of },
+    pub(crate) ghost opened: { opening ≡ opening_log H.nodes H.config H.linked },
     pub(crate) ghost named: { node.number ≡ context.listener.now.number },
 }
 
@@ -72,7 +71,7 @@ impl<'a, H: RunNaming, J: NodeNaming, S: HasState<H, J>, G: Gate> Shared<'a, H, 
             alloc: self.alloc,
             node: &self.node,
             listener: self.context.listener,
-            config: self.config,
+            connections: &self.connections,
             blocked: &self.blocked,
         }
     }

@@ -35,8 +35,5 @@ where
     let Ok(listener) = TcpListener::bind(rt, "127.0.0.1:0") else {
         return false;
     };
-    match Listener::new(rt.alloc(), number, listener) {
-        Ok(listener) => listeners.push(listener).is_ok(),
-        Err(_) => false,
-    }
+    listeners.push(Listener::new(number, listener)).is_ok()
 }

@@ -25,7 +25,7 @@ const CONNECT: &[u8] = &[
     0x10, 0x0D, 0x00, 0x04, 0x4D, 0x51, 0x54, 0x54, 0x04, 0x00, 0x00, 0x3C, 0x00, 0x01, 0x61,
 ];
 
-const PORT: Port = Port(7);
+pub(super) const PORT: Port = Port(7);
 
 // A lane to which a connection is reported, which accepts it or not.
 #[derive(Drop)]
@@ -72,8 +72,8 @@ impl Tap for OneTap {
 
 // A node, and what it sends on the port.
 #[derive(Drop)]
-struct Spring {
-    node: NodeCore,
+pub(super) struct Spring {
+    pub(super) node: NodeCore,
 }
 
 impl Outlet<OneTap> for Spring {
@@ -89,18 +89,18 @@ impl Outlet<OneTap> for Spring {
 
 // Whether the connection is accepted.
 #[derive(Clone, Copy, Debug)]
-struct IsOpen(bool);
+pub(super) struct IsOpen(pub(super) bool);
 
 // Which call of a device fails, from 1 on; none if it is 0.
 #[derive(Clone, Copy, Debug)]
-struct BadCall(u64);
+pub(super) struct BadCall(pub(super) u64);
 
 // How many bytes are reported.
 #[derive(Clone, Copy, Debug)]
-struct Reported(usize);
+pub(super) struct Reported(pub(super) usize);
 
 // A connection, which read of it fails, how it ends, and what is reported.
-type Row = (IsOpen, BadCall, Ending, Reported);
+pub(super) type Row = (IsOpen, BadCall, Ending, Reported);
 
 // Four reads bring the CONNECT, and the fifth finds the end.
 const ROWS: &[Row] = &[
@@ -132,7 +132,7 @@ fn heard<J: Naming, R: Wait + Clock>(rt: &R, alloc: Global, inbox: Inbox<Item>, 
 }
 
 // Returns how a connection that is reported to this lane ends, and how many faults were counted.
-fn end_of<J: Naming, R: Wait + Clock>(
+pub(super) fn end_of<J: Naming, R: Wait + Clock>(
     rt: &R,
     alloc: Global,
     lane: Option<Lane<Item, J>>,
@@ -157,7 +157,10 @@ fn end_of<J: Naming, R: Wait + Clock>(
 }
 
 // Takes an item, with a receipt of what the receiver itself knows.
-fn take_one<J: Naming, R: Wait>(rt: &R, receiver: &mut Receiver<Item, J>) -> Option<(u8, Item)> {
+pub(super) fn take_one<J: Naming, R: Wait>(
+    rt: &R,
+    receiver: &mut Receiver<Item, J>,
+) -> Option<(u8, Item)> {
     let receipt = receiver.receipt();
     receiver.take(rt, receipt)
 }
@@ -229,18 +232,18 @@ fn a_connection_is_reported_whole(rt: HostRuntime) -> Result<(), Fail> {
 
 // How often a device is full.
 #[derive(Clone, Copy, Debug)]
-struct Blocked(u64);
+pub(super) struct Blocked(u64);
 
 // How many bytes are written.
 #[derive(Clone, Copy, Debug)]
-struct Written(usize);
+pub(super) struct Written(usize);
 
 // Which write fails and how, how often the device is full, how the writing ends, and what is
 // written. A fault is counted once, and nothing else is.
-type WriteRow = (BadCall, ErrorKind, Blocked, Flow, Written);
+pub(super) type WriteRow = (BadCall, ErrorKind, Blocked, Flow, Written);
 
 // Five bytes are two writes, and the answer's four are two.
-const WRITE_ROWS: &[WriteRow] = &[
+pub(super) const WRITE_ROWS: &[WriteRow] = &[
     (BadCall(0), BrokenPipe, Blocked(0), Flow::Open, Written(9)),
     (BadCall(1), BrokenPipe, Blocked(0), Flow::Fault, Written(0)),
     (BadCall(2), BrokenPipe, Blocked(0), Flow::Fault, Written(3)),
@@ -258,7 +261,7 @@ const LEFT: &[u8] = b"01234";
 const ALL: &[u8] = &[b'0', b'1', b'2', b'3', b'4', 0x20, 0x02, 0x00, 0x00];
 
 // Returns a node, the sole member of ballot 1.
-fn sole(alloc: Global) -> Option<Spring> {
+pub(super) fn sole(alloc: Global) -> Option<Spring> {
     let config = Config {
         members: Members::from_slice(alloc, &[1]).ok()?,
         primary: 1,
@@ -301,7 +304,7 @@ fn write_all<R: Wait>(
 // What came of a row: how often the device was full and how the writing ended (none if it did not
 // end, or there was no memory), how many faults were counted, and how many bytes are written.
 #[derive(Clone, Copy, Debug, PartialEq, Eq)]
-struct Came {
+pub(super) struct Came {
     ended: Option<(u64, Flow)>,
     faults: u64,
     count: usize,
@@ -309,7 +312,7 @@ struct Came {
 
 // Writes what was left before, and then the node's answer. Returns what came, if it is not what the
 // row says.
-fn came_instead<R: Wait>(
+pub(super) fn came_instead<R: Wait>(
     rt: &R,
     alloc: Global,
     spring: &mut Spring,

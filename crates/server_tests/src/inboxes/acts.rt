@@ -199,7 +199,7 @@ impl<J: Naming> Two<J> {
 }
 
 // Returns the first row, with two inboxes, of whose act comes something else. The first inbox has
-// three lanes, and the second has one.
+// 64 lanes, the most that one may have, and the second has one.
 fn fault_of_two<J: Naming, R: Wait>(
     rt: &R,
     alloc: Global,
@@ -210,7 +210,7 @@ fn fault_of_two<J: Naming, R: Wait>(
     requires first { first ≡ J.inbox_of 1 }
     requires second { second ≡ J.inbox_of 2 }
 {
-    let Ok((first, first_lanes)) = first.named::<J>(1, 3) else {
+    let Ok((first, first_lanes)) = first.named::<J>(1, 64) else {
         drop(second);
         return Some(UNMADE);
     };
@@ -253,6 +253,21 @@ const TABLES: &[(&str, &[Row])] = &[
         ],
     ),
     (
+        "each of 64 lanes sends, and the 1,025th item that waits is handed back",
+        &[
+            ((0, 0), Act::Send(63, 7), Came::Sent),
+            ((0, 0), Act::Send(0, 5), Came::Sent),
+            ((0, 0), Act::Send(64, 1), Came::Nothing),
+            ((0, 0), Act::Take, Came::Took(Some((63, 7)))),
+            ((0, 0), Act::Take, Came::Took(Some((0, 5)))),
+            ((0, 0), Act::Take, Came::Took(None)),
+            ((0, 0), Act::SendMany(62, 1_023), Came::Sent),
+            ((0, 0), Act::Send(63, 8), Came::Sent),
+            ((0, 0), Act::Send(63, 9), Came::Back(9)),
+            ((0, 0), Act::Send(1, 2), Came::Back(2)),
+        ],
+    ),
+    (
         "what is left over is listed",
         &[
             ((0, 0), Act::Send(0, 10), Came::Sent),
@@ -262,7 +277,7 @@ const TABLES: &[(&str, &[Row])] = &[
             ((0, 0), Act::Send(2, 22), Came::Sent),
             ((0, 0), Act::Take, Came::Took(Some((0, 10)))),
             ((0, 0), Act::Take, Came::Took(Some((2, 20)))),
-            ((0, 0), Act::Lanes, Came::Lanes(3, 3, true, true)),
+            ((0, 0), Act::Lanes, Came::Lanes(64, 64, true, true)),
             (
                 (0, 0),
                 Act::Settle,

@@ -58,6 +58,14 @@ impl Meeting {
         false
     }
 
+    // Notes that a node that gave up is not there any more.
+    fn leave<R: Wait>(&self, rt: &R, node: u8) {
+        let mut heard = self.heard.lock(rt);
+        if let Some(one) = heard.get_mut(usize::from(node).wrapping_sub(1)) {
+            one.is_there = false;
+        }
+    }
+
     // Returns how many times a node asks for its second taking: once if the gate is open, since
     // both nodes are there by then, and else ten thousand times.
     fn asks(&self) -> u64 {
@@ -86,7 +94,14 @@ impl Gate for Meeting {
 
     fn open<R: Wait>(&self, rt: &R, node: u8, taking: u64) -> bool {
         note(self.heard.lock(rt).as_mut_slice(), node, taking, false);
-        taking <= self.shut_after && self.holds_until_both(rt)
+        if taking > self.shut_after {
+            return false;
+        }
+        let are_both = self.holds_until_both(rt);
+        if !are_both {
+            self.leave(rt, node);
+        }
+        are_both
     }
 
     fn answered<R: Wait>(&self, rt: &R, node: u8, taking: u64) {

@@ -1,8 +1,8 @@
 // Runs with two nodes: rows of acts, and what each node reports at its end. What is long to drop is
 // lent or passed on by each function here, or goes by a call of `drop`, which is proved once.
 
-ghost use Rattle.std.specs.Prelude.{◌≡◌, []};
-ghost use Rattle.run_history.specs.Log.{items_taken};
+ghost use Rattle.std.specs.Prelude.{◌≡◌, false};
+ghost use Rattle.run_history.specs.Log.{events_by};
 
 use super::came::Came;
 use super::meeting::Meeting;
@@ -80,6 +80,7 @@ where
     requires book { opened.run.book ≡ H.book }
     requires nodes { H.nodes ≡ 2 }
     requires config { opened.config ≡ H.config }
+    requires own { H.linked ≡ false }
 {
     match fresh_two::<H>(alloc, opened) {
         Some((first, second)) => with_lanes::<H, Brand, R>(rt, alloc, first, second, run, gate),
@@ -103,11 +104,11 @@ where
     requires inbox { first.inbox ≡ J.inbox_of 1 }
     requires core { first.node.node ≡ J.first_of 1 }
     requires index { first.node.index ≡ 0 }
-    requires none { items_taken 1 first.node.log ≡ [] }
+    requires none { events_by 1 first.node.log ≡ 0 }
     requires other_inbox { second.inbox ≡ J.inbox_of 2 }
     requires other_core { second.node.node ≡ J.first_of 2 }
     requires other_index { second.node.index ≡ 1 }
-    requires other_none { items_taken 2 second.node.log ≡ [] }
+    requires other_none { events_by 2 second.node.log ≡ 0 }
 {
     match first.inbox.named::<J>(1, 2) {
         Ok((receiver, mut lanes)) => {
@@ -139,7 +140,7 @@ where
     requires inbox { second.inbox ≡ J.inbox_of 2 }
     requires core { second.node.node ≡ J.first_of 2 }
     requires index { second.node.index ≡ 1 }
-    requires none { items_taken 2 second.node.log ≡ [] }
+    requires none { events_by 2 second.node.log ≡ 0 }
 {
     match Node::start(alloc, state, gate) {
         Ok(node) => {
@@ -170,7 +171,7 @@ where
     requires inbox { second.inbox ≡ J.inbox_of 2 }
     requires core { second.node.node ≡ J.first_of 2 }
     requires index { second.node.index ≡ 1 }
-    requires none { items_taken 2 second.node.log ≡ [] }
+    requires none { events_by 2 second.node.log ≡ 0 }
 {
     match second.inbox.named::<J>(2, 1) {
         Ok((receiver, mut others)) => {

@@ -1,7 +1,7 @@
 // What nodes begin with.
 
-ghost use Rattle.std.specs.Prelude.{◌≡◌, [], IfSome};
-ghost use Rattle.run_history.specs.Log.{items_taken};
+ghost use Rattle.std.specs.Prelude.{◌≡◌, IfSome, false};
+ghost use Rattle.run_history.specs.Log.{events_by};
 
 use crate::opened_run::Opened;
 use mailbox::Inbox;
@@ -22,10 +22,11 @@ pub(super) fn fresh_two<H: RunNaming>(alloc: Global, opened: Opened) -> Option<(
     requires book { opened.run.book ≡ H.book }
     requires nodes { H.nodes ≡ 2 }
     requires config { opened.config ≡ H.config }
+    requires own { H.linked ≡ false }
     ensures first { IfSome result (λ starts. starts.0.node.index ≡ 0) }
-    ensures none { IfSome result (λ starts. items_taken 1 starts.0.node.log ≡ []) }
+    ensures none { IfSome result (λ starts. events_by 1 starts.0.node.log ≡ 0) }
     ensures second { IfSome result (λ starts. starts.1.node.index ≡ 1) }
-    ensures still_none { IfSome result (λ starts. items_taken 2 starts.1.node.log ≡ []) }
+    ensures still_none { IfSome result (λ starts. events_by 2 starts.1.node.log ≡ 0) }
 {
     let Opened {
         run,

@@ -2,7 +2,7 @@
 // implementation of SHA-256 computed.
 
 use ballot_base::Members;
-use desk::{Activation, Desk, DeskError, FormFault, Keeper, NotKept, OpenError};
+use cluster::desk::{Activation, Desk, DeskError, FormFault, Keeper, NotKept, OpenError};
 use std::alloc::Global;
 
 // The name of a cluster.
@@ -52,7 +52,7 @@ impl Keeper for Paper {
 
     ghost stands = { λ paper. paper.bytes.items ∷ [] };
 
-    #[tactic(auto, using(desk::proofs::Among::nothing_written))]
+    #[tactic(auto, using(cluster::proofs::of_desk::Among::nothing_written))]
     fn keep(&mut self, bytes: &[u8]) -> Result<(), NotKept> {
         if self.writes == 0 {
             return Err(NotKept);

@@ -1,6 +1,6 @@
 // Streams of parts, written by hand, and messages that are cut and joined.
 
-use frames::{JoinError, Joiner, PartFault, write_parts};
+use links::frames::{JoinError, Joiner, PartFault, write_parts};
 use std::alloc::AllocError;
 
 // Parts, and the message that they are joined to with a limit of 4 bytes.

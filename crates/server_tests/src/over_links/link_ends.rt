@@ -1,11 +1,11 @@
 // Two ends over devices in memory, which give and take few bytes a call, and of which one call
 // fails. The other end's bytes are those of `seal`.
 
+use links::seal::{Hello, HelloFault, Membership, Opener, Sealer, Side, proof};
 use links::{
     DeviceFault, HandshakeFault, LinkFault, LinkReadError, LinkReader, LinkWriter, Parcel,
     ParcelSink, Party, Way, read_link, shake,
 };
-use seal::{Hello, HelloFault, Membership, Opener, Sealer, Side, proof};
 use std::alloc::Global;
 use std::io;
 use std::io::{ErrorKind, Read, Write};

@@ -4,7 +4,7 @@
 use ballot_base::{Body, Log, Members, Message};
 use broker_spec::{Command, ConnectionName, SizedPacket};
 use bytes::Bytes;
-use message_form::{WriteFault, read_message, write_message};
+use links::message_form::{WriteFault, read_message, write_message};
 use packet::Packet;
 use packet_base::ClientId;
 use std::alloc::Global;

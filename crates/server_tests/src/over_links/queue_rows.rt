@@ -1,7 +1,7 @@
 // A queue by rows: what becomes of each message, and what waits and was dropped behind it.
 
 use ballot_base::{Body, Log, Message};
-use link_queue::{Fate, LinkQueue, LogName, MAX_BYTES, MAX_WAITING};
+use links::link_queue::{Fate, LinkQueue, LogName, MAX_BYTES, MAX_WAITING};
 use std::alloc::Global;
 
 // The kinds of the messages below.

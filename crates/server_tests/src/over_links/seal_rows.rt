@@ -1,7 +1,7 @@
 // Rows of digests, from RFC 4231, section 4, and of frames, whose tags another implementation of
 // HMAC computed.
 
-use seal::{
+use links::seal::{
     FrameError, FrameReader, Hello, HelloFault, Membership, NO_CLUSTER, Opener, SealFault, Sealer,
     Side, Tag, hmac, is_proof, proof, session,
 };

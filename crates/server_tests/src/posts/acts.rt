@@ -1,6 +1,6 @@
 // What is done with a cluster of two nodes, which have no threads, and what comes of it.
 
-ghost use Rattle.std.specs.Prelude.{◌≡◌};
+ghost use Rattle.std.specs.Prelude.{◌≡◌, false};
 
 use crate::opened_run::{Opened, open_two};
 use ballot_base::{Config, Members, Status};
@@ -241,6 +241,7 @@ fn fault_of_opened<H: RunNaming, R: Wait + Clock>(
     requires book { opened.run.book ≡ H.book }
     requires nodes { H.nodes ≡ 2 }
     requires config { opened.config ≡ H.config }
+    requires own { H.linked ≡ false }
 {
     let Opened { run, master, .. } = opened;
     let (master, _maker, log) = run.named::<H>(master);

@@ -131,7 +131,7 @@ where
 
     ghost attends = { λ _ _ _ _. Unit {0} };
 
-    fn attend<H: RunNaming>(
+    fn attend<H: RunNaming + Send + Sync>(
         self,
         _cluster: &Cluster<H>,
         _seen: &mut SeenRun<H>,

@@ -39,7 +39,11 @@ impl Attendant for AtOnce {
 
     ghost attends = { λ _ _ _ _. Unit {0} };
 
-    fn attend<H: RunNaming>(self, _cluster: &Cluster<H>, _seen: &mut SeenRun<H>) -> bool {
+    fn attend<H: RunNaming + Send + Sync>(
+        self,
+        _cluster: &Cluster<H>,
+        _seen: &mut SeenRun<H>,
+    ) -> bool {
         true
     }
 }

@@ -48,7 +48,12 @@ impl<'e, 'a, H: RunNaming, J: NodeNaming, S: HasState<H, J>, G: Gate> Writer<'e,
     }
 
     /// Leaves a connection whose socket is full to the blocked writer, and wakes it.
-    pub(crate) fn hand_blocked<R: Wait>(&self, rt: &R, link: &Arc<Link, Global>, token: WriteToken)
+    pub(crate) fn hand_blocked<R: Wait>(
+        &self,
+        rt: &R,
+        link: &Arc<Link<H>, Global>,
+        token: WriteToken<H>,
+    )
         requires { IsTokenOf (arc_value link.now).port token }
     {
         if self.keep_blocked(rt, link, token) {
@@ -58,7 +63,12 @@ impl<'e, 'a, H: RunNaming, J: NodeNaming, S: HasState<H, J>, G: Gate> Writer<'e,
 
     // Adds a connection for the next round. Returns false if memory ran out: then the connection is
     // ended.
-    fn keep_blocked<R: Wait>(&self, rt: &R, link: &Arc<Link, Global>, token: WriteToken) -> bool
+    fn keep_blocked<R: Wait>(
+        &self,
+        rt: &R,
+        link: &Arc<Link<H>, Global>,
+        token: WriteToken<H>,
+    ) -> bool
         requires { IsTokenOf (arc_value link.now).port token }
     {
         match Arc::try_clone(link) {
@@ -102,7 +112,7 @@ impl<'e, 'a, H: RunNaming, J: NodeNaming, S: HasState<H, J>, G: Gate> Writer<'e,
 
     // Takes all connections whose sockets were full. Leaves a list with capacity for all that the
     // node serves; if there is no memory for that, takes none, and they are tried later.
-    fn take_blocked<R: Wait>(&self, rt: &R) -> Vec<BlockedLink> {
+    fn take_blocked<R: Wait>(&self, rt: &R) -> Vec<BlockedLink<H>> {
         match empty_list(self.alloc) {
             Ok(empty) => mem::replace(&mut *self.blocked.links.lock(rt), empty),
             Err(_) => Vec::new(self.alloc),
@@ -115,9 +125,9 @@ impl<'e, 'a, H: RunNaming, J: NodeNaming, S: HasState<H, J>, G: Gate> Writer<'e,
     fn retry_blocked<R: Wait>(
         &self,
         rt: &R,
-        link: &Arc<Link, Global>,
-        token: WriteToken,
-    ) -> Option<WriteToken>
+        link: &Arc<Link<H>, Global>,
+        token: WriteToken<H>,
+    ) -> Option<WriteToken<H>>
         requires { IsTokenOf (arc_value link.now).port token }
         ensures { IfSome result (λ blocked. IsTokenOf (arc_value link.now).port blocked) }
     {

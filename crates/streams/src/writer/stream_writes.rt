@@ -21,12 +21,12 @@ struct Source<'e, 'a, H: RunNaming, J: NodeNaming, S: HasState<H, J>, G: Gate> {
     writer: &'e Writer<'e, 'a, H, J, S, G>,
 }
 
-impl<'e, 'a, H: RunNaming, J: NodeNaming, S: HasState<H, J>, G: Gate> Outlet<PortTap>
+impl<'e, 'a, H: RunNaming, J: NodeNaming, S: HasState<H, J>, G: Gate> Outlet<PortTap<H>>
     for Source<'e, 'a, H, J, S, G> {
     fn hand_over<R: Wait>(
         &mut self,
         rt: &R,
-        tap: &mut PortTap,
+        tap: &mut PortTap<H>,
         out: &mut Vec<u8>,
     ) -> Result<Handed, Memory> {
         let writer = self.writer;
@@ -39,7 +39,7 @@ impl<'e, 'a, H: RunNaming, J: NodeNaming, S: HasState<H, J>, G: Gate> Writer<'e,
     /// looks again. What a full socket does not take is left to the blocked writer. `waits` is true
     /// if this thread may wait for a full socket, for a millisecond; a thread that does a node's
     /// turn may not.
-    pub(crate) fn flush<R: Wait>(&self, rt: &R, link: &Arc<Link, Global>, waits: bool) {
+    pub(crate) fn flush<R: Wait>(&self, rt: &R, link: &Arc<Link<H>, Global>, waits: bool) {
         let Some(token) = link.take_token(rt) else {
             return;
         };
@@ -55,10 +55,10 @@ impl<'e, 'a, H: RunNaming, J: NodeNaming, S: HasState<H, J>, G: Gate> Writer<'e,
     pub(crate) fn write_until_blocked<R: Wait>(
         &self,
         rt: &R,
-        link: &Arc<Link, Global>,
-        token: WriteToken,
+        link: &Arc<Link<H>, Global>,
+        token: WriteToken<H>,
         waits: bool,
-    ) -> Option<WriteToken>
+    ) -> Option<WriteToken<H>>
         requires { IsTokenOf (arc_value link.now).port token }
         ensures { IfSome result (λ blocked. IsTokenOf (arc_value link.now).port blocked) }
     {
@@ -83,8 +83,8 @@ impl<'e, 'a, H: RunNaming, J: NodeNaming, S: HasState<H, J>, G: Gate> Writer<'e,
     fn write_waiting<R: Wait>(
         &self,
         rt: &R,
-        link: &Arc<Link, Global>,
-        token: &mut WriteToken,
+        link: &Arc<Link<H>, Global>,
+        token: &mut WriteToken<H>,
         waits: bool,
     ) -> Flow
         ensures { IsTokenOf token.old.tap.port token.new }
@@ -105,8 +105,8 @@ impl<'e, 'a, H: RunNaming, J: NodeNaming, S: HasState<H, J>, G: Gate> Writer<'e,
 
     // Writes what a full socket left over, then what the node hands over, as far as the socket
     // takes it.
-    fn write_once<R: Wait>(&self, rt: &R, token: &mut WriteToken) -> Flow
-        ensures whole { HasWholeStream token.new }
+    fn write_once<R: Wait>(&self, rt: &R, token: &mut WriteToken<H>) -> Flow
+        ensures whole { HasWholeStream H.linked H.nodes H.config token.new }
         ensures port { IsTokenOf token.old.tap.port token.new }
     {
         let mut source = Source { writer: self };

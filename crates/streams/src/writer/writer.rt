@@ -9,11 +9,9 @@
 // first.
 
 ghost use Rattle.std.specs.Prelude.{◌≡◌, []};
-ghost use Rattle.node.specs.State.{EachOpensAs};
 
 use crate::writer::blocked_links::BlockedLinks;
-use crate::{IdleLanes, Link, Listener, MAX_CONNECTIONS};
-use ballot_base::Config;
+use crate::{Connections, IdleLanes, Link, Listener, MAX_CONNECTIONS};
 use node::{HasState, Node, NodeNaming};
 use node_base::devices::Gate;
 use run_history::RunNaming;
@@ -35,14 +33,12 @@ pub struct Writer<'e, 'a, H: RunNaming, J: NodeNaming, S: HasState<H, J>, G: Gat
     pub alloc: Global,
     /// The node, which queues bytes for its connections.
     pub node: &'e Node<'a, H, J, S, G>,
-    /// The listener of the node, which has the table of its connections.
+    /// The listener of the node.
     pub listener: &'e Listener,
-    /// The configuration in which the node opened.
-    pub config: &'e Config,
+    /// The connections of the node.
+    pub connections: &'e Connections<H>,
     /// The connections whose sockets were full.
-    pub blocked: &'e BlockedLinks,
-    /// The node of each inbox's number began as the one of that number in this configuration.
-    pub ghost opens: { EachOpensAs config.now J.first_of },
+    pub blocked: &'e BlockedLinks<H>,
 }
 
 impl<'e, 'a, H: RunNaming, J: NodeNaming, S: HasState<H, J>, G: Gate> Writer<'e, 'a, H, J, S, G> {
@@ -57,11 +53,11 @@ impl<'e, 'a, H: RunNaming, J: NodeNaming, S: HasState<H, J>, G: Gate> Writer<'e,
 
     // Returns the connections for which something may have been queued, the one at index `first`
     // before the others. If memory runs out, idle ones may be among them, or some may be missing.
-    fn busy_links<R: Wait>(&self, rt: &R, first: usize) -> Vec<Arc<Link, Global>> {
+    fn busy_links<R: Wait>(&self, rt: &R, first: usize) -> Vec<Arc<Link<H>, Global>> {
         let mut idle = list_with_capacity(self.alloc, usize::from(MAX_CONNECTIONS));
         let mut busy = list_with_capacity(self.alloc, BUSY_CAPACITY);
         let _ = self.node.lock(rt).state().idle_ports(&mut idle);
-        self.listener
+        self.connections
             .add_busy(rt, IdleLanes::of(&idle), first, &mut busy);
         busy
     }

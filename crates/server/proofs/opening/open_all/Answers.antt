@@ -11,10 +11,10 @@ loop-index-preserved g c =
     let node = c.make-node.ensures.node in record {
       maker = c.make-node.ensures.next;
       so =
-          adds_one nodes c.loop-index.index c.args.config.now (map (λ listener. listener.number) c.args.contexts.now.listeners.now) c.make-node.result
+          adds_one nodes c.loop-index.index c.args.config.now g.H.RunNaming.linked (map (λ listener. listener.number) c.args.contexts.now.listeners.now) c.make-node.result
           c.is_some-is_served.result c.loop-index.opened c.add.new.self c.in_ok-add.ensures (c.is_some-is_served.ensures ∙ c.listener_of.ensures.is)
           (ap (λ (n : NodeView). n.index) node)
-          (ap (λ (n : NodeView). n.log) node ∙ (c.requires.log ∙ ap (opening_log nodes) (sym c.requires.config)))
+          (ap (λ (n : NodeView). n.log) node ∙ (c.requires.log ∙ ap (λ config. opening_log nodes config g.H.RunNaming.linked) (sym c.requires.config)))
           (ap (λ (n : NodeView). n.node) node ∙ c.in_ok-core.ensures.ok) c.loop-index.invariant.so;
     }
 

@@ -1,9 +1,5 @@
-use Rattle.std.proofs.Common.{refl}
 use Rattle.std.proofs.lemmas.List.Sorted.{IsPermutation-trans}
 use Rattle.server.proofs.service.serve_opened.Goals as goal
-
-pub serve_named-requires-clause-opens : goal.serve_named-requires-clause-opens
-serve_named-requires-clause-opens g c κs within = λ inbox. refl
 
 pub returns-clause-served : goal.returns-clause-served
 returns-clause-served g c = IsPermutation-trans _ _ _ c.in_ok-served.ensures.all c.in_ok-answer.ensures.served

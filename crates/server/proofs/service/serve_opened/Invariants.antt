@@ -5,4 +5,4 @@ abbrev pub ghosts-serve_named-J-Naming : goal.ghosts-serve_named-J-Naming
 ghosts-serve_named-J-Naming g a = record { inbox_of = inbox_among a.opened.items }
 
 abbrev pub ghosts-serve_named-J-NodeNaming : goal.ghosts-serve_named-J-NodeNaming
-ghosts-serve_named-J-NodeNaming g a = record { first_of = first_in a.config.now }
+ghosts-serve_named-J-NodeNaming g a = record { first_of = first_in g.H.RunNaming.config }

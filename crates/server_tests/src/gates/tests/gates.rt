@@ -93,7 +93,7 @@ where
 
     ghost attends = { λ _ _ _ _. Unit {0} };
 
-    fn attend<H: RunNaming>(
+    fn attend<H: RunNaming + Send + Sync>(
         self,
         cluster: &Cluster<H>,
         _seen: &mut SeenRun<H>,
@@ -190,7 +190,12 @@ impl Gate for Meeting {
         if self.see(rt, node, true) {
             *self.met.lock(rt) = true;
         }
-        self.holds_until_met(rt)
+        let is_met = self.holds_until_met(rt);
+        if !is_met {
+            // It gives up, so it is not inside any more.
+            self.see(rt, node, false);
+        }
+        is_met
     }
 
     fn answered<R: Wait>(&self, rt: &R, node: u8, taking: u64) {

@@ -1,22 +1,21 @@
-use Rattle.std.proofs.Common.{◌-◌, ◌+◌, ◌++◌, List, map, refl, sym, ◌∙◌, ap, arith, append-nil}
+use Rattle.std.proofs.Common.{◌-◌, ◌+◌, ◌++◌, map, refl, sym, ◌∙◌, ap, arith, append-nil}
 use Rattle.std.specs.Arc.{arc_value}
 use Rattle.std.proofs.lemmas.Bool.{false≢true}
-use Rattle.streams.specs.declared.link.Link.{Link}
 use Rattle.streams.proofs.BusyAdded.{adds_at, adds_join, adds_none, adds_wider, between_more, between_none}
 use Rattle.streams.proofs.links.Links.add_between.Goals as goal
 use Rattle.streams.proofs.links.Links.add_between.Goals.{then-add_at, else-add_at}
 
 pub loop-index-init : goal.loop-index-init
-loop-index-init c = record {
+loop-index-init g c = record {
   all = λ _.
-      sym (ap (λ (links : List Link). map arc_value c.args.busy.now.items ++ links)
+      sym (ap (λ links. map arc_value c.args.busy.now.items ++ links)
       (between_none arc_value c.args.idle c.args.self.now.slots c.args.first)
       ∙ append-nil (map arc_value c.args.busy.now.items));
   adds = adds_none _ _ _ _ refl;
 }
 
 pub loop-index-preserved : goal.loop-index-preserved
-loop-index-preserved c = record {
+loop-index-preserved g c = record {
   all = elim c.if-add_at.branch [
     | then-add_at w ↦ λ had.
         between_more arc_value c.args.idle c.args.self.now.slots c.args.first c.loop-index.index _ _ _ (omega arith)
@@ -32,6 +31,6 @@ loop-index-preserved c = record {
 }
 
 pub returns-clause-adds : goal.returns-clause-adds
-returns-clause-adds c =
+returns-clause-adds g c =
     adds_wider c.args.idle (c.loop-index.index - c.args.first) (c.args.end - c.args.first) _ _ c.loop-index.invariant.adds
     (omega arith)

@@ -4,4 +4,4 @@ use Rattle.streams.specs.ListedConnections.{connection_listed_at}
 use Rattle.streams.proofs.links.Links.first_from.Given as goal
 
 abbrev pub invariant-loop-index : goal.invariant-loop-index
-invariant-loop-index l = (index : ℕ) → l.first ≤ index → index < l.index → connection_listed_at (get l.self.slots index) ≡ None
+invariant-loop-index g l = (index : ℕ) → l.first ≤ index → index < l.index → connection_listed_at (get l.self.slots index) ≡ None

@@ -6,6 +6,6 @@ use Rattle.server.proofs.node_threads.shared.Shared.take_queued.Given as goal
 
 abbrev pub invariant-loop-item : goal.invariant-loop-item
 invariant-loop-item g l = record {
-  queued : Each (IsQueued g.H.RunNaming.nodes g.H.RunNaming.config l.self.context.peer.now.number) (into_iter_items l.item-iterator);
+  queued : Each (IsQueued g.H.RunNaming.linked g.H.RunNaming.nodes g.H.RunNaming.config l.self.context.peer.now.number) (into_iter_items l.item-iterator);
   own : SendsMore l.initial.own l.own;
 }

@@ -3,6 +3,7 @@ use Rattle.std.proofs.Common.{◌≡◌, ℕ, ◌+◌, ◌==◌, Bool, true, fal
 use Rattle.std.specs.Prelude.{slice_get}
 use Rattle.std.proofs.lemmas.List.{append-nil}
 use Rattle.std.proofs.lemmas.Bool.Decides.{nat_tests}
+use mathlib.Core.List.{IsPrefix}
 use Rattle.ballot_base.specs.declared.config.Config.{Config}
 use Rattle.ballot_base.specs.declared.message.Effect.{Effect}
 use Rattle.broker_spec.specs.declared.command.Command.{Command}
@@ -12,12 +13,12 @@ use Rattle.world_base.specs.node_core.Core.{CoreState}
 use Rattle.run_history.specs.declared.event.NodeAct.{NodeAct}
 use Rattle.run_history.specs.declared.event.NodeAct.TheVariants.{HandsOver, Takes}
 use Rattle.run_history.specs.declared.event.RunEvent.{RunEvent}
-use Rattle.run_history.specs.declared.event.RunEvent.TheVariants.{ByMaster, ByNode, Opens}
+use Rattle.run_history.specs.declared.event.RunEvent.TheVariants.{ByLink, ByMaster, ByNode, Opens}
 use Rattle.run_history.specs.Log.{events_by, is_by, nodes_after, nodes_in}
 use Rattle.run_history.specs.Parties.{DidAct, NodeView}
 use Rattle.run_history.proofs.LongerLogs.{events_append, nodes_append, untouched}
-use Rattle.streams.specs.HandedBytes.{bytes_of, bytes_of_act, handed_at, handed_from}
-use Rattle.streams.specs.Theorems.{HandOversAddUp, StepsHandOverNothing}
+use Rattle.node.specs.HandedBytes.{bytes_of, bytes_of_act, handed_at, handed_from}
+use Rattle.node.specs.Theorems.{HandOversAddUp, StepsHandOverNothing}
 
 handed_append : (index : ℕ) (port : Port) (nodes : List CoreState) (xs ys : List RunEvent)
     → handed_from index port nodes (xs ++ ys) ≡ handed_from index port nodes xs ++ handed_from index port (nodes_after nodes xs) ys
@@ -36,6 +37,7 @@ none_of : (index : ℕ) (port : Port) (nodes : List CoreState) (x : RunEvent) (m
 none_of index port nodes x more true is none = absurd (omega (arith, none))
 none_of index port nodes (Opens group) more false is none = refl
 none_of index port nodes (ByMaster event) more false is none = refl
+none_of index port nodes (ByLink brought) more false is none = refl
 none_of index port nodes (ByNode event) more false is none =
     let other : (event.node == index) ≡ false = grind (arith, nat_tests, is) in
     ap (λ c. if c then bytes_of_act event.act port (slice_get nodes index) else []) other
@@ -47,6 +49,11 @@ none_from index port nodes (x ∷ xs) none =
     let first : bytes_of index port nodes x ≡ [] = none_of index port nodes x (events_by (index + 1) xs) (is_by (index + 1) x) refl none in
     let next : handed_from index port (nodes_after nodes (x ∷ [])) xs ≡ [] = none_from index port (nodes_after nodes (x ∷ [])) xs (omega (arith, none)) in
     λ i. first i ++ next i
+
+-- a node without events handed over nothing
+pub none_handed : (nodes : ℕ) (config : Config) (index : ℕ) (port : Port) (log : List RunEvent) → events_by (index + 1) log ≡ 0
+    → handed_at nodes config index port log ≡ []
+none_handed nodes config index port log none = none_from index port (nodes_in nodes config []) log none
 
 -- what an act of a node hands over comes after what it had handed over
 did_hand : (nodes : ℕ) (config : Config) (old new : NodeView) (act : NodeAct) (given : List (Effect Command Output)) (port : Port)
@@ -85,3 +92,12 @@ pub steps_hand_over_nothing : StepsHandOverNothing
 steps_hand_over_nothing nodes config old new item port before after took =
     did_hand nodes config old new (Takes item) took.stepped.given port took.did
     ∙ append-nil (handed_at nodes config old.index port old.log)
+
+-- by a longer log no less was handed over
+pub handed_longer : (nodes : ℕ) (config : Config) (index : ℕ) (port : Port) (xs ys : List RunEvent) → IsPrefix xs ys
+    → IsPrefix (handed_at nodes config index port xs) (handed_at nodes config index port ys)
+handed_longer nodes config index port xs ys longer =
+    let first = nodes_in nodes config [] in (
+      handed_from index port (nodes_after first xs) longer.0,
+      sym (handed_append index port first xs longer.0) ∙ ap (handed_from index port first) longer.1,
+    )
