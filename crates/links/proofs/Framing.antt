@@ -2,8 +2,8 @@
 use Rattle.std.proofs.Common.{◌≡◌, ℕ, zero, suc, ◌+◌, ◌-◌, ◌/◌, ◌<◌, ◌≤◌, Option, Some, None, List, [], ◌∷◌, ◌++◌, length, take, drop, refl, sym, ap, ◌∙◌, subst, arith, append_assoc, append-nil, length-append}
 use Rattle.std.proofs.lemmas.List.{length-drop, length-take-le, take-append-drop, take-append-le}
 use Rattle.std.specs.Io.KnownBytes.{Appends}
-use Rattle.seal.specs.Frames.{Place, moved_on}
-use Rattle.seal.specs.FrameStreams.{sealed, all_sealed}
+use Rattle.links.specs.seal.Frames.{Place, moved_on}
+use Rattle.links.specs.seal.FrameStreams.{sealed, all_sealed}
 use Rattle.links.specs.Devices.{WritesPrefix}
 use Rattle.links.specs.Links.{AreShort, bytes_in, place_after}
 use Rattle.links.specs.Written.{in_frames, frames_of}

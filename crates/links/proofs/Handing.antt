@@ -5,15 +5,15 @@ use Rattle.std.proofs.lemmas.List.{map-append}
 use Rattle.std.proofs.lemmas.List.Concat.{flat_map-append}
 use Rattle.std.proofs.lemmas.Nat.{from_be_bytes-to_be_bytes_4}
 use Rattle.lists.specs.Lists.{Each, IsPrefixOf}
-use Rattle.frames.specs.Parts.{parts_of}
-use Rattle.frames.specs.Theorems.{Joined}
-use Rattle.frames.specs.Theorems.Joined.{opens, feeds, gives}
-use Rattle.frames.proofs.Longer.{longer}
-use Rattle.frames.proofs.Joinings.{what_is_joined_was_cut}
-use Rattle.seal.specs.Frames.{Place, frame_tag, moved_on}
-use Rattle.seal.specs.FrameStreams.{sealed, all_sealed}
-use Rattle.seal.specs.Hellos.{hello_bytes}
-use Rattle.seal.proofs.SealedFrames.{one_key}
+use Rattle.links.specs.frames.Parts.{parts_of}
+use Rattle.links.specs.frames.Theorems.{Joined}
+use Rattle.links.specs.frames.Theorems.Joined.{opens, feeds, gives}
+use Rattle.links.proofs.of_frames.Longer.{longer}
+use Rattle.links.proofs.of_frames.Joinings.{what_is_joined_was_cut}
+use Rattle.links.specs.seal.Frames.{Place, frame_tag, moved_on}
+use Rattle.links.specs.seal.FrameStreams.{sealed, all_sealed}
+use Rattle.links.specs.seal.Hellos.{hello_bytes}
+use Rattle.links.proofs.of_seal.SealedFrames.{one_key}
 use Rattle.topics.specs.declared.malformed.MalformedKind.{MalformedKind}
 use Rattle.links.specs.declared.parcel.Parcel.{Parcel}
 use Rattle.links.specs.declared.parcel.Way.{Way}

@@ -3,11 +3,11 @@ use Rattle.std.proofs.Common.{◌≡◌, ℕ, suc, ◌+◌, ◌<◌, ◌≤◌, 
 use Rattle.std.specs.Prelude.{◌≢◌, if◌then◌else◌}
 use Rattle.std.specs.Io.KnownBytes.{Consumes}
 use Rattle.std.proofs.lemmas.List.{length-take-le, take_all}
-use Rattle.seal.specs.declared.hello.Hello.{Hello}
-use Rattle.seal.specs.declared.hello.HelloFault.{HelloFault}
-use Rattle.seal.specs.declared.hello.HelloFault.TheVariants.{Unfinished, Version, Rules, Cluster}
-use Rattle.seal.specs.declared.membership.Membership.{Membership}
-use Rattle.seal.specs.Hellos.{and_then, checked, cluster_checked, hello_at, hello_of, rules_at, rules_checked, version_at, version_checked, whole}
+use Rattle.links.specs.declared.seal.hello.Hello.{Hello}
+use Rattle.links.specs.declared.seal.hello.HelloFault.{HelloFault}
+use Rattle.links.specs.declared.seal.hello.HelloFault.TheVariants.{Unfinished, Version, Rules, Cluster}
+use Rattle.links.specs.declared.seal.membership.Membership.{Membership}
+use Rattle.links.specs.seal.Hellos.{and_then, checked, cluster_checked, hello_at, hello_of, rules_at, rules_checked, version_at, version_checked, whole}
 use Rattle.links.specs.Handshakes.{ReadsBehind}
 
 -- ---- 55 bytes are a whole hello, or have a fault

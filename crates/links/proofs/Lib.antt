@@ -1,3 +1,7 @@
+pub mod of_frames
+pub mod of_link_queue
+pub mod of_message_form
+pub mod of_seal
 pub mod ParcelsAgain
 pub mod ParcelsFound
 pub mod Opening

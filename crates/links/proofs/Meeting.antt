@@ -2,12 +2,12 @@
 use Rattle.std.proofs.Common.{◌≡◌, ℕ, ◌+◌, ◌≤◌, ◌↔◌, Bool, true, false, Option, List, [], ◌++◌, length, take, Ok, refl, sym, ap, ◌∙◌, subst, arith, length-append}
 use Rattle.std.specs.Io.KnownBytes.{Appends, Consumes}
 use Rattle.std.proofs.lemmas.List.{take-append-le, take_all}
-use Rattle.seal.specs.Frames.{Opening, Place}
-use Rattle.seal.specs.Hellos.{hello_bytes, hello_of}
-use Rattle.seal.specs.Keys.{derived_at, other_side, proves, seals}
-use Rattle.seal.specs.declared.hello.Hello.{Hello}
-use Rattle.seal.specs.declared.keys.Side.{Side}
-use Rattle.seal.specs.declared.membership.Membership.{Membership}
+use Rattle.links.specs.seal.Frames.{Opening, Place}
+use Rattle.links.specs.seal.Hellos.{hello_bytes, hello_of}
+use Rattle.links.specs.seal.Keys.{derived_at, other_side, proves, seals}
+use Rattle.links.specs.declared.seal.hello.Hello.{Hello}
+use Rattle.links.specs.declared.seal.keys.Side.{Side}
+use Rattle.links.specs.declared.seal.membership.Membership.{Membership}
 use Rattle.links.specs.Devices.{WritesPrefix}
 use Rattle.links.specs.Handshakes.{IsNoProof, Meets, WritesSome, wanted, written_by}
 use Rattle.links.proofs.Hellos.{consumes_join, take_behind}

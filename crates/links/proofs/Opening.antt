@@ -2,8 +2,8 @@
 use Rattle.std.proofs.Common.{◌≡◌, ℕ, ◌+◌, ◌<◌, List, [], ◌∷◌, ◌++◌, length, refl, sym, ap, ◌∙◌, arith, append_assoc, append-nil, length-append}
 use Rattle.std.specs.Int.{w32, to_be_bytes}
 use Rattle.std.proofs.lemmas.List.Concat.{flat_map-append}
-use Rattle.seal.specs.Frames.{Place, frame_tag, moved_on}
-use Rattle.seal.specs.FrameStreams.{sealed, all_sealed}
+use Rattle.links.specs.seal.Frames.{Place, frame_tag, moved_on}
+use Rattle.links.specs.seal.FrameStreams.{sealed, all_sealed}
 use Rattle.links.specs.Links.{LinkView, AreShort, bytes_in, place_after}
 use Rattle.links.specs.Inside.{Opens}
 

@@ -11,12 +11,12 @@ use Rattle.ballot_base.specs.declared.status.Status.{Status}
 use Rattle.ballot_base.specs.declared.message.Body.{Body}
 use Rattle.ballot_base.specs.declared.message.Body.TheVariants as bodies
 use Rattle.broker_spec.specs.declared.command.Command.{Command}
-use Rattle.message_form.specs.Numbers.{wide_number, IsWide}
-use Rattle.message_form.specs.Messages.{kind_of}
-use Rattle.message_form.specs.CommandReading.{client_at}
-use Rattle.message_form.proofs.CommandsAgain.{wide_again}
-use Rattle.message_form.proofs.MessagesAgain.{written_is_read}
-use Rattle.message_form.proofs.Lengths.{others_are_short}
+use Rattle.links.specs.message_form.Numbers.{wide_number, IsWide}
+use Rattle.links.specs.message_form.Messages.{kind_of}
+use Rattle.links.specs.message_form.CommandReading.{client_at}
+use Rattle.links.proofs.of_message_form.CommandsAgain.{wide_again}
+use Rattle.links.proofs.of_message_form.MessagesAgain.{written_is_read}
+use Rattle.links.proofs.of_message_form.Lengths.{others_are_short}
 use Rattle.links.specs.declared.parcel.Parcel.TheVariants as parcels
 use Rattle.links.specs.Parcels.{role_number, status_bytes}
 use Rattle.links.specs.ParcelReading.{role_at, status_at, welcome_at, report_at, expel_at, whole_notice}

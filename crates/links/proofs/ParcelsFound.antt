@@ -17,12 +17,12 @@ use Rattle.ballot_base.specs.declared.status.Role.{Role}
 use Rattle.ballot_base.specs.declared.status.Status.{Status}
 use Rattle.ballot_base.specs.declared.message.Message.{Message}
 use Rattle.broker_spec.specs.declared.command.Command.{Command}
-use Rattle.message_form.specs.Numbers.{wide_number, wide_number_at, IsWide}
-use Rattle.message_form.specs.CommandReading.{client_at}
-use Rattle.message_form.specs.Messages.{written, IsMessage}
-use Rattle.message_form.specs.Outcome.{faulted, message_of, Yields}
-use Rattle.message_form.proofs.CommandsFound.{Found, IsFoundSo, wide_found}
-use Rattle.message_form.proofs.MessagesFound.{read_is_written}
+use Rattle.links.specs.message_form.Numbers.{wide_number, wide_number_at, IsWide}
+use Rattle.links.specs.message_form.CommandReading.{client_at}
+use Rattle.links.specs.message_form.Messages.{written, IsMessage}
+use Rattle.links.specs.message_form.Outcome.{faulted, message_of, Yields}
+use Rattle.links.proofs.of_message_form.CommandsFound.{Found, IsFoundSo, wide_found}
+use Rattle.links.proofs.of_message_form.MessagesFound.{read_is_written}
 use Rattle.links.specs.declared.parcel.Parcel.{Parcel}
 use Rattle.links.specs.Parcels.{role_number, status_bytes, parcel_bytes, IsParcel}
 use Rattle.links.specs.ParcelReading.{role_of, role_at, status_at, welcome_at, report_at, expel_at, notice_of_kind, whole_notice, is_notice, carried, parcel_of, IsReadFrom}

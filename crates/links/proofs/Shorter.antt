@@ -2,11 +2,11 @@
 use Rattle.std.proofs.Common.{◌≡◌, ℕ, ◌+◌, ◌-◌, ◌<◌, ◌≤◌, List, [], ◌∷◌, ◌++◌, length, drop, ap, arith, length-append}
 use Rattle.std.specs.Int.{w32, to_be_bytes}
 use Rattle.std.proofs.lemmas.List.{length-drop}
-use Rattle.frames.specs.Fronts.{Front, Begins, behind, bytes_of, after}
-use Rattle.frames.specs.Fronts.Front.{whole, unfinished, broken}
-use Rattle.frames.specs.Fronts.Begins.{in_head, faulty, in_part, ends, goes_on}
-use Rattle.seal.specs.Frames.{Place, frame_tag, moved_on}
-use Rattle.seal.specs.FrameStreams.{sealed, all_sealed}
+use Rattle.links.specs.frames.Fronts.{Front, Begins, behind, bytes_of, after}
+use Rattle.links.specs.frames.Fronts.Front.{whole, unfinished, broken}
+use Rattle.links.specs.frames.Fronts.Begins.{in_head, faulty, in_part, ends, goes_on}
+use Rattle.links.specs.seal.Frames.{Place, frame_tag, moved_on}
+use Rattle.links.specs.seal.FrameStreams.{sealed, all_sealed}
 use Rattle.links.specs.declared.parcel.Parcel.{Parcel}
 use Rattle.links.specs.Links.{LinkView, Hands, bytes_in, max_parcel}
 

@@ -1,9 +1,9 @@
 -- Stepping.antt: frames that are opened, and a parcel that is taken, are one step of a reader.
 use Rattle.std.proofs.Common.{◌≡◌, ℕ, ◌≤◌, Bool, length, true, false, List, [], ◌∷◌, ◌++◌, refl, sym, ap, ◌∙◌, subst, append-nil}
-use Rattle.frames.specs.Fronts.{Begins, Stream}
-use Rattle.frames.specs.Fronts.Front.{whole, unfinished}
-use Rattle.seal.specs.Frames.{Place}
-use Rattle.seal.specs.FrameStreams.{Accepts, FrameStream, sealed, all_sealed}
+use Rattle.links.specs.frames.Fronts.{Begins, Stream}
+use Rattle.links.specs.frames.Fronts.Front.{whole, unfinished}
+use Rattle.links.specs.seal.Frames.{Place}
+use Rattle.links.specs.seal.FrameStreams.{Accepts, FrameStream, sealed, all_sealed}
 use Rattle.links.specs.declared.parcel.Parcel.{Parcel}
 use Rattle.links.specs.declared.parcel.Way.{Way}
 use Rattle.links.specs.declared.link_fault.LinkFault.{LinkFault}

@@ -1,10 +1,10 @@
 -- The faults of a link's reader, by those of its parts.
 use Rattle.topics.specs.declared.malformed.MalformedKind.{MalformedKind}
 use Rattle.topics.specs.declared.malformed.MalformedKind.TheVariants as kinds
-use Rattle.seal.specs.declared.frame_reader.FrameError.{FrameError}
-use Rattle.seal.specs.declared.frame_reader.FrameError.TheVariants as frame_errors
-use Rattle.frames.specs.declared.error.JoinError.{JoinError}
-use Rattle.frames.specs.declared.error.JoinError.TheVariants as join_errors
+use Rattle.links.specs.declared.seal.frame_reader.FrameError.{FrameError}
+use Rattle.links.specs.declared.seal.frame_reader.FrameError.TheVariants as frame_errors
+use Rattle.links.specs.declared.frames.error.JoinError.{JoinError}
+use Rattle.links.specs.declared.frames.error.JoinError.TheVariants as join_errors
 use Rattle.links.specs.declared.link_fault.LinkFault.{LinkFault}
 use Rattle.links.specs.declared.link_fault.LinkFault.TheVariants.{TooLong, Tag, Spent, Part, Malformed, Memory, Failed}
 

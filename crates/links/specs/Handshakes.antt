@@ -1,13 +1,13 @@
 -- How two ends of a connection begin: each sends its hello, and then proves that it has the key.
 use Rattle.std.specs.Prelude.{◌≡◌, ◌≢◌, ℕ, ◌+◌, ◌<◌, ◌≤◌, false, Option, List, ◌++◌, length, take, Ok, Err}
 use Rattle.std.specs.Io.KnownBytes.{Appends, Consumes}
-use Rattle.seal.specs.Frames.{Place, Opening}
-use Rattle.seal.specs.Hellos.{hello_bytes, hello_of}
-use Rattle.seal.specs.Keys.{derived_at, other_side, proves, seals}
-use Rattle.seal.specs.declared.hello.Hello.{Hello}
-use Rattle.seal.specs.declared.hello.HelloFault.TheVariants.{Unfinished}
-use Rattle.seal.specs.declared.keys.Side.{Side}
-use Rattle.seal.specs.declared.membership.Membership.{Membership}
+use Rattle.links.specs.seal.Frames.{Place, Opening}
+use Rattle.links.specs.seal.Hellos.{hello_bytes, hello_of}
+use Rattle.links.specs.seal.Keys.{derived_at, other_side, proves, seals}
+use Rattle.links.specs.declared.seal.hello.Hello.{Hello}
+use Rattle.links.specs.declared.seal.hello.HelloFault.TheVariants.{Unfinished}
+use Rattle.links.specs.declared.seal.keys.Side.{Side}
+use Rattle.links.specs.declared.seal.membership.Membership.{Membership}
 use Rattle.links.specs.declared.handshake.HandshakeFault.{HandshakeFault}
 use Rattle.links.specs.declared.handshake.HandshakeFault.TheVariants as faults
 use Rattle.links.specs.Devices.{WritesPrefix}

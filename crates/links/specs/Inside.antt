@@ -1,8 +1,8 @@
 -- What the parts of `LinkReader::next` do. Cited by private clauses alone.
 use Rattle.std.specs.Prelude.{◌≡◌, ℕ, List, [], ◌∷◌, ◌++◌}
-use Rattle.frames.specs.Fronts.{Begins}
-use Rattle.frames.specs.Fronts.Front.{whole}
-use Rattle.seal.specs.FrameStreams.{all_sealed}
+use Rattle.links.specs.frames.Fronts.{Begins}
+use Rattle.links.specs.frames.Fronts.Front.{whole}
+use Rattle.links.specs.seal.FrameStreams.{all_sealed}
 use Rattle.links.specs.declared.parcel.Parcel.{Parcel}
 use Rattle.links.specs.Parcels.{parcel_bytes}
 use Rattle.links.specs.Links.{LinkView, AreShort, Comes, bytes_in, max_parcel, place_after}

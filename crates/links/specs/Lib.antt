@@ -1,3 +1,7 @@
+pub mod frames
+pub mod link_queue
+pub mod message_form
+pub mod seal
 pub mod Parcels
 pub mod ParcelReading
 pub mod Room

@@ -1,10 +1,10 @@
 -- What a link's reader is, and what its calls do.
 use Rattle.std.specs.Prelude.{◌≡◌, ℕ, ◌+◌, ◌^◌, ◌≤◌, Bool, List, [], ◌∷◌, ◌++◌, length, map, flat_map, None}
 use Rattle.lists.specs.Lists.{Each}
-use Rattle.frames.specs.Fronts.{Begins}
-use Rattle.frames.specs.Fronts.Front.{whole, unfinished}
-use Rattle.seal.specs.Frames.{Place}
-use Rattle.seal.specs.FrameStreams.{IsUnfinished, all_sealed}
+use Rattle.links.specs.frames.Fronts.{Begins}
+use Rattle.links.specs.frames.Fronts.Front.{whole, unfinished}
+use Rattle.links.specs.seal.Frames.{Place}
+use Rattle.links.specs.seal.FrameStreams.{IsUnfinished, all_sealed}
 use Rattle.links.specs.declared.parcel.Parcel.{Parcel}
 use Rattle.links.specs.declared.parcel.Way.{Way}
 use Rattle.links.specs.Parcels.{parcel_bytes, IsParcel}

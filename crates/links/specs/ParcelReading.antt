@@ -10,10 +10,10 @@ use Rattle.ballot_base.specs.declared.status.Role.TheVariants as roles
 use Rattle.ballot_base.specs.declared.status.Status.{Status}
 use Rattle.ballot_base.specs.declared.message.Message.{Message}
 use Rattle.broker_spec.specs.declared.command.Command.{Command}
-use Rattle.message_form.specs.Numbers.{wide_number_at}
-use Rattle.message_form.specs.CommandReading.{client_at}
-use Rattle.message_form.specs.Growth.{message_asks}
-use Rattle.message_form.specs.Outcome.{faulted, message_of}
+use Rattle.links.specs.message_form.Numbers.{wide_number_at}
+use Rattle.links.specs.message_form.CommandReading.{client_at}
+use Rattle.links.specs.message_form.Growth.{message_asks}
+use Rattle.links.specs.message_form.Outcome.{faulted, message_of}
 use Rattle.links.specs.Parcels.{parcel_bytes, IsParcel}
 use Rattle.links.specs.declared.parcel.Parcel.{Parcel}
 use Rattle.links.specs.declared.parcel.Parcel.TheVariants as parcels

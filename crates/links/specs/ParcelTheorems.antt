@@ -1,7 +1,7 @@
 -- Each parcel has one spelling, which is read as that parcel, and begins no other.
 use Rattle.std.specs.Prelude.{◌≡◌, ℕ, ◌<◌, ◌^◌, Bool, false, List, length, Ok, IfOk}
 use Rattle.packet_base.specs.Readers.{AreBytes}
-use Rattle.message_form.specs.Theorems.{has_log}
+use Rattle.links.specs.message_form.Theorems.{has_log}
 use Rattle.links.specs.Parcels.{parcel_bytes, IsParcel}
 use Rattle.links.specs.ParcelReading.{parcel_of, IsReadFrom}
 use Rattle.links.specs.declared.parcel.Parcel.{Parcel}

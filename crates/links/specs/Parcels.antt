@@ -6,8 +6,8 @@ use Rattle.packet_base.specs.ClientId.{is_client}
 use Rattle.ballot_base.specs.declared.status.Role.{Role}
 use Rattle.ballot_base.specs.declared.status.Role.TheVariants as roles
 use Rattle.ballot_base.specs.declared.status.Status.{Status}
-use Rattle.message_form.specs.Numbers.{wide_number, IsWide}
-use Rattle.message_form.specs.Messages.{written, IsMessage}
+use Rattle.links.specs.message_form.Numbers.{wide_number, IsWide}
+use Rattle.links.specs.message_form.Messages.{written, IsMessage}
 use Rattle.links.specs.declared.parcel.Parcel.{Parcel}
 use Rattle.links.specs.declared.parcel.Parcel.TheVariants as parcels
 

@@ -1,7 +1,7 @@
 -- When a parcel is not written.
 use Rattle.std.specs.Prelude.{ℕ, Vec}
-use Rattle.message_form.specs.Messages as messages
-use Rattle.message_form.specs.Room as message_room
+use Rattle.links.specs.message_form.Messages as messages
+use Rattle.links.specs.message_form.Room as message_room
 use Rattle.links.specs.Parcels.{parcel_bytes}
 use Rattle.links.specs.declared.parcel.Parcel.{Parcel}
 use Rattle.links.specs.declared.parcel.Parcel.TheVariants as parcels

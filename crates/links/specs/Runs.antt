@@ -1,13 +1,13 @@
 -- What is read over a link, and what was written to it, over any sequence of calls.
 use Rattle.std.specs.Prelude.{◌≡◌, ℕ, false, List, [], ◌∷◌, ◌++◌, map}
 use Rattle.lists.specs.Lists.{IsPrefixOf}
-use Rattle.seal.specs.Frames.{Place}
-use Rattle.seal.specs.FrameStreams.{all_sealed}
-use Rattle.frames.specs.Theorems.{Joined}
-use Rattle.seal.specs.declared.hello.Hello.{Hello}
-use Rattle.seal.specs.declared.keys.Side.{Side}
-use Rattle.seal.specs.Hellos.{hello_bytes}
-use Rattle.seal.specs.Keys.{other_side}
+use Rattle.links.specs.seal.Frames.{Place}
+use Rattle.links.specs.seal.FrameStreams.{all_sealed}
+use Rattle.links.specs.frames.Theorems.{Joined}
+use Rattle.links.specs.declared.seal.hello.Hello.{Hello}
+use Rattle.links.specs.declared.seal.keys.Side.{Side}
+use Rattle.links.specs.seal.Hellos.{hello_bytes}
+use Rattle.links.specs.seal.Keys.{other_side}
 use Rattle.links.specs.declared.parcel.Parcel.{Parcel}
 use Rattle.links.specs.declared.parcel.Way.{Way}
 use Rattle.links.specs.Handshakes.{opens_from, sends_from}

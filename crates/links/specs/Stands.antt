@@ -1,9 +1,9 @@
 -- Why a link's reader hands nothing over: the fault that stands where it came to.
 use Rattle.std.specs.Prelude.{◌≡◌, ℕ, true, List, [], Some, Err}
-use Rattle.frames.specs.Fronts.{Begins}
-use Rattle.frames.specs.Fronts.Front.{whole, unfinished, broken}
-use Rattle.seal.specs.Frames.{spent}
-use Rattle.seal.specs.FrameStreams.{BearsAnother, IsTooLong}
+use Rattle.links.specs.frames.Fronts.{Begins}
+use Rattle.links.specs.frames.Fronts.Front.{whole, unfinished, broken}
+use Rattle.links.specs.seal.Frames.{spent}
+use Rattle.links.specs.seal.FrameStreams.{BearsAnother, IsTooLong}
 use Rattle.links.specs.declared.parcel.Parcel.{Parcel}
 use Rattle.links.specs.declared.parcel.Way.{Way}
 use Rattle.links.specs.declared.link_fault.LinkFault.{LinkFault}

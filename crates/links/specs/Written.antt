@@ -1,8 +1,8 @@
 -- What a link's writer is, and the frames that it writes.
 use Rattle.std.specs.Prelude.{◌⊎◌, ℕ, zero, suc, ◌-◌, ◌/◌, ◌<◌, ◌≤◌, Bool, List, [], ◌∷◌, ◌++◌, length, take, drop}
-use Rattle.frames.specs.Parts.{parts_of}
-use Rattle.seal.specs.Frames.{Place}
-use Rattle.seal.specs.FrameStreams.{all_sealed}
+use Rattle.links.specs.frames.Parts.{parts_of}
+use Rattle.links.specs.seal.Frames.{Place}
+use Rattle.links.specs.seal.FrameStreams.{all_sealed}
 use Rattle.links.specs.declared.parcel.Parcel.{Parcel}
 use Rattle.links.specs.Links.{max_frame, max_parcel, place_after}
 use Rattle.links.specs.Parcels.{parcel_bytes, IsParcel}

@@ -7,14 +7,14 @@
 
 ghost use Rattle.std.specs.Prelude.{◌≡◌, ◌≢◌, ◌++◌, ◌≤◌, ◌<◌, Ok, Err, length, IfOk, IfErr, IfSome, OnOk, OnErr};
 ghost use Rattle.std.specs.Io.KnownBytes.{Appends, Consumes, Keeps};
-ghost use Rattle.seal.specs.Hellos.{hello_bytes, hello_of};
-ghost use Rattle.seal.specs.Keys.{derived_at, proves};
+ghost use Rattle.links.specs.seal.Hellos.{hello_bytes, hello_of};
+ghost use Rattle.links.specs.seal.Keys.{derived_at, proves};
 ghost use Rattle.links.specs.Devices.{WritesPrefix};
 ghost use Rattle.links.specs.Handshakes.{FailsSo, HelloFails, IsOfDevice, Meets};
 ghost use Rattle.links.specs.Handshakes.{ReadsBehind, WritesSome};
 
 use crate::devices::{DeviceFault, read_piece, write_whole};
-use seal::{
+use crate::seal::{
     HELLO_BYTES, Hello, HelloFault, Membership, Opener, Sealer, Side, is_proof, proof, session,
 };
 use std::error::Error;

@@ -1,17 +1,23 @@
-//! The two engines of a link between nodes, over any device: what is read from it, and what is
-//! written to it, after two ends have met.
+//! Links between nodes. The two engines of a link, over any device: what is read from it, and what
+//! is written to it, after two ends have met. Below them the layers that they join: messages as
+//! bytes (`message_form`), parts of messages (`frames`), seals of frames and hellos (`seal`), what
+//! waits for a link (`link_queue`).
 #![tactic(auto)]
 
 mod devices;
+pub mod frames;
 mod handshake;
 mod link_fault;
+pub mod link_queue;
 mod link_reader;
 mod link_writer;
+pub mod message_form;
 mod parcel;
 mod parcel_readers;
 mod parcel_writers;
 mod reading;
 mod rows;
+pub mod seal;
 mod sink;
 mod theorems;
 

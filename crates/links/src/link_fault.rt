@@ -3,10 +3,10 @@
 ghost use Rattle.std.specs.Prelude.{◌≡◌};
 ghost use Rattle.links.specs.Faults.{frame_fault, join_fault, kind_fault};
 
+use crate::frames::{JoinError, PartFault};
 use crate::parcel::WayFault;
-use frames::{JoinError, PartFault};
+use crate::seal::FrameError;
 use machine::MEMORY_TEXT;
-use seal::FrameError;
 use std::error::Error;
 use std::fmt;
 use topics::MalformedKind;

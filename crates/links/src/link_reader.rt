@@ -6,9 +6,9 @@
 // fault is final: what comes after it is not known to be the next.
 
 ghost use Rattle.std.specs.Prelude.{◌≡◌, ◌++◌, ◌↔◌, ◌∷◌, [], true, false, length, IfOk, IfErr, IfSome, IfNone, OnOk, OnErr, IsErrOf};
-ghost use Rattle.frames.specs.Fronts.{Begins};
-ghost use Rattle.frames.specs.Fronts.Front.{unfinished};
-ghost use Rattle.seal.specs.FrameStreams.{IsUnfinished};
+ghost use Rattle.links.specs.frames.Fronts.{Begins};
+ghost use Rattle.links.specs.frames.Fronts.Front.{unfinished};
+ghost use Rattle.links.specs.seal.FrameStreams.{IsUnfinished};
 ghost use Rattle.links.specs.Parcels.{parcel_bytes};
 ghost use Rattle.links.specs.Links.{Comes, Hands, IsDry};
 ghost use Rattle.links.specs.Stands.{FrameStands, IsRefused, PartsStand};
@@ -17,11 +17,11 @@ ghost use Rattle.links.specs.Links.{with_bytes};
 ghost use Rattle.links.specs.Stands.{Refuses};
 ghost use Rattle.links.specs.Inside.{OpensOne, Takes};
 
+use crate::frames::Joiner;
 use crate::link_fault::LinkFault;
 use crate::parcel::{Parcel, Way};
 use crate::parcel_readers::read_parcel;
-use frames::Joiner;
-use seal::{FrameReader, Opener};
+use crate::seal::{FrameReader, Opener};
 use std::alloc::Global;
 use std::marker::Model;
 

@@ -7,9 +7,9 @@
 
 ghost use Rattle.std.specs.Prelude.{◌≡◌, ◌⊎◌, ◌++◌, ◌<◌, ◌≤◌, ◌↔◌, [], true, false, length, OnOk, OnErr, IsErrOf};
 ghost use Rattle.std.specs.Io.KnownBytes.{Appends, Keeps};
-ghost use Rattle.frames.specs.Parts.{parts_of};
-ghost use Rattle.seal.specs.Frames.{moved_on};
-ghost use Rattle.seal.specs.FrameStreams.{all_sealed, sealed};
+ghost use Rattle.links.specs.frames.Parts.{parts_of};
+ghost use Rattle.links.specs.seal.Frames.{moved_on};
+ghost use Rattle.links.specs.seal.FrameStreams.{all_sealed, sealed};
 ghost use Rattle.links.specs.declared.parcel.Parcel.TheVariants as parcels;
 ghost use Rattle.links.specs.Devices.{WritesPrefix};
 ghost use Rattle.links.specs.Links.{max_parcel, place_after};
@@ -18,15 +18,15 @@ ghost use Rattle.links.specs.Written.{IsCarried, IsTooLong, after_write, frames_
 ghost use Rattle.links.specs.Written.{with_parcel};
 
 use crate::devices::{DeviceFault, write_whole};
+use crate::frames::write_parts;
 use crate::link_reader::{MAX_FRAME, MAX_PARCEL};
+use crate::message_form::{WriteFault, write_message};
 use crate::parcel::Parcel;
 use crate::parcel_writers::write_parcel;
+use crate::seal::{SealError, Sealer};
 use ballot_base::Message;
 use broker_spec::Command;
-use frames::write_parts;
 use machine::MEMORY_TEXT;
-use message_form::{WriteFault, write_message};
-use seal::{SealError, Sealer};
 use std::alloc::Global;
 use std::error::Error;
 use std::fmt;

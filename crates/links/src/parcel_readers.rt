@@ -7,17 +7,17 @@ ghost use Rattle.std.specs.Prelude.{◌≡◌, ◌∷◌, Ok, true, IfOk, IsErrO
 ghost use Rattle.packet_base.specs.ClientId.{is_client};
 ghost use Rattle.packet_base.specs.Outcome.{Gives, IsOutOfMemory, Reads, TakesNoMemory};
 ghost use Rattle.session_base.specs.Form.{flag_at};
-ghost use Rattle.message_form.specs.CommandReading.{client_at};
-ghost use Rattle.message_form.specs.Numbers.{wide_number_at};
-ghost use Rattle.message_form.specs.Outcome.{fault_of, Yields};
+ghost use Rattle.links.specs.message_form.CommandReading.{client_at};
+ghost use Rattle.links.specs.message_form.Numbers.{wide_number_at};
+ghost use Rattle.links.specs.message_form.Outcome.{fault_of, Yields};
 ghost use Rattle.links.specs.ParcelReading.{expel_at, is_expel, is_notice, notice_of_kind};
 ghost use Rattle.links.specs.ParcelReading.{parcel_of, report_at};
 ghost use Rattle.links.specs.ParcelReading.{role_at, role_of, status_at, welcome_at, whole_notice};
 ghost use Rattle.links.specs.ParcelReading.{IsReadFrom, MayNeedMemory};
 
+use crate::message_form::read_message;
 use crate::parcel::Parcel;
 use ballot_base::{Role, Status};
-use message_form::read_message;
 use packet_base::{ClientId, Reader, Stop, has_client_length};
 use std::alloc::Global;
 use topics::MalformedKind;
@@ -179,7 +179,7 @@ fn role_of(number: u8) -> Result<Role, Stop>
 }
 
 // Reads a number of eight bytes.
-#[tactic(auto, unfolding(message_form::specs::Numbers::wide_number_at))]
+#[tactic(auto, unfolding(crate::specs::message_form::Numbers::wide_number_at))]
 fn read_wide_number(reader: &mut Reader) -> Result<u64, Stop>
     ensures exact { Reads (λ value. value) result reader.new (wide_number_at reader.old) }
     ensures memory { TakesNoMemory result }
@@ -204,7 +204,7 @@ fn read_flag(reader: &mut Reader) -> Result<bool, Stop>
 }
 
 // Reads the text of a Client Identifier; `Identifier` if it does not have 1 to 64 bytes.
-#[tactic(auto, unfolding(message_form::specs::CommandReading::client_at), using(packet_base::proofs::Clients::client_checked))]
+#[tactic(auto, unfolding(crate::specs::message_form::CommandReading::client_at), using(packet_base::proofs::Clients::client_checked))]
 fn read_client<'a>(reader: &mut Reader<'a>) -> Result<&'a str, Stop>
     ensures exact { Reads (λ text. text.now) result reader.new (client_at reader.old) }
     ensures checked { IfOk result (λ text. is_client text.now ≡ true) }

@@ -6,13 +6,13 @@ ghost use Rattle.std.specs.Prelude.{◌≡◌, ◌+◌, ◌<◌, ◌≤◌, ◌^
 ghost use Rattle.std.specs.Prelude.{length, true, vec_len, vec_capacity};
 ghost use Rattle.packet_base.specs.ClientId.{is_client};
 ghost use Rattle.packet_base.specs.Spelling.{bit, text};
-ghost use Rattle.message_form.specs.Numbers.{IsWide};
+ghost use Rattle.links.specs.message_form.Numbers.{IsWide};
 ghost use Rattle.links.specs.Parcels.{parcel_bytes, role_number, status_bytes, IsParcel};
 ghost use Rattle.links.specs.Room.{IsTooLarge, MayRunOut};
 
+use crate::message_form::{WriteFault, write_message};
 use crate::parcel::Parcel;
 use ballot_base::{Role, Status};
-use message_form::{WriteFault, write_message};
 use packet_base::ClientId;
 use std::alloc::AllocError;
 

@@ -1,4 +1,4 @@
-use Rattle.message_form.proofs.Rooms.{at_err}
+use Rattle.links.proofs.of_message_form.Rooms.{at_err}
 use Rattle.links.proofs.Hellos.{consumes_join}
 use Rattle.links.proofs.Meeting.{no_proof, some_both, some_own, they_meet, whole_prefix}
 use Rattle.links.proofs.handshake.shake.Goals as goal

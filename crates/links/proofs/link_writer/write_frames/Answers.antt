@@ -1,6 +1,6 @@
 use Rattle.std.proofs.Common.{◌<◌, ◌≤◌, ◌∷◌, ◌∙◌, List, [], length, drop, sym, ap, arith}
-use Rattle.message_form.proofs.Appended.{on_ok}
-use Rattle.seal.specs.Frames.{moved_on}
+use Rattle.links.proofs.of_message_form.Appended.{on_ok}
+use Rattle.links.specs.seal.Frames.{moved_on}
 use Rattle.links.specs.Written.{frames_of}
 use Rattle.links.proofs.Framing.{frames_last, frames_more, wrote_all, wrote_more, wrote_prefix, wrote_renamed}
 use Rattle.links.proofs.link_writer.write_frames.Goals as goal

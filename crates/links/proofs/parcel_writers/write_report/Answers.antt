@@ -1,7 +1,7 @@
 use Rattle.std.proofs.Common.{◌∷◌, ◌++◌, [], ◌∙◌, ap, List}
 use Rattle.packet_base.specs.Spelling.{bit}
-use Rattle.message_form.specs.Numbers.{wide_number}
-use Rattle.message_form.proofs.Appended.{five}
+use Rattle.links.specs.message_form.Numbers.{wide_number}
+use Rattle.links.proofs.of_message_form.Appended.{five}
 use Rattle.links.specs.Parcels.{role_number}
 use Rattle.links.proofs.parcel_writers.write_report.Goals as goal
 

@@ -3,9 +3,9 @@ use lib.Utf8.{encode}
 use Rattle.std.specs.Str.{is_utf8, chars}
 use Rattle.packet_base.specs.Readers.{number_at, text_at}
 use Rattle.session_base.specs.Form.{flag_at}
-use Rattle.message_form.specs.Numbers.{wide_number_at}
-use Rattle.message_form.specs.CommandReading.{client_at}
-use Rattle.message_form.specs.MessageReading.{message_at, whole_message}
+use Rattle.links.specs.message_form.Numbers.{wide_number_at}
+use Rattle.links.specs.message_form.CommandReading.{client_at}
+use Rattle.links.specs.message_form.MessageReading.{message_at, whole_message}
 use Rattle.links.specs.ParcelReading.{whole_notice, welcome_at, report_at, expel_at, status_at, role_at}
 use Rattle.links.proofs.rows.first_fault_of_a_parcel_counts.Goals as goal
 

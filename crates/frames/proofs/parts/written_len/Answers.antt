@@ -1,6 +1,0 @@
-use Rattle.std.proofs.Common.{arith}
-use Rattle.frames.proofs.PartsJoined.{parts_counted}
-use Rattle.frames.proofs.parts.written_len.Goals as goal
-
-pub returns : goal.returns
-returns c = omega (arith, parts_counted c.args.message.now, c.saturating_sub-full.ensures)

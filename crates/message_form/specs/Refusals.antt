@@ -1,9 +1,0 @@
--- The numbers of the refusals, as in the table of refusals.
-use Rattle.std.specs.Prelude.{ℕ}
-use Rattle.message_form.specs.declared.write_fault.WriteFault.{WriteFault}
-use Rattle.message_form.specs.declared.write_fault.WriteFault.TheVariants.{TooLarge, Memory}
-
--- the number of a message that is not written
-abbrev pub write_number : WriteFault → ℕ
-write_number TooLarge = 4
-write_number Memory = 12

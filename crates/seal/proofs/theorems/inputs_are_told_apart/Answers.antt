@@ -1,5 +1,0 @@
-use Rattle.seal.proofs.SealedFrames.{tag_inputs, key_inputs}
-use Rattle.seal.proofs.theorems.inputs_are_told_apart.Goals as goal
-
-pub returns : goal.returns
-returns c = record { tags = tag_inputs; keys = key_inputs }
