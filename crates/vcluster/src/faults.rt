@@ -2,8 +2,8 @@
 
 use clap::Error;
 use clap::error::ErrorKind;
-use cluster_master::MasterError;
-use cluster_table::{LineFault, TableFault, line_of};
+use cluster::master::MasterError;
+use cluster::table::{LineFault, TableFault, line_of};
 use std::rt::Files;
 use std::{fs, str};
 

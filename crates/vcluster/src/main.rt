@@ -5,8 +5,8 @@ mod faults;
 
 ghost use Rattle.std.specs.Prelude.{◌≡◌, ◌≢◌};
 
-use cluster_master::{MasterError, Opened, open_desk, run_key, run_master};
-use cluster_table::{Job, line};
+use cluster::master::{MasterError, Opened, open_desk, run_key, run_master};
+use cluster::table::{Job, line};
 use faults::{print_fault, print_table_fault, refuse};
 use std::io::ErrorKind;
 use std::process::ExitCode;
@@ -14,7 +14,8 @@ use std::rt::{Env, Files};
 use std::{env, io};
 
 // Runs the job of the command line over the standard streams, and ends with its exit status. That
-// threads may use the file of the state is proved of this runtime alone, so the desk is opened here.
+// threads may use the file of the state is proved of this runtime alone, so the desk is opened
+// here.
 fn main(rt: HostRuntime) -> ExitCode {
     let words = match words(&rt) {
         Ok(words) => words,

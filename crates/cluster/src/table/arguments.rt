@@ -1,0 +1,27 @@
+// The arguments of the subcommands.
+
+ghost use Rattle.cluster.specs.table.Program.{IsArgument, config_rule, file_rule};
+
+use clap::Arg;
+use std::alloc::Global;
+
+/// Returns `--config FILE`.
+pub(crate) fn config<'a>(alloc: Global) -> Arg<'a>
+    ensures { IsArgument config_rule result }
+{
+    Arg::new(alloc, "config")
+        .long("config")
+        .value_name("FILE")
+        .required(true)
+        .help("The table of the cluster, in TOML")
+}
+
+/// Returns `FILE`.
+pub(crate) fn file<'a>(alloc: Global) -> Arg<'a>
+    ensures { IsArgument file_rule result }
+{
+    Arg::new(alloc, "file")
+        .value_name("FILE")
+        .required(true)
+        .help("The file that gets the key; it must not exist yet")
+}

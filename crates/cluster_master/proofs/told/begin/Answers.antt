@@ -1,6 +1,0 @@
-use Rattle.std.proofs.Common.{rules}
-use Rattle.cluster_master.proofs.NextAnswers.{begun}
-use Rattle.cluster_master.proofs.told.begin.Goals as goal
-
-pub returns-in-Ok : goal.returns-in-Ok
-returns-in-Ok g c = begun g.K.Keeper.stands c.in-Ok.desk c.args.cluster (search rules) c.in-Ok.ensures.kept

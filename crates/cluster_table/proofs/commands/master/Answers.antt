@@ -1,7 +1,0 @@
-use Rattle.std.proofs.Common.{codes}
-use Rattle.clap.specs.Words.{new_app}
-use Rattle.cluster_table.specs.Program.{config_rule}
-use Rattle.cluster_table.proofs.commands.master.Goals as goal
-
-pub returns : goal.returns
-returns c = c.add.ensures (new_app (codes "master")) config_rule c.bare-command.ensures c.config.ensures

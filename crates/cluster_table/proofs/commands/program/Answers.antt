@@ -1,8 +1,0 @@
-use Rattle.clap.specs.Words.{with_subcommand}
-use Rattle.cluster_table.specs.Program.{bare_program, key_app, master_app}
-use Rattle.cluster_table.proofs.commands.program.Goals as goal
-
-pub returns : goal.returns
-returns c =
-    let with_master = c.in_ok-command.ensures bare_program master_app c.bare_program-command.ensures c.in_ok-master.ensures in
-    c.enter-2.ensures (with_subcommand bare_program master_app.top) key_app with_master c.in_ok-key.ensures

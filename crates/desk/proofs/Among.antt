@@ -1,7 +1,0 @@
--- Among.antt: a keeper that wrote nothing.
-use Rattle.std.proofs.Common.{ℕ, List, ◌∷◌}
-use Rattle.lists.specs.Lists.In.{there}
-use Rattle.desk.specs.Keeping.{AreAmong}
-
-pub nothing_written : (bytes : List ℕ) (stands : List (List ℕ)) → AreAmong stands (bytes ∷ stands)
-nothing_written bytes stands = λ other i. there i
