@@ -2,6 +2,7 @@ pub mod Acknowledged
 pub mod CallsAreSteps
 pub mod FirstPublication
 pub mod LossFollows
+pub mod PacketsNoted
 pub mod PrintsJoin
 pub mod RefusedCalls
 pub mod RefusedFirst

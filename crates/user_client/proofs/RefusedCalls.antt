@@ -8,6 +8,7 @@ use Rattle.client_base.specs.Steps.{Call, keeper_step}
 use Rattle.client.specs.Core.{Core, AnswersCall}
 use Rattle.user_client.specs.declared.user_client_error.UserClientError.{UserClientError}
 use Rattle.user_client.specs.Refusals.{IsRefusedFor, error_of_call}
+use Rattle.user_client.specs.declared.answers.Answers.{Answers}
 use Rattle.user_client.specs.Traces.{CallerView}
 use Rattle.user_client.proofs.CallsAreSteps.{parts}
 
@@ -38,17 +39,17 @@ unchanged outcome old new errors.WindowFull refused = refused.1
 unchanged outcome old new errors.SessionLost refused = refused.1
 
 -- the same of a client that is seen as this one
-pub refused_seen : (call : Call) (core : Core) (was : Bool) {seen : CallerView} (new : Core) (cause : ClientError) (it : UserClientError)
-    → parts core was ≡ seen → it ≡ error_of_call cause → AnswersCall (keeper_step call core.state) core (Err cause) new
+pub refused_seen : (call : Call) (core : Core) (was : Bool) (said : Answers) {seen : CallerView} (new : Core) (cause : ClientError) (it : UserClientError)
+    → parts core was said ≡ seen → it ≡ error_of_call cause → AnswersCall (keeper_step call core.state) core (Err cause) new
     → IsRefusedFor (keeper_step call seen.core.state).refusal it
-refused_seen call core was new cause it seen_so is does =
+refused_seen call core was said new cause it seen_so is does =
     subst (λ (s : CallerView). IsRefusedFor (keeper_step call s.core.state).refusal it) seen_so
     (refused_for (keeper_step call core.state) core new cause it is does)
 
-pub unchanged_seen : (call : Call) (core : Core) (was : Bool) {seen : CallerView} (new : Core) (cause : ClientError)
-    → parts core was ≡ seen → AnswersCall (keeper_step call core.state) core (Err cause) new → parts new was ≡ seen
-unchanged_seen call core was new cause seen_so does =
-    ap (λ (c : Core). parts c was) (unchanged (keeper_step call core.state) core new cause does) ∙ seen_so
+pub unchanged_seen : (call : Call) (core : Core) (was : Bool) (said : Answers) {seen : CallerView} (new : Core) (cause : ClientError)
+    → parts core was said ≡ seen → AnswersCall (keeper_step call core.state) core (Err cause) new → parts new was said ≡ seen
+unchanged_seen call core was said new cause seen_so does =
+    ap (λ (c : Core). parts c was said) (unchanged (keeper_step call core.state) core new cause does) ∙ seen_so
 
 -- what follows for an error that is known to be so
 pub told : {T E : Type 0} (r : Result T E) (Q P : E → Type 0) → IsErrAnd r Q → ((e : E) → Q e → P e) → IfErr r P

@@ -1,8 +1,11 @@
--- When a client ends as lost: it has used all its connections, or the server lost its session.
-use Rattle.std.specs.Prelude.{◌≡◌, ℕ, ◌+◌, ◌⊎◌, List, Err, suc, zero}
+-- When a client ends: it has used all its connections, the server lost its session, or a server
+-- denied it what it asked for.
+use Rattle.std.specs.Prelude.{◌≡◌, ◌≢◌, ℕ, ◌+◌, Bool, true, false, List, Some, Err, suc, zero}
 use Rattle.client_base.specs.declared.accepted.Accepted.{Accepted}
 use Rattle.client_base.specs.declared.error.ClientError.TheVariants as errors
 use Rattle.client.specs.Input.{OnBytes}
+use Rattle.user_client.specs.Answers.{is_final}
+use Rattle.user_client.specs.declared.denial.Denial.{Denial}
 use Rattle.user_client.specs.declared.user_client_error.UserClientError.{UserClientError}
 use Rattle.user_client.specs.declared.user_client_error.UserClientError.TheVariants as clients
 use Rattle.user_client.specs.Traces.{CallerView, Trace}
@@ -27,13 +30,29 @@ pub record LosesSession (start end : CallerView) : Type 0 where
   pub piece : List ℕ
   pub lost : OnBytes piece before.core.state.stage before.core (Err errors.SessionLost) end.core
 
--- on one connection, a client ends as lost only if the server lost the session
-abbrev pub IsLostBy : CallerView → CallerView → UserClientError → Type 0
-IsLostBy start end error = error ≡ clients.Lost → LosesSession start end
+-- after some steps a server denied the client what it asked for, and would on another connection
+pub record Denies (start end : CallerView) (denial : Denial) : Type 0 where
+  pub taken : List Accepted
+  pub trace : Trace start taken end
+  pub denied : end.answers.denial ≡ Some denial
+  pub final : is_final denial ≡ true
 
--- over all connections, a client ends as lost also once it has requested each of them
-abbrev pub IsGivenUp :
-    {S : Type 0} → (S → S → Type 0) → (S → S → Type 0)
-    → ℕ → S → S → CallerView → CallerView → UserClientError → Type 0
-IsGivenUp opens pauses tries first last start end error =
-    error ≡ clients.Lost → AsksForConnections opens pauses first tries last ⊎ LosesSession start end
+-- whether a client ends by this error because of its servers
+abbrev pub ends_client : UserClientError → Bool
+ends_client clients.Lost = true
+ends_client clients.SessionLost = true
+ends_client (clients.Denied denial) = true
+ends_client error = false
+
+-- on one connection, a client ends only if the server lost the session or denied it something
+pub record IsEndedBy (start end : CallerView) (error : UserClientError) : Type 0 where
+  pub tries : error ≢ clients.Lost
+  pub lost : error ≡ clients.SessionLost → LosesSession start end
+  pub denied : (denial : Denial) → error ≡ clients.Denied denial → Denies start end denial
+
+-- over all connections, a client also ends as lost, once it has requested each of them
+pub record IsGivenUp {S : Type 0} (opens pauses : S → S → Type 0) (tries : ℕ) (first last : S)
+    (start end : CallerView) (error : UserClientError) : Type 0 where
+  pub all : error ≡ clients.Lost → AsksForConnections opens pauses first tries last
+  pub lost : error ≡ clients.SessionLost → LosesSession start end
+  pub denied : (denial : Denial) → error ≡ clients.Denied denial → Denies start end denial

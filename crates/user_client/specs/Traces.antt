@@ -10,24 +10,39 @@ use Rattle.client_base.specs.State.{is_online}
 use Rattle.client_base.specs.Steps.{Call, keeper_step}
 use Rattle.client.specs.Core.{Core, AnswersCall, OpensConnection, LeavesServer, new_core, publication_with, without_accepted}
 use Rattle.client.specs.Input.{OnBytes}
+use Rattle.user_client.specs.Answers.{Hears, no_answers}
+use Rattle.user_client.specs.declared.answers.Answers.{Answers}
 
--- a client, and whether a server has accepted one of its connections
+-- a client, whether a server has accepted one of its connections, and what the server has answered
+-- on the last one
 pub record CallerView : Type 0 where
   pub core : Core
   pub was_accepted : Bool
+  pub answers : Answers
 
 -- a new client: it has keep alive 0, and was never connected
 abbrev pub new_called : List ℕ → CallerView
-new_called id = record { core = new_core id 0; was_accepted = false }
+new_called id = record {
+  core = new_core id 0;
+  was_accepted = false;
+  answers = no_answers;
+}
 
 -- the client with this keeper, and nothing else changed
 abbrev pub with_core : Core → CallerView → CallerView
 with_core core called = record called { core = core }
 
+-- the client with this keeper on a new connection
+abbrev pub opened : Core → CallerView → CallerView
+opened core called = record called { core = core; answers = no_answers }
+
 -- the client after bytes of the server, with whether a connection was accepted so far
-abbrev pub after_bytes : Core → CallerView → CallerView
-after_bytes core called =
-    record { core = core; was_accepted = called.was_accepted || is_online core.state.stage }
+abbrev pub after_bytes : Core → Answers → CallerView → CallerView
+after_bytes core answers called = record {
+  core = core;
+  was_accepted = called.was_accepted || is_online core.state.stage;
+  answers = answers;
+}
 
 -- before the first accepted connection the server had no session of the client
 abbrev pub IsFirst : CallerView → Core → Type 0
@@ -44,7 +59,7 @@ pub data Step (old : CallerView) : CallerView → Type 0 where
   -- it opens a connection and writes CONNECT
   opens : (core : Core) →
       OpensConnection (keeper_step Call.Opens old.core.state) old.core (Ok tt) core
-      → Step old (with_core core old)
+      → Step old (opened core old)
   -- it publishes
   publishes : (retain : Bool) (qos : QoS) (topic payload : List ℕ) (core : Core)
       → AnswersCall
@@ -58,10 +73,10 @@ pub data Step (old : CallerView) : CallerView → Type 0 where
   -- what it wrote is handed over
   writes : Step old (with_core (record old.core { out = [] }) old)
   -- it takes bytes of the server
-  hears : (piece : List ℕ) (heard : Result (Unit {0}) ClientError) (core : Core)
-      → OnBytes piece old.core.state.stage old.core heard core
+  hears : (piece : List ℕ) (heard : Result (Unit {0}) ClientError) (core : Core) (answers : Answers)
+      → Hears piece old.answers answers → OnBytes piece old.core.state.stage old.core heard core
       → heard ≢ Err errors.SessionLost → IsFirst old core
-      → Step old (after_bytes core old)
+      → Step old (after_bytes core answers old)
   -- it disconnects
   leaves : (core : Core)
       → LeavesServer (keeper_step Call.Disconnects old.core.state) old.core (Ok tt) core

@@ -6,17 +6,21 @@
 // client is refused; after that, one that lost it. Both end the client for good: a session of
 // somebody else, or a lost one, cannot be made good by another connection.
 
-ghost use Rattle.std.specs.Prelude.{◌≡◌, ◌≢◌, ◌++◌, IfErr, IfOk, OnOk, OnErr, Err, []};
+ghost use Rattle.std.specs.Prelude.{◌≡◌, ◌≢◌, ◌⊎◌, ◌++◌, true, false, Some, IfErr, IfOk, OnOk, OnErr, Err, []};
 ghost use Rattle.std.specs.Result.{is_ok};
 ghost use Rattle.client_base.specs.declared.error.ClientError.TheVariants as errors;
 ghost use Rattle.client_base.specs.State.{kept_count};
 ghost use Rattle.client_base.specs.Steps.{Call, keeper_step};
 ghost use Rattle.client.specs.Core.{publication_with};
 ghost use Rattle.user_client.specs.Reports.{IsNews, news_of};
-ghost use Rattle.user_client.specs.Losses.{IsLostBy};
+ghost use Rattle.user_client.specs.Answers.{is_final, may_go_on};
+ghost use Rattle.user_client.specs.Losses.{IsEndedBy, ends_client};
 ghost use Rattle.user_client.specs.Refusals.{IsRefusedFor};
+ghost use Rattle.user_client.specs.declared.denial.Denial.{Denial};
+ghost use Rattle.user_client.specs.declared.user_client_error.UserClientError.TheVariants as clients;
 ghost use Rattle.user_client.specs.Traces.{IsAsked, IsFirst, Trace, new_called};
 
+use crate::answers::Answers;
 use crate::user_client_error::UserClientError;
 use client::ClientCore;
 use client_base::{Accepted, ClientError};
@@ -46,6 +50,9 @@ pub(crate) struct Caller {
     /// True once a CONNACK was accepted. Before, a server that has a session of the client is at
     /// fault.
     pub(crate) was_accepted: bool,
+    /// What the server has answered on the last connection.
+    pub(crate) answers: Answers,
+    alloc: Global,
 }
 
 impl Model for Caller {
@@ -53,7 +60,11 @@ impl Model for Caller {
 
     ghost Value = { CallerView };
 
-    ghost view = { λ caller. record { core = caller.core; was_accepted = caller.was_accepted } };
+    ghost view = { λ caller. record {
+      core = caller.core;
+      was_accepted = caller.was_accepted;
+      answers = caller.answers;
+    } };
 }
 
 impl Caller {
@@ -64,6 +75,8 @@ impl Caller {
         Caller {
             core: ClientCore::new(alloc, id, 0),
             was_accepted: false,
+            answers: Answers::new(alloc),
+            alloc,
         }
     }
 
@@ -73,7 +86,9 @@ impl Caller {
         ensures trace { OnOk result (Trace self.old [] self.new) }
         ensures err { IfErr result (λ error. error ≡ UserClientError.Memory) }
     {
-        Ok(self.core.open()?)
+        self.core.open()?;
+        self.answers = Answers::new(self.alloc);
+        Ok(())
     }
 
     /// Publishes: at QoS 1 or 2 the client keeps the publication until it is acknowledged, at QoS 0
@@ -100,7 +115,7 @@ impl Caller {
     /// Subscribes to a filter, at this QoS at most.
     pub(crate) fn subscribe(&mut self, filter: &Filter, qos: QoS) -> Result<(), UserClientError>
         ensures trace { OnOk result (Trace self.old [] self.new) }
-        ensures lost { IfErr result (λ error. error ≢ UserClientError.Lost) }
+        ensures ended { IfErr result (λ error. ends_client error ≡ false) }
     {
         Ok(self.core.subscribe(filter.clone()?, qos)?)
     }
@@ -131,18 +146,43 @@ impl Caller {
     }
 
     /// Reads bytes of the server. Fails if the server had a session before a connection was first
-    /// accepted, or lost it later.
+    /// accepted, or lost it later, or denies for good what was asked for.
     pub(crate) fn receive(&mut self, piece: &[u8]) -> Result<News, UserClientError>
         ensures trace { OnOk result (Trace self.old [] self.new) }
         ensures news { IfOk result (IsNews self.old self.new) }
-        ensures lost { IfErr result (IsLostBy self.old self.new) }
+        ensures granted { OnOk result (may_go_on self.new.answers.denial ≡ true) }
+        ensures ended { IfErr result (IsEndedBy self.old self.new) }
     {
+        let news = self.hear(piece)?;
+        self.check_denial()?;
+        Ok(news)
+    }
+
+    // Reads bytes of the server, whatever it denies.
+    fn hear(&mut self, piece: &[u8]) -> Result<News, UserClientError>
+        ensures trace { OnOk result (Trace self.old [] self.new) }
+        ensures news { IfOk result (IsNews self.old self.new) }
+        ensures ended { IfErr result (IsEndedBy self.old self.new) }
+    {
+        self.answers.hear(piece)?;
         let was_connected = self.core.connected();
         let is_open = stays_open(self.core.on_bytes(piece))?;
         self.check_first_session()?;
         let is_connected = self.core.connected();
         self.was_accepted = self.was_accepted || is_connected;
         Ok(news_of(is_open, was_connected, is_connected))
+    }
+
+    // Fails if the server denied for good what was asked for.
+    fn check_denial(&self) -> Result<(), UserClientError>
+        ensures ok { OnOk result (may_go_on self.now.answers.denial ≡ true) }
+        ensures err { IfErr result (λ error. (denial : Denial) × (error ≡ clients.Denied denial)
+            × (self.now.answers.denial ≡ Some denial) × (is_final denial ≡ true)) }
+    {
+        match self.answers.denial {
+            Some(denial) if denial.is_final() => Err(UserClientError::Denied(denial)),
+            _ => Ok(()),
+        }
     }
 
     // Fails if the server had a session before a connection was first accepted.
@@ -162,12 +202,14 @@ fn stays_open(heard: Result<(), ClientError>) -> Result<bool, UserClientError>
     ensures ok { OnOk result (heard ≢ Err errors.SessionLost) }
     ensures open { IfOk result (λ is_open. is_open ≡ is_ok heard) }
     ensures lost { IfErr result (λ error.
-        error ≡ UserClientError.Lost → heard ≡ Err errors.SessionLost) }
+        error ≡ UserClientError.SessionLost → heard ≡ Err errors.SessionLost) }
+    ensures other { IfErr result (λ error.
+        (error ≡ UserClientError.SessionLost) ⊎ (error ≡ UserClientError.Memory)) }
 {
     match heard {
         Ok(()) => Ok(true),
         Err(ClientError::Memory) => Err(UserClientError::Memory),
-        Err(ClientError::SessionLost) => Err(UserClientError::Lost),
+        Err(ClientError::SessionLost) => Err(UserClientError::SessionLost),
         Err(_) => Ok(false),
     }
 }

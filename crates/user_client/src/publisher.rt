@@ -7,13 +7,14 @@ ghost use Rattle.client_base.specs.Publications.{is_over_limit};
 ghost use Rattle.packet.specs.declared.packet.Packet.TheVariants as packets;
 ghost use Rattle.packet_base.specs.declared.qos.QoS.TheVariants as qos_levels;
 ghost use Rattle.session_base.specs.Publication.{is_answered};
-ghost use Rattle.user_client.specs.Losses.{IsGivenUp, IsLostBy};
+ghost use Rattle.user_client.specs.Losses.{IsEndedBy, IsGivenUp, ends_client};
 ghost use Rattle.user_client.specs.Traces.{Trace};
 ghost use Rattle.user_client.specs.Publisher.{HasPublication, IsAcknowledged, IsAcknowledgedBy, TakesPublish, unkept};
 ghost use Rattle.user_client.specs.Refusals.{IsPublishable, RefusesPacket, RefusesPublisher, first_publish};
 
 use crate::caller::{Caller, News};
 use crate::checks::{checked_id, checked_topic};
+use crate::denial::Denial;
 use crate::servers::Servers;
 use crate::user_client_error::UserClientError;
 use crate::visits::{disconnect, exchange, next_stream, send};
@@ -91,8 +92,9 @@ impl Publisher {
         ensures trace { OnOk result (Trace self.old.caller [] self.new.caller) }
         ensures same { self.new.once ≡ self.old.once }
 
-        // `Lost` comes once all `tries` connections were requested, or the session was lost.
-        ensures lost { IfErr result (IsGivenUp S.opens S.pauses tries
+        // `Lost` comes once all `tries` connections were requested, `SessionLost` if the server lost
+        // the session, `Denied` if it denied for good what was asked for.
+        ensures ended { IfErr result (IsGivenUp S.opens S.pauses tries
             servers.old servers.new self.old.caller self.new.caller) }
     {
         for opened in 0..tries {
@@ -106,6 +108,13 @@ impl Publisher {
         Err(UserClientError::Lost)
     }
 
+    /// Returns what the server denied the client on the last connection, if it did.
+    pub fn denial(&self) -> Option<Denial>
+        ensures { result ≡ self.now.caller.answers.denial }
+    {
+        self.caller.answers.denial
+    }
+
     // Publishes over one connection. Returns true once the publication is acknowledged, or written
     // at QoS 0.
     fn publish_over<D: Read + Write + Drop>(&mut self, stream: D) -> Result<bool, UserClientError>
@@ -113,7 +122,7 @@ impl Publisher {
             done ≡ true → IsAcknowledged D.contents self.new) }
         ensures trace { OnOk result (Trace self.old.caller [] self.new.caller) }
         ensures same { self.new.once ≡ self.old.once }
-        ensures lost { IfErr result (IsLostBy self.old.caller self.new.caller) }
+        ensures ended { IfErr result (IsEndedBy self.old.caller self.new.caller) }
     {
         let mut stream = Counted::new(stream);
         let mut buffer = Vec::from_elem(self.alloc, 0u8, PIECE_BYTES)?;
@@ -142,7 +151,7 @@ impl Publisher {
             → IsAcknowledgedBy D.contents stream.new.device self.new) }
         ensures trace { OnOk result (Trace self.old.caller [] self.new.caller) }
         ensures same { self.new.once ≡ self.old.once }
-        ensures lost { IfErr result (IsLostBy self.old.caller self.new.caller) }
+        ensures ended { IfErr result (IsEndedBy self.old.caller self.new.caller) }
     {
         let news = exchange(self.alloc, stream, buffer, &mut self.caller)?;
         self.continue_by_news(news, stream)
@@ -159,7 +168,7 @@ impl Publisher {
             → IsAcknowledgedBy D.contents stream.new.device self.new) }
         ensures trace { OnOk result (Trace self.old.caller [] self.new.caller) }
         ensures same { self.new.once ≡ self.old.once }
-        ensures lost { IfErr result (λ error. error ≢ UserClientError.Lost) }
+        ensures ended { IfErr result (λ error. ends_client error ≡ false) }
     {
         match &self.once {
             None => Ok(progress_of_kept(news, &self.caller)),
@@ -267,7 +276,7 @@ fn send_once<D: Read + Write>(
     ensures taken { IfOk result (λ progress.
         progress ≡ Progress.Done → TakesPublish D.contents publish.now
         stream.old.device stream.new.device) }
-    ensures lost { IfErr result (λ error. error ≢ UserClientError.Lost) }
+    ensures ended { IfErr result (λ error. ends_client error ≡ false) }
 {
     let topic = publish.topic.clone()?;
     let payload = publish.payload.clone()?;

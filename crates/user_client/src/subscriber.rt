@@ -1,16 +1,17 @@
 // Printing publications.
 
-ghost use Rattle.std.specs.Prelude.{◌≡◌, ◌≢◌, None, true, [], ◌∷◌, OnOk, IfErr, IfOk};
+ghost use Rattle.std.specs.Prelude.{◌≡◌, None, true, false, [], ◌∷◌, OnOk, IfErr, IfOk};
 ghost use Rattle.std.specs.Io.KnownBytes.{Appends};
 ghost use Rattle.packet_base.specs.ClientId.{client_fault};
 ghost use Rattle.topics.specs.Text.{filter_fault};
 ghost use Rattle.client_base.specs.printed.Lines.{printed_line};
 ghost use Rattle.user_client.specs.Subscriber.{PrintsNothing, PrintsAccepted, Shows, listening_anew, new_listening};
-ghost use Rattle.user_client.specs.Losses.{IsGivenUp, IsLostBy};
+ghost use Rattle.user_client.specs.Losses.{IsEndedBy, IsGivenUp, ends_client};
 ghost use Rattle.user_client.specs.Refusals.{RefusesListener};
 
 use crate::caller::{Caller, News};
 use crate::checks::{checked_filter, checked_id};
+use crate::denial::Denial;
 use crate::servers::Servers;
 use crate::user_client_error::UserClientError;
 use crate::visits::{disconnect, exchange, next_stream};
@@ -89,8 +90,9 @@ impl Subscriber {
             (W.contents output.new)) }
         ensures all { OnOk result (self.new.left ≡ 0) }
 
-        // `Lost` comes once all `tries` connections were requested, or the session was lost.
-        ensures lost { IfErr result (IsGivenUp S.opens S.pauses tries
+        // `Lost` comes once all `tries` connections were requested, `SessionLost` if the server lost
+        // the session, `Denied` if it denied for good what was asked for.
+        ensures ended { IfErr result (IsGivenUp S.opens S.pauses tries
             servers.old servers.new self.old.caller self.new.caller) }
     {
         self.left = self.count;
@@ -105,6 +107,13 @@ impl Subscriber {
         Err(UserClientError::Lost)
     }
 
+    /// Returns what the server denied the client on the last connection, if it did.
+    pub fn denial(&self) -> Option<Denial>
+        ensures { result ≡ self.now.caller.answers.denial }
+    {
+        self.caller.answers.denial
+    }
+
     // Prints over one connection. Returns true once all is printed.
     fn print_over<D: Read + Write + Drop, W: Write>(
         &mut self,
@@ -114,7 +123,7 @@ impl Subscriber {
         ensures printed { OnOk result
             (PrintsAccepted self.old (W.contents output.old) self.new (W.contents output.new)) }
         ensures all { IfOk result (λ done. done ≡ true → self.new.left ≡ 0) }
-        ensures lost { IfErr result (IsLostBy self.old.caller self.new.caller) }
+        ensures ended { IfErr result (IsEndedBy self.old.caller self.new.caller) }
     {
         let mut stream = Counted::new(stream);
         let mut buffer = Vec::from_elem(self.alloc, 0u8, PIECE_BYTES)?;
@@ -142,7 +151,7 @@ impl Subscriber {
     ) -> Result<bool, UserClientError>
         ensures printed { OnOk result
             (PrintsAccepted self.old (W.contents output.old) self.new (W.contents output.new)) }
-        ensures lost { IfErr result (IsLostBy self.old.caller self.new.caller) }
+        ensures ended { IfErr result (IsEndedBy self.old.caller self.new.caller) }
     {
         let news = exchange(self.alloc, stream, buffer, &mut self.caller)?;
         self.subscribe_and_print(news, output)?;
@@ -157,7 +166,7 @@ impl Subscriber {
     ) -> Result<(), UserClientError>
         ensures printed { OnOk result
             (PrintsAccepted self.old (W.contents output.old) self.new (W.contents output.new)) }
-        ensures lost { IfErr result (λ error. error ≢ UserClientError.Lost) }
+        ensures ended { IfErr result (λ error. ends_client error ≡ false) }
     {
         self.subscribe_if_accepted(news)?;
         self.print_accepted(output)
@@ -167,7 +176,7 @@ impl Subscriber {
     // SUBSCRIBE may have been lost with its connection.
     fn subscribe_if_accepted(&mut self, news: News) -> Result<(), UserClientError>
         ensures asked { OnOk result (PrintsNothing self.old self.new) }
-        ensures lost { IfErr result (λ error. error ≢ UserClientError.Lost) }
+        ensures ended { IfErr result (λ error. ends_client error ≡ false) }
     {
         if !is_to_subscribe(news, self.left, self.count) {
             return Ok(());
@@ -179,7 +188,7 @@ impl Subscriber {
     fn print_accepted<W: Write>(&mut self, output: &mut W) -> Result<(), UserClientError>
         ensures printed { OnOk result
             (PrintsAccepted self.old (W.contents output.old) self.new (W.contents output.new)) }
-        ensures lost { IfErr result (λ error. error ≢ UserClientError.Lost) }
+        ensures ended { IfErr result (λ error. ends_client error ≡ false) }
     {
         let accepted = self.caller.take_accepted();
         self.left = print_all(self.alloc, accepted.as_slice(), self.left, output)?;
@@ -200,7 +209,7 @@ fn print_all<W: Write>(
 ) -> Result<u32, UserClientError>
     ensures printed { IfOk result (λ rest.
         Shows accepted.now left rest (W.contents output.old) (W.contents output.new)) }
-    ensures lost { IfErr result (λ error. error ≢ UserClientError.Lost) }
+    ensures ended { IfErr result (λ error. ends_client error ≡ false) }
 {
     let mut rest = left;
     for one in accepted {
@@ -218,7 +227,7 @@ fn print_next<W: Write>(
 ) -> Result<u32, UserClientError>
     ensures printed { IfOk result (λ rest.
         Shows (accepted.now ∷ []) left rest (W.contents output.old) (W.contents output.new)) }
-    ensures lost { IfErr result (λ error. error ≢ UserClientError.Lost) }
+    ensures ended { IfErr result (λ error. ends_client error ≡ false) }
 {
     if left == 0 {
         return Ok(0);
@@ -235,7 +244,7 @@ fn print<W: Write>(
 ) -> Result<(), UserClientError>
     ensures printed { OnOk result
         (Appends (W.contents output.old) (W.contents output.new) (printed_line accepted.now)) }
-    ensures lost { IfErr result (λ error. error ≢ UserClientError.Lost) }
+    ensures ended { IfErr result (λ error. ends_client error ≡ false) }
 {
     let mut line = Vec::new(alloc);
     print_line(accepted, &mut line)?;

@@ -2,6 +2,7 @@
 
 ghost use Rattle.std.specs.Prelude.{◌≡◌};
 
+use crate::denial::Denial;
 use client_base::ClientError;
 use std::alloc::{AllocError, AllocFailed};
 use topics::MalformedKind;
@@ -14,8 +15,12 @@ pub enum UserClientError {
     Refused(u8),
     /// The server already had a session of this identifier.
     SessionPresent,
-    /// All connections were lost, or the server lost the session.
+    /// All connections were lost.
     Lost,
+    /// The server lost or ended the session between two connections.
+    SessionLost,
+    /// A server denied the client what it asked for, and would on another connection.
+    Denied(Denial),
     /// Memory ran out.
     Memory,
     /// A line could not be written.

@@ -3,7 +3,7 @@
 ghost use Rattle.std.specs.Prelude.{◌≡◌, true, [], OnOk, IfErr, IfOk};
 ghost use Rattle.std.specs.Io.KnownBytes.{Appends};
 ghost use Rattle.client_base.specs.State.{kept_count};
-ghost use Rattle.user_client.specs.Losses.{AsksNext, IsLostBy};
+ghost use Rattle.user_client.specs.Losses.{AsksNext, IsEndedBy};
 ghost use Rattle.user_client.specs.Traces.{Trace};
 
 use crate::caller::{Caller, News};
@@ -32,7 +32,7 @@ pub(crate) fn exchange<D: Read + Write>(
     caller: &mut Caller,
 ) -> Result<News, UserClientError>
     ensures trace { OnOk result (Trace caller.old [] caller.new) }
-    ensures lost { IfErr result (IsLostBy caller.old caller.new) }
+    ensures ended { IfErr result (IsEndedBy caller.old caller.new) }
 {
     if !send(alloc, stream, caller)? {
         return Ok(News::Lost);

@@ -6,5 +6,5 @@ use Rattle.user_client.proofs.visits.exchange.Goals as goal
 pub returns-in-Some : goal.returns-in-Some
 returns-in-Some g c = record {
   trace = traces_follow_ok c.receive.new.self [] c.receive.result c.send.ensures.trace c.receive.ensures.trace;
-  lost = lost_later c.receive.new.self c.receive.result c.send.ensures.trace c.receive.ensures.lost;
+  ended = lost_later c.receive.new.self c.receive.result c.send.ensures.trace c.receive.ensures.ended;
 }

@@ -6,7 +6,7 @@ use Rattle.user_client.proofs.caller.Caller.disconnect.Goals as goal
 
 pub returns-clause-trace : goal.returns-clause-trace
 returns-clause-trace c =
-    left c.self.inside.core c.self.inside.was_accepted c.disconnect.new.self c.disconnect.result c.self.view_is
+    left c.self.inside.core c.self.inside.was_accepted c.self.inside.answers c.disconnect.new.self c.disconnect.result c.self.view_is
     c.disconnect.ensures
 
 pub returns-clause-kept : goal.returns-clause-kept

@@ -21,7 +21,7 @@ pub loop-preserved : goal.loop-preserved
 loop-preserved g c =
     (traces_follow c.loop.invariant.0 c.in_ok-continue_once.ensures.trace, c.in_ok-continue_once.ensures.same ∙ c.loop.invariant.1)
 
-pub returns-in_err-continue_once-clause-lost : goal.returns-in_err-continue_once-clause-lost
-returns-in_err-continue_once-clause-lost g c =
+pub returns-in_err-continue_once-clause-ended : goal.returns-in_err-continue_once-clause-ended
+returns-in_err-continue_once-clause-ended g c =
     passed_later c.continue_once.new.self.caller c.from_residual-in_err-continue_once.result c.in_err-continue_once.field-0.0
-    c.from_residual-in_err-continue_once.ensures.1 c.loop.invariant.0 c.in_err-continue_once.ensures.lost
+    c.from_residual-in_err-continue_once.ensures.1 c.loop.invariant.0 c.in_err-continue_once.ensures.ended

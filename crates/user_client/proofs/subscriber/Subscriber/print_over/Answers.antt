@@ -33,7 +33,7 @@ loop-preserved g c =
     (g.W.Write.contents c.continue_once.new.output) c.args.self.now c.loop.self c.continue_once.new.self c.loop.invariant
     c.in_ok-is_lost.ensures.printed
 
-pub returns-in_err-is_lost-clause-lost : goal.returns-in_err-is_lost-clause-lost
-returns-in_err-is_lost-clause-lost g c =
+pub returns-in_err-is_lost-clause-ended : goal.returns-in_err-is_lost-clause-ended
+returns-in_err-is_lost-clause-ended g c =
     passed_later c.continue_once.new.self.caller c.from_residual-in_err-is_lost.result c.in_err-is_lost.field-0.0
-    c.from_residual-in_err-is_lost.ensures.1 c.loop.invariant.1 c.in_err-is_lost.ensures.lost
+    c.from_residual-in_err-is_lost.ensures.1 c.loop.invariant.1 c.in_err-is_lost.ensures.ended
