@@ -9,6 +9,7 @@ use Rattle.admin.specs.View.{primary_held, role_text}
 use Rattle.admin.specs.declared.view.ActiveBallot.{ActiveBallot}
 use Rattle.admin.specs.declared.view.AdminView.{AdminView}
 use Rattle.admin.specs.declared.view.ConnectionLine.{ConnectionLine}
+use Rattle.admin.specs.declared.view.Details.{Details}
 use Rattle.admin.specs.declared.view.NodeLine.{NodeLine}
 use Rattle.admin.specs.declared.view.SessionLine.{SessionLine}
 
@@ -93,9 +94,9 @@ session_tokens session = begin_object ∷ (text_member (codes "client") (string_
     ++ end_object ∷ [])
 
 -- the page `/sessions`
-abbrev pub sessions_tokens : AdminView → Option (List ℕ) → List Token
-sessions_tokens view after = begin_array
-    ∷ (flat_map session_tokens (listed_sessions after view.sessions.items) ++ end_array ∷ [])
+abbrev pub sessions_tokens : Details → Option (List ℕ) → List Token
+sessions_tokens details after = begin_array
+    ∷ (flat_map session_tokens (listed_sessions after details.sessions.items) ++ end_array ∷ [])
 
 -- the client of a connection, or `null` before its CONNECT
 abbrev pub client_member : Option (String Global) → List Token
@@ -111,6 +112,6 @@ connection_tokens connection = begin_object ∷ (client_member connection.client
     ++ end_object ∷ [])
 
 -- the page `/connections`
-abbrev pub connections_tokens : AdminView → List Token
-connections_tokens view =
-    begin_array ∷ (flat_map connection_tokens view.connections.items ++ end_array ∷ [])
+abbrev pub connections_tokens : Details → List Token
+connections_tokens details =
+    begin_array ∷ (flat_map connection_tokens details.connections.items ++ end_array ∷ [])

@@ -1,10 +1,12 @@
 -- The metrics, in the text format of Prometheus (version 0.0.4).
-use Rattle.std.specs.Prelude.{◌≡◌, ℕ, List, ◌++◌, Result, OnOk, codes, decimal}
+use Rattle.std.specs.Prelude.{◌≡◌, ℕ, List, [], ◌++◌, Option, Some, None, Result, OnOk, codes, decimal}
 use Rattle.std.specs.List.{flat_map}
 use Rattle.admin.specs.declared.view.AdminView.{AdminView}
 use Rattle.admin.specs.declared.view.Counters.{Counters}
+use Rattle.admin.specs.declared.view.Details.{Details}
 use Rattle.admin.specs.declared.view.Filled.{Filled}
 use Rattle.admin.specs.declared.view.NodeLine.{NodeLine}
+use Rattle.admin.specs.declared.view.OrderCounts.{OrderCounts}
 use Rattle.admin.specs.declared.view.RefusalCount.{RefusalCount}
 
 -- this text was appended, if memory did not run out
@@ -59,11 +61,19 @@ abbrev pub counts_text : Counters → List ℕ
 counts_text counters =
     count_text (codes "publications_total") (codes "Taken.") counters.publications
     ++ count_text (codes "losses_total") (codes "Steps without memory.") counters.losses
-    ++ count_text (codes "takeovers_total") (codes "Takeovers.") counters.takeovers
     ++ count_text (codes "received_bytes_total") (codes "Of clients.") counters.received_bytes
     ++ count_text (codes "sent_bytes_total") (codes "For clients.") counters.sent_bytes
 
--- how often something was refused with a number
+-- levels and counts
+abbrev pub counters_text : Counters → List ℕ
+counters_text counters = filled_text counters ++ counts_text counters
+
+-- what only a look into the nodes shows, if somebody looked
+abbrev pub details_text : Option Details → List ℕ
+details_text None = []
+details_text (Some details) = counters_text details.counters
+
+-- how often an order was refused with a number
 abbrev pub refused_text : RefusalCount → List ℕ
 refused_text refusal =
     labelled_text (codes "refusals_total") (codes "number") refusal.number refusal.count
@@ -71,8 +81,13 @@ refused_text refusal =
 -- the same of each number
 abbrev pub refusals_text : List RefusalCount → List ℕ
 refusals_text refusals =
-    head_text (codes "refusals_total") (codes "counter") (codes "By their number.")
+    head_text (codes "refusals_total") (codes "counter") (codes "Of orders.")
     ++ flat_map refused_text refusals
+
+-- what orders did
+abbrev pub orders_text : OrderCounts → List ℕ
+orders_text orders = count_text (codes "takeovers_total") (codes "Takeovers.") orders.takeovers
+    ++ refusals_text orders.refusals.items
 
 -- how many commands a node holds
 abbrev pub held_text : NodeLine → List ℕ
@@ -94,5 +109,4 @@ nodes_text nodes =
 -- the page `/metrics`
 abbrev pub metrics_text : AdminView → List ℕ
 metrics_text view =
-    filled_text view.counters ++ counts_text view.counters
-    ++ refusals_text view.counters.refusals.items ++ nodes_text view.nodes.items
+    details_text view.details ++ orders_text view.orders ++ nodes_text view.nodes.items

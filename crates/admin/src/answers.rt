@@ -27,7 +27,7 @@ fn answer_to(alloc: Global, view: &AdminView, wanted: &Wanted) -> Result<Vec<u8>
 {
     let status = status_of(view, wanted);
     let body = body_of(alloc, view, wanted, status)?;
-    let head = head_of(alloc, wanted, status, body.len())?;
+    let head = head_of(alloc, view, wanted, status, body.len())?;
     let mut bytes = head.into_bytes();
     bytes.extend_from_slice(&body)?;
     Ok(bytes)
@@ -43,6 +43,9 @@ fn status_of(view: &AdminView, wanted: &Wanted) -> StatusCode
         Wanted::OtherMethod => StatusCode::METHOD_NOT_ALLOWED,
         Wanted::NoPage => StatusCode::NOT_FOUND,
         Wanted::Health if view.primary_held().is_none() => StatusCode::SERVICE_UNAVAILABLE,
+        Wanted::Sessions(_) | Wanted::Connections if view.details.is_none() => {
+            StatusCode::SERVICE_UNAVAILABLE
+        }
         _ => StatusCode::OK,
     }
 }
@@ -50,14 +53,15 @@ fn status_of(view: &AdminView, wanted: &Wanted) -> StatusCode
 // Returns the head of an answer whose body has so many bytes.
 fn head_of(
     alloc: Global,
+    view: &AdminView,
     wanted: &Wanted,
     status: StatusCode,
     length: usize,
 ) -> Result<String, AllocError>
     ensures { IfOk result (λ head. string_bytes head
-        ≡ head_text status (kind_of wanted.now) (allow_of wanted.now) length) }
+        ≡ head_text status (kind_of view.now wanted.now) (allow_of wanted.now) length) }
 {
-    let kind = kind_of(wanted);
+    let kind = kind_of(view, wanted);
     let allow = allow_of(wanted);
     let mut head = format!(in alloc; "HTTP/1.1 {status}\r\n{allow}Content-Type: {kind}\r\n")?;
     write!(
@@ -68,11 +72,12 @@ fn head_of(
 }
 
 // Returns the media type of the body.
-fn kind_of(wanted: &Wanted) -> &'static str
-    ensures { result.now ≡ kind_of wanted.now }
+fn kind_of(view: &AdminView, wanted: &Wanted) -> &'static str
+    ensures { result.now ≡ kind_of view.now wanted.now }
 {
     match wanted {
-        Wanted::Status | Wanted::Sessions(_) | Wanted::Connections => "application/json",
+        Wanted::Status => "application/json",
+        Wanted::Sessions(_) | Wanted::Connections if view.details.is_some() => "application/json",
         Wanted::Metrics => "text/plain; version=0.0.4; charset=utf-8",
         _ => "text/plain; charset=utf-8",
     }
@@ -99,11 +104,11 @@ fn body_of(
     requires { status ≡ status_of view.now wanted.now }
     ensures { IfOk result (λ body. body.items ≡ body_of view.now wanted.now) }
 {
-    match wanted {
-        Wanted::Status => status_body(alloc, view),
-        Wanted::Sessions(after) => sessions_body(alloc, view, after),
-        Wanted::Connections => connections_body(alloc, view),
-        Wanted::Metrics => metrics_body(alloc, view),
+    match (wanted, &view.details) {
+        (Wanted::Status, _) => status_body(alloc, view),
+        (Wanted::Sessions(after), Some(details)) => sessions_body(alloc, details, after),
+        (Wanted::Connections, Some(details)) => connections_body(alloc, details),
+        (Wanted::Metrics, _) => metrics_body(alloc, view),
         _ => plain_body(alloc, status),
     }
 }

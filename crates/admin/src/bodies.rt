@@ -9,7 +9,7 @@ use crate::connections_page::put_connections;
 use crate::metrics_page::put_metrics;
 use crate::sessions_page::put_sessions;
 use crate::status_page::put_status;
-use crate::view::AdminView;
+use crate::view::{AdminView, Details};
 use http::StatusCode;
 use json::Writer;
 use std::alloc::{AllocError, Global};
@@ -34,26 +34,26 @@ pub(crate) fn status_body(alloc: Global, view: &AdminView) -> Result<Vec<u8>, Al
 // Returns the page `/sessions`, after an identifier if there is one.
 pub(crate) fn sessions_body(
     alloc: Global,
-    view: &AdminView,
+    details: &Details,
     after: &Option<String>,
 ) -> Result<Vec<u8>, AllocError>
     ensures { IfOk result (λ body. body.items
-        ≡ json_text (sessions_tokens view.now (option_map string_bytes after.now))) }
+        ≡ json_text (sessions_tokens details.now (option_map string_bytes after.now))) }
 {
     let mut writer = Writer::new(Vec::new(alloc));
     match after {
-        Some(client) => put_sessions(&mut writer, view, Some(client.as_str()))?,
-        None => put_sessions(&mut writer, view, None)?,
+        Some(client) => put_sessions(&mut writer, details, Some(client.as_str()))?,
+        None => put_sessions(&mut writer, details, None)?,
     }
     Ok(writer.into_inner())
 }
 
 // Returns the page `/connections`.
-pub(crate) fn connections_body(alloc: Global, view: &AdminView) -> Result<Vec<u8>, AllocError>
-    ensures { IfOk result (λ body. body.items ≡ json_text (connections_tokens view.now)) }
+pub(crate) fn connections_body(alloc: Global, details: &Details) -> Result<Vec<u8>, AllocError>
+    ensures { IfOk result (λ body. body.items ≡ json_text (connections_tokens details.now)) }
 {
     let mut writer = Writer::new(Vec::new(alloc));
-    put_connections(&mut writer, view)?;
+    put_connections(&mut writer, details)?;
     Ok(writer.into_inner())
 }
 

@@ -5,16 +5,16 @@ ghost use Rattle.admin.specs.Json.{Adds, client_member, connection_tokens, conne
 ghost use Rattle.std.specs.List.{flat_map};
 
 use crate::json_members::{put_number, put_small};
-use crate::view::{AdminView, ConnectionLine};
+use crate::view::{ConnectionLine, Details};
 use json::Writer;
 use std::alloc::AllocError;
 
 // Writes all connections.
-pub(crate) fn put_connections(writer: &mut Writer, view: &AdminView) -> Result<(), AllocError>
-    ensures { Adds result writer.old writer.new (connections_tokens view.now) }
+pub(crate) fn put_connections(writer: &mut Writer, details: &Details) -> Result<(), AllocError>
+    ensures { Adds result writer.old writer.new (connections_tokens details.now) }
 {
     writer.begin_array()?;
-    put_all(writer, &view.connections)?;
+    put_all(writer, &details.connections)?;
     writer.end_array()
 }
 

@@ -13,8 +13,6 @@ mod samples;
 mod serving;
 mod sessions_page;
 mod status_page;
-#[cfg(test)]
-mod tests;
 mod theorems;
 mod view;
 mod wanted;
@@ -26,7 +24,7 @@ pub use serving::serve_admin;
 pub use sessions_page::MAX_LISTED;
 pub use theorems::{pages_skip_no_session, strings_are_escaped};
 pub use view::{
-    ActiveBallot, AdminView, ConnectionLine, Counters, Filled, NodeLine, RefusalCount, Role,
-    SessionLine,
+    ActiveBallot, AdminView, ConnectionLine, Counters, Details, Filled, NodeLine, OrderCounts,
+    RefusalCount, Role, SessionLine,
 };
 pub use wanted::Wanted;

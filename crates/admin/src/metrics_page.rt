@@ -1,11 +1,11 @@
 // The page of metrics.
 
 ghost use Rattle.std.specs.Prelude.{string_bytes};
-ghost use Rattle.admin.specs.Metrics.{AddsText, committed_text, counts_text, filled_text, held_text, metrics_text, nodes_text, refused_text, refusals_text};
+ghost use Rattle.admin.specs.Metrics.{AddsText, committed_text, counters_text, counts_text, details_text, filled_text, held_text, metrics_text, nodes_text, orders_text, refused_text, refusals_text};
 ghost use Rattle.std.specs.List.{flat_map};
 
 use crate::samples::{put_count, put_head, put_labelled, put_level};
-use crate::view::{AdminView, Counters, NodeLine, RefusalCount};
+use crate::view::{AdminView, Counters, Details, NodeLine, OrderCounts, RefusalCount};
 use std::alloc::AllocError;
 
 // Appends all metrics, in the text format of Prometheus.
@@ -13,10 +13,38 @@ pub(crate) fn put_metrics(text: &mut String, view: &AdminView) -> Result<(), All
     ensures { AddsText result (string_bytes text.old) (string_bytes text.new)
         (metrics_text view.now) }
 {
-    put_filled(text, &view.counters)?;
-    put_counts(text, &view.counters)?;
-    put_refusals(text, &view.counters.refusals)?;
+    put_details(text, &view.details)?;
+    put_orders(text, &view.orders)?;
     put_nodes(text, &view.nodes)
+}
+
+// Appends what only a look into the nodes shows, if somebody looked.
+fn put_details(text: &mut String, details: &Option<Details>) -> Result<(), AllocError>
+    ensures { AddsText result (string_bytes text.old) (string_bytes text.new)
+        (details_text details.now) }
+{
+    match details {
+        Some(details) => put_counters(text, &details.counters),
+        None => Ok(()),
+    }
+}
+
+// Appends levels and counts.
+fn put_counters(text: &mut String, counters: &Counters) -> Result<(), AllocError>
+    ensures { AddsText result (string_bytes text.old) (string_bytes text.new)
+        (counters_text counters.now) }
+{
+    put_filled(text, counters)?;
+    put_counts(text, counters)
+}
+
+// Appends what orders did.
+fn put_orders(text: &mut String, orders: &OrderCounts) -> Result<(), AllocError>
+    ensures { AddsText result (string_bytes text.old) (string_bytes text.new)
+        (orders_text orders.now) }
+{
+    put_count(text, "takeovers_total", "Takeovers.", orders.takeovers)?;
+    put_refusals(text, &orders.refusals)
 }
 
 // Appends what fills up, each with its limit.
@@ -44,7 +72,6 @@ fn put_counts(text: &mut String, counters: &Counters) -> Result<(), AllocError>
         "Steps without memory.",
         counters.losses,
     )?;
-    put_count(text, "takeovers_total", "Takeovers.", counters.takeovers)?;
     put_count(text, "received_bytes_total", "Of clients.", received)?;
     put_count(text, "sent_bytes_total", "For clients.", sent)
 }
@@ -54,7 +81,7 @@ fn put_refusals(text: &mut String, refusals: &[RefusalCount]) -> Result<(), Allo
     ensures { AddsText result (string_bytes text.old) (string_bytes text.new)
         (refusals_text refusals.now) }
 {
-    put_head(text, "refusals_total", "counter", "By their number.")?;
+    put_head(text, "refusals_total", "counter", "Of orders.")?;
     put_refused(text, refusals)
 }
 

@@ -6,7 +6,7 @@ ghost use Rattle.admin.specs.Json.{Adds, session_tokens, sessions_tokens};
 ghost use Rattle.admin.specs.Sessions.{comes_after, listed_sessions};
 
 use crate::json_members::{put_number, put_option, put_text};
-use crate::view::{AdminView, SessionLine};
+use crate::view::{Details, SessionLine};
 use json::Writer;
 use std::alloc::AllocError;
 
@@ -16,14 +16,14 @@ pub const MAX_LISTED: usize = 1_000;
 // Writes the first thousand sessions that come after this identifier, if one is given.
 pub(crate) fn put_sessions(
     writer: &mut Writer,
-    view: &AdminView,
+    details: &Details,
     after: Option<&str>,
 ) -> Result<(), AllocError>
     ensures { Adds result writer.old writer.new
-        (sessions_tokens view.now (option_map (λ client. client.now) after.entry)) }
+        (sessions_tokens details.now (option_map (λ client. client.now) after.entry)) }
 {
     writer.begin_array()?;
-    put_listed(writer, &view.sessions, after)?;
+    put_listed(writer, &details.sessions, after)?;
     writer.end_array()
 }
 

@@ -90,15 +90,23 @@ pub struct Filled {
     pub limit: u64,
 }
 
-/// How often something was refused with this number.
+/// How often an order was refused with this number.
 #[derive(Clone, Copy)]
 pub struct RefusalCount {
     pub number: u8,
     pub count: u64,
 }
 
-/// Counts since the program started, and levels.
+/// What orders did since the program started.
 #[derive(Drop)]
+pub struct OrderCounts {
+    pub takeovers: u64,
+    /// One for each number that came.
+    pub refusals: Vec<RefusalCount>,
+}
+
+/// Counts since the program started, and levels.
+#[derive(Clone, Copy)]
 pub struct Counters {
     pub connections: Filled,
     pub sessions: Filled,
@@ -106,15 +114,21 @@ pub struct Counters {
     /// The longest queue of a session.
     pub queue: Filled,
     pub publications: u64,
-    /// One for each kind.
-    pub refusals: Vec<RefusalCount>,
     /// In how many steps memory ran out.
     pub losses: u64,
-    pub takeovers: u64,
     /// Bytes of clients.
     pub received_bytes: u64,
     /// Bytes for clients.
     pub sent_bytes: u64,
+}
+
+/// What only a look into the nodes shows.
+#[derive(Drop)]
+pub struct Details {
+    /// By rising identifier.
+    pub sessions: Vec<SessionLine>,
+    pub connections: Vec<ConnectionLine>,
+    pub counters: Counters,
 }
 
 /// What is known of a broker.
@@ -124,10 +138,9 @@ pub struct AdminView {
     pub active: Option<ActiveBallot>,
     /// In the order of their numbers.
     pub nodes: Vec<NodeLine>,
-    /// By rising identifier.
-    pub sessions: Vec<SessionLine>,
-    pub connections: Vec<ConnectionLine>,
-    pub counters: Counters,
+    pub orders: OrderCounts,
+    /// `None` if nobody looked into the nodes.
+    pub details: Option<Details>,
 }
 
 impl AdminView {

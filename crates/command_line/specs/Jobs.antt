@@ -26,9 +26,11 @@ pub record HasNumber (id : Text) (rows : List Row) (number : ℕ) : Type 0 where
   pub given : one_of id rows ≡ Some text
   pub said : IsNumber text number
 
--- the job is to serve the nodes of the file of `--config`
-abbrev pub IsServe : List Row → Serve → Type 0
-IsServe rows job = first_of (codes "config") rows ≡ Some job.config.now
+-- the job is to serve, with the values that the arguments have
+pub record IsServe (rows : List Row) (job : Serve) : Type 0 where
+  pub config : first_of (codes "config") rows ≡ Some job.config.now
+  pub log : first_of (codes "log") rows ≡ Some job.log.now
+  pub admin : first_of (codes "admin") rows ≡ option_map (λ admin. admin.now) job.admin
 
 -- the job is to publish, with the values that the arguments have
 pub record IsPublish (rows : List Row) (job : Publish) : Type 0 where

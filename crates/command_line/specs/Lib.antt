@@ -1,3 +1,4 @@
+pub mod Addresses
 pub mod Refusals
 pub mod Program
 pub mod Jobs

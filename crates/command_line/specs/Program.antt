@@ -1,7 +1,6 @@
 -- The program's command line, as it is declared to `clap`: subcommands and their arguments.
 use Rattle.std.specs.Prelude.{◌≡◌, ◌∷◌, [], ℕ, true, false, Some, codes, pos}
-use Rattle.clap.specs.Words.{App, Rule, Text, app_of, new_app, new_rule, rule_of}
-use Rattle.clap.specs.Words.{with_rule, with_subcommand}
+use Rattle.clap.specs.Words.{App, Rule, Text, app_of, new_app, new_rule, rule_of, with_rule, with_subcommand}
 use Rattle.clap.specs.declared.builder.action.ArgAction.TheVariants.{Append, SetTrue}
 use Rattle.clap.specs.declared.builder.arg.Arg.{Arg}
 use Rattle.clap.specs.declared.builder.command.Command.{Command}
@@ -22,9 +21,9 @@ abbrev pub number_option : Text → ℕ → ℕ → Rule
 number_option name least most =
     record (required_option name) { parser = Some (parsers.Signed (pos least) (pos most)) }
 
--- `--config FILE`, which is required
-abbrev pub config_rule : Rule
-config_rule = required_option (codes "config")
+-- `--log LEVEL`; `info` if it is left out
+abbrev pub log_rule : Rule
+log_rule = record (free_option (codes "log")) { defaults = codes "info" ∷ [] }
 
 -- `--qos N`, from 0 to 2
 abbrev pub qos_rule : Rule
@@ -62,7 +61,9 @@ file_rule = record (new_rule (codes "file")) { value_names = 1 }
 
 -- the subcommand `serve`
 abbrev pub serve_app : App
-serve_app = with_rule (new_app (codes "serve")) config_rule
+serve_app = with_rule
+    (with_rule (with_rule (new_app (codes "serve")) (required_option (codes "config"))) log_rule)
+    (free_option (codes "admin"))
 
 -- `--tries N ADDR...`, of `pub` and `sub`
 abbrev pub with_openings : App → App

@@ -1,7 +1,7 @@
 // The arguments of the subcommands.
 
 ghost use Rattle.std.specs.Prelude.{codes};
-ghost use Rattle.command_line.specs.Program.{IsArgument, address_rule, config_rule, count_rule, file_rule, free_option, qos_rule, required_option, retain_rule, tries_rule};
+ghost use Rattle.command_line.specs.Program.{IsArgument, address_rule, count_rule, file_rule, free_option, log_rule, qos_rule, required_option, retain_rule, tries_rule};
 
 use clap::builder::ValueParser;
 use clap::{Arg, ArgAction};
@@ -20,7 +20,7 @@ fn option<'a>(alloc: Global, name: &'a str, value: &'a str, help: &'a str) -> Ar
 
 /// Returns `--config FILE`.
 pub(crate) fn config<'a>(alloc: Global) -> Arg<'a>
-    ensures { IsArgument config_rule result }
+    ensures { IsArgument (required_option (codes "config")) result }
 {
     option(alloc, "config", "FILE", "The table of nodes, in TOML")
 }
@@ -103,6 +103,22 @@ pub(crate) fn addresses<'a>(alloc: Global) -> Arg<'a>
         .required(true)
         .action(ArgAction::Append)
         .help("Servers, as 127.0.0.1:1883, tried in turn")
+}
+
+/// Returns `--log LEVEL`.
+pub(crate) fn log<'a>(alloc: Global) -> Arg<'a>
+    ensures { IsArgument log_rule result }
+{
+    let help = "What is told on standard error: off, error, warn, info, debug";
+    free_option(alloc, "log", "LEVEL", help).default_value("info")
+}
+
+/// Returns `--admin ADDR`.
+pub(crate) fn admin<'a>(alloc: Global) -> Arg<'a>
+    ensures { IsArgument (free_option (codes "admin")) result }
+{
+    let help = "Where a monitor may ask over HTTP, as 127.0.0.1:8883";
+    free_option(alloc, "admin", "ADDR", help)
 }
 
 // Returns `--NAME VALUE`, which is optional.

@@ -100,7 +100,9 @@ fn serve<'a>(alloc: Global) -> Result<Command<'a>, AllocError>
 {
     let about = "Serves MQTT clients over TCP";
     let command = bare(alloc, "serve", about, AFTER_SERVE);
-    add(command, arguments::config(alloc))
+    let command = add(command, arguments::config(alloc))?;
+    let command = add(command, arguments::log(alloc))?;
+    add(command, arguments::admin(alloc))
 }
 
 // Returns `pub`.

@@ -21,6 +21,12 @@ pub enum Job<'a> {
 pub struct Serve<'a> {
     /// The file with the table of nodes.
     pub config: &'a str,
+    /// Which lines are told on standard error: `off`, `error`, `warn`, `info` or `debug`. It is not
+    /// checked here.
+    pub log: &'a str,
+    /// The address at which a monitor may ask over HTTP, which is not checked here; none for no such
+    /// address.
+    pub admin: Option<&'a str>,
 }
 
 /// The words of `pub`.

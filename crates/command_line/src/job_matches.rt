@@ -48,7 +48,12 @@ fn serve<'a>(found: &ArgMatches<'a>) -> Result<Serve<'a>, LineFault>
         → (job : Serve) → IsServe (rows_of (found_of found.now)) job → ⊥ }
 {
     let config = text(found, "config")?;
-    Ok(Serve { config })
+    let log = text(found, "log")?;
+    Ok(Serve {
+        config,
+        log,
+        admin: found.get_str("admin"),
+    })
 }
 
 fn publish<'a>(alloc: Global, found: &ArgMatches<'a>) -> Result<Publish<'a>, LineFault>

@@ -2,6 +2,7 @@
 //! `toml`.
 #![tactic(auto)]
 
+mod address;
 mod arguments;
 mod cause;
 mod commands;
@@ -13,6 +14,7 @@ mod node_table;
 mod table_text;
 mod words;
 
+pub use address::{AddressCause, address_cause};
 pub use cause::{TableCause, table_cause};
 pub use fault::{LineFault, TableFault};
 pub use job::{Escape, Job, Play, Publish, Serve, Subscribe};

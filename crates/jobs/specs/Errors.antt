@@ -11,12 +11,15 @@ use Rattle.command_line.specs.declared.fault.TableFault.{TableFault}
 use Rattle.command_line.specs.declared.fault.TableFault.TheVariants as tables
 use Rattle.command_line.specs.declared.fault.LineFault.{LineFault}
 use Rattle.command_line.specs.declared.fault.LineFault.TheVariants as lines
+use Rattle.user_client.specs.declared.denial.Denial.{Denial}
+use Rattle.user_client.specs.declared.denial.Denial.TheVariants as denials
 use Rattle.user_client.specs.declared.user_client_error.UserClientError.{UserClientError}
 use Rattle.user_client.specs.declared.user_client_error.UserClientError.TheVariants as clients
+use Rattle.jobs.specs.declared.loss_cause.LossCause.TheVariants as causes
 use Rattle.jobs.specs.declared.job_error.JobError.{JobError}
 use Rattle.jobs.specs.declared.job_error.JobError.TheVariants as errors
 
--- 1 for file, network, memory, clock and threads, and for `session present` and `lost`. 2 for the
+-- 1 for file, network, memory, clock and threads, and for a client that was not served. 2 for the
 -- command line. 3 for a table, a script or another argument, and for no recovery
 abbrev pub exit_status : JobError → ℕ
 exit_status errors.Memory = 1
@@ -28,13 +31,15 @@ exit_status (errors.Files count) = 1
 exit_status (errors.File file kind) = 1
 exit_status (errors.Address address kind) = 1
 exit_status errors.Words = 2
+exit_status errors.LogWord = 2
 exit_status errors.Table = 3
 exit_status (errors.Script number) = 3
 exit_status errors.Losses = 1
 exit_status errors.Idle = 3
 exit_status (errors.Refused number) = 3
 exit_status errors.SessionPresent = 1
-exit_status errors.Lost = 1
+exit_status (errors.Lost cause) = 1
+exit_status errors.NotSubscribed = 1
 
 -- 0 if the version was asked for, 1 if memory ran out, 2 for help and for each refused word or
 -- number
@@ -68,10 +73,17 @@ abbrev pub error_of_table : TableFault → JobError
 error_of_table tables.Shape = errors.Table
 error_of_table tables.Memory = errors.Memory
 
+-- for a client that a server denied what it asked for
+abbrev pub error_of_denial : Denial → JobError
+error_of_denial (denials.Connack code) = errors.Lost (causes.Connack code)
+error_of_denial denials.Suback = errors.NotSubscribed
+
 -- for a client that did not do its job
 abbrev pub error_of_client : UserClientError → JobError
 error_of_client (clients.Refused number) = errors.Refused number
 error_of_client clients.SessionPresent = errors.SessionPresent
-error_of_client clients.Lost = errors.Lost
+error_of_client clients.Lost = errors.Lost causes.Closed
+error_of_client clients.SessionLost = errors.Lost causes.SessionLost
+error_of_client (clients.Denied denial) = error_of_denial denial
 error_of_client clients.Memory = errors.Memory
 error_of_client clients.Output = errors.Output

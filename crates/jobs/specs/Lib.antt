@@ -3,3 +3,4 @@ pub mod Failures
 pub mod Errors
 pub mod Orders
 pub mod Transcripts
+pub mod Looks

@@ -3,6 +3,7 @@
 ghost use Rattle.std.specs.Prelude.{◌≡◌};
 ghost use Rattle.jobs.specs.Errors.{exit_status};
 
+use crate::loss_cause::LossCause;
 use command_line::TableFault;
 use machine::Memory;
 use play::PlayError;
@@ -11,7 +12,7 @@ use server::node_threads::THREADS;
 use std::alloc::{AllocError, AllocFailed};
 use std::io::ErrorKind;
 use thiserror::Error;
-use user_client::UserClientError;
+use user_client::{Denial, UserClientError};
 
 /// Why the program ends with a status other than 0. Its text is for the user.
 #[derive(Debug, Drop, Error)]
@@ -43,6 +44,9 @@ pub enum JobError {
     /// A word of the command line is not UTF-8, or a value is missing.
     #[error("the words of the command line could not be read; try vbroker --help")]
     Words,
+    /// The word of `--log` is no level.
+    #[error("--log has to be off, error, warn, info or debug")]
+    LogWord,
     /// The file is no table of nodes.
     #[error("config")]
     Table,
@@ -63,14 +67,17 @@ pub enum JobError {
     /// The server already had a session of the client's identifier.
     #[error("session present")]
     SessionPresent,
-    /// All connections of a client were lost, or its session was.
+    /// All connections of a client were lost, or its session was, or a server refused it.
     #[error("lost")]
-    Lost,
+    Lost(LossCause),
+    /// A server refused the subscription of a client.
+    #[error("not subscribed")]
+    NotSubscribed,
 }
 
 impl JobError {
     /// Returns the exit status: 1 for an error of file, network, memory, clock or threads, and for
-    /// `session present` and `lost`; 2 for a refused command line; 3 for a refused table, script or
+    /// `session present`, `lost` and `not subscribed`; 2 for a refused command line; 3 for a refused table, script or
     /// argument, and if there is no recovery.
     pub fn status(&self) -> u8
         ensures { result ≡ exit_status self.now }
@@ -86,8 +93,9 @@ impl JobError {
             | JobError::Address(_, _)
             | JobError::Losses
             | JobError::SessionPresent
-            | JobError::Lost => 1,
-            JobError::Words => 2,
+            | JobError::Lost(_)
+            | JobError::NotSubscribed => 1,
+            JobError::Words | JobError::LogWord => 2,
             JobError::Table | JobError::Script(_) | JobError::Idle | JobError::Refused(_) => 3,
         }
     }
@@ -160,7 +168,12 @@ impl From<UserClientError> for JobError {
         match error {
             UserClientError::Refused(number) => JobError::Refused(number),
             UserClientError::SessionPresent => JobError::SessionPresent,
-            UserClientError::Lost => JobError::Lost,
+            UserClientError::Lost => JobError::Lost(LossCause::Closed),
+            UserClientError::SessionLost => JobError::Lost(LossCause::SessionLost),
+            UserClientError::Denied(Denial::Connack(code)) => {
+                JobError::Lost(LossCause::Connack(code))
+            }
+            UserClientError::Denied(Denial::Suback) => JobError::NotSubscribed,
             UserClientError::Memory => JobError::Memory,
             UserClientError::Output => JobError::Output,
         }

@@ -3,17 +3,17 @@
 // A job gets its input, output and standard error as parameters, so tests run it in memory. What
 // clauses say is about refused texts, what is printed on the output, and the exit status; no clause
 // says what is printed on standard error, or sent over a network. An error is one line on standard
-// error and one exit status, both of `JobError`, and for a table a line with its cause; nothing below this crate prints or exits. Output
-// that cannot be written is an error of `play` and `sub`; `serve` goes on without it, but fails at
-// the end if it cannot write `bye`.
+// error and one exit status, both of `JobError`, and often a second line with its cause; nothing
+// below this crate prints or exits. Output that cannot be written is an error of `play` and `sub`;
+// `serve` goes on without it, but fails at the end if it cannot write `bye`.
 
 ghost use Rattle.std.specs.Prelude.{◌≡◌, ◌≢◌, IfErr, OnOk};
 ghost use Rattle.jobs.specs.Done.{IsJobDone};
 ghost use Rattle.jobs.specs.Failures.{EndsByError, FailsAt};
 ghost use Rattle.jobs.specs.Errors.{exit_status};
 
+use crate::causes::print_cause;
 use crate::job_error::JobError;
-use crate::table_causes::print_cause;
 use crate::{scripts, serving_table, tcp_clients};
 use command_line::Job;
 use std::io::{BufRead, Write};
@@ -24,8 +24,8 @@ use std::thread::Threads;
 use std::time::Clock;
 
 /// Runs a job over one reader and two writers, and returns the exit status. Prints an error in one
-/// line, and after one of the table of nodes what is wrong with it, in a second line. No clause says
-/// what is printed there.
+/// line, and in a second line its cause, if more is known of it. No clause says what is printed
+/// there.
 pub fn perform<R, I, O, E>(
     rt: &R,
     job: &Job<'_>,
@@ -36,7 +36,7 @@ pub fn perform<R, I, O, E>(
 where
     R: Files + Threads + Wait + Clock + Sync + AllocGlobal,
     R: Net<Listener = TcpListener, Stream = TcpStream>,
-    I: BufRead + Drop,
+    I: BufRead + Send + Drop,
     O: Write + Drop,
     E: Write + Drop,
     ensures done { result ≡ 0
@@ -49,7 +49,7 @@ where
     }
 }
 
-// Prints why a job failed, and what is wrong with its table of nodes, and returns the exit status.
+// Prints why a job failed and, if more is known, the cause, and returns the exit status.
 fn fail<R: Files + AllocGlobal, E: Write>(
     rt: &R,
     job: &Job<'_>,
@@ -59,9 +59,7 @@ fn fail<R: Files + AllocGlobal, E: Write>(
     ensures { result ≡ exit_status error.now }
 {
     let status = print_fault(faults, error);
-    if let (JobError::Table, Job::Serve(serve)) = (error, job) {
-        print_cause(rt, serve.config, faults);
-    }
+    print_cause(rt, job, error, faults);
     status
 }
 
@@ -76,7 +74,7 @@ fn do_job<R, I, O, E>(
 where
     R: Files + Threads + Wait + Clock + Sync + AllocGlobal,
     R: Net<Listener = TcpListener, Stream = TcpStream>,
-    I: BufRead + Drop,
+    I: BufRead + Send + Drop,
     O: Write + Drop,
     E: Write + Drop,
     ensures done { OnOk result

@@ -6,21 +6,24 @@ ghost use Rattle.script.specs.Fields.{texts};
 ghost use Rattle.jobs.specs.Orders.{IsNoOrder, IsOrder, IsWordRefused, OrderNothing, Orders, RefusesLine, role_of};
 ghost use Rattle.jobs.specs.declared.orders.Order.TheVariants as orders;
 
+use crate::clerk::Clerk;
+use crate::desk::{Desk, Heard};
 use crate::job_error::JobError;
+use crate::node_view::{node_role, view_of};
+use crate::order_record::Assigned;
 use crate::word_fault::WordFault;
 use crate::words::{client_of, members_of, named_node, no_order};
 use ballot_base::errors::ProposeError;
 use ballot_base::{Config, MAX_NODE, Status};
-use command_line::ListeningNode;
 use master::Idle;
 use packet_base::ClientId;
 use post::Cluster;
 use run_history::RunNaming;
 use script::fields_of;
 use std::alloc::Global;
-use std::io::{BufRead, ErrorKind, Write};
+use std::io::Write;
 use std::sync::Wait;
-use std::time::Clock;
+use std::time::{Clock, Duration};
 
 // The meaning of a line.
 #[derive(Drop)]
@@ -35,51 +38,128 @@ enum Order {
     Expel(ClientId),
 }
 
+/// How long the attendant waits for an order before it looks at the nodes, in milliseconds.
+const LOOK_MILLIS: u64 = 200;
+
 /// Carries out the orders of the input, and prints an answer for each, until `quit` or the end of
-/// the input. Fails only if the input cannot be read.
-pub(crate) fn obey<H, R, I, O>(
+/// the input. Looks at the nodes at least five times a second, and shows monitors how they are.
+/// Fails only if the input cannot be read.
+pub(crate) fn obey<H, R, O, E>(
     rt: &R,
     cluster: &Cluster<H>,
-    nodes: &[ListeningNode],
-    input: &mut I,
+    desk: &Desk,
+    clerk: &mut Clerk<'_, '_, E>,
     output: &mut O,
 ) -> Result<(), JobError>
 where
     H: RunNaming,
     R: AllocGlobal + Wait + Clock,
-    I: BufRead,
     O: Write,
+    E: Write,
 {
+    desk.open(rt);
     for _ in rt.forever() {
-        match next_order(rt.alloc(), input)? {
-            Ok(Order::Quit) => return Ok(()),
-            Ok(order) => answer(rt, cluster, nodes, order, output),
-            Err(fault) => print_refusal(output, fault.number()),
+        let heard = desk.take(rt, Duration::from_millis(LOOK_MILLIS));
+        let goes_on = match heard {
+            Some(heard) => obey_one(rt, cluster, clerk, heard, output)?,
+            None => true,
+        };
+        clerk.look(rt, cluster);
+        if !goes_on {
+            return Ok(());
         }
-        let _ = output.flush();
+        desk.answered(rt);
+        show_all(rt, cluster, desk, clerk);
     }
     unreachable!()
 }
 
-// Returns the order of the next line, or why it is refused. The end of the input is `quit`.
-fn next_order<I: BufRead>(
-    alloc: Global,
-    input: &mut I,
-) -> Result<Result<Order, WordFault>, JobError> {
-    let mut line = String::new(alloc);
-    match input.read_line(&mut line) {
-        Ok(0) => Ok(Ok(Order::Quit)),
-        Ok(_) => Ok(order_of(alloc, line.as_str().trim_end_matches('\n'))),
-        Err(error) => match error.kind() {
-            ErrorKind::InvalidData => Ok(Err(no_order())),
-            ErrorKind::OutOfMemory => {
-                // Skip the rest of the line: it is no order.
-                input.skip_until(b'\n').ok().ok_or(JobError::Input)?;
-                Ok(Err(WordFault::Memory))
-            }
-            _ => Err(JobError::Input),
-        },
+// Shows each monitor that wants it how the nodes are.
+fn show_all<H, R, E>(rt: &R, cluster: &Cluster<H>, desk: &Desk, clerk: &Clerk<'_, '_, E>)
+where
+    H: RunNaming,
+    R: AllocGlobal + Wait + Clock,
+    E: Write,
+{
+    for _ in 0..desk.take_wanted(rt) {
+        desk.give(rt, view_of(rt, clerk, cluster).ok());
     }
+}
+
+// Carries out the order that was read, and prints an answer. Returns false at `quit` and at the end
+// of the input. Fails if the input could not be read.
+fn obey_one<H, R, O, E>(
+    rt: &R,
+    cluster: &Cluster<H>,
+    clerk: &mut Clerk<'_, '_, E>,
+    heard: Heard,
+    output: &mut O,
+) -> Result<bool, JobError>
+where
+    H: RunNaming,
+    R: AllocGlobal + Wait + Clock,
+    O: Write,
+    E: Write,
+{
+    let goes_on = match heard {
+        Heard::Line(line) => {
+            let line = line.as_str();
+            obey_line(rt, cluster, clerk, without_end(line), output)
+        }
+        Heard::NoText => {
+            refuse(rt, clerk, "", no_order().number(), output);
+            true
+        }
+        Heard::NoMemory => {
+            refuse(rt, clerk, "", WordFault::Memory.number(), output);
+            true
+        }
+        Heard::End => false,
+        Heard::Fault => return Err(JobError::Input),
+    };
+    let _ = output.flush();
+    Ok(goes_on)
+}
+
+// Carries out the order of a line, and prints an answer. Returns false at `quit`.
+fn obey_line<H, R, O, E>(
+    rt: &R,
+    cluster: &Cluster<H>,
+    clerk: &mut Clerk<'_, '_, E>,
+    line: &str,
+    output: &mut O,
+) -> bool
+where
+    H: RunNaming,
+    R: AllocGlobal + Wait + Clock,
+    O: Write,
+    E: Write,
+{
+    let refused = match order_of(rt.alloc(), line) {
+        Ok(Order::Quit) => return false,
+        Ok(order) => answer(rt, cluster, clerk, order, output),
+        Err(fault) => Some(fault.number()),
+    };
+    if let Some(number) = refused {
+        refuse(rt, clerk, line, number, output);
+    }
+    true
+}
+
+// Prints, records and tells that an order is refused.
+fn refuse<R, O, E>(rt: &R, clerk: &mut Clerk<'_, '_, E>, order: &str, number: u8, output: &mut O)
+where
+    R: Clock,
+    O: Write,
+    E: Write,
+{
+    let _ = writeln!(output, "refused {number}");
+    clerk.refused(rt, order, number);
+}
+
+// Returns a line without its end.
+fn without_end(line: &str) -> &str {
+    line.trim_end_matches('\n')
 }
 
 // Returns the order of a line, or why it is refused.
@@ -123,42 +203,88 @@ fn expel_of(alloc: Global, client: &str) -> Result<Order, WordFault>
     Ok(Order::Expel(client_of(alloc, client)?))
 }
 
-// Carries out an order and prints the result. Serving goes on even if nothing can be printed.
-fn answer<H, R, O>(
+// Carries out an order and prints the result, or returns the number by which it is refused. Serving
+// goes on even if nothing can be printed.
+fn answer<H, R, O, E>(
     rt: &R,
     cluster: &Cluster<H>,
-    nodes: &[ListeningNode],
+    clerk: &mut Clerk<'_, '_, E>,
     order: Order,
     output: &mut O,
-)
+) -> Option<u8>
 where
     H: RunNaming,
     R: Wait + Clock,
     O: Write,
+    E: Write,
 {
     match order {
-        Order::Quit => {}
-        Order::Status => print_all(rt, cluster, nodes, output),
-        Order::Assign(config) => match cluster.assign(rt, config) {
-            Ok(ballot) => {
-                let _ = writeln!(output, "ballot {ballot}");
-            }
-            Err(error) => print_refusal(output, error.number()),
-        },
-        Order::Crash(number) => match cluster.crash(rt, number) {
-            Ok(true) => {
-                let _ = writeln!(output, "crashed {number}");
-            }
-            // No such node runs.
-            Ok(false) => print_refusal(output, Idle.number()),
-            Err(error) => print_refusal(output, error.number()),
-        },
+        Order::Quit => None,
+        Order::Status => {
+            print_all(rt, cluster, clerk, output);
+            None
+        }
+        Order::Assign(config) => assign(rt, cluster, clerk, config, output),
+        Order::Crash(number) => crash(rt, cluster, clerk, number, output),
         Order::Expel(client) => expel(rt, cluster, &client, output),
     }
 }
 
-// Ends a client's session, and prints that or the refusal.
-fn expel<H, R, O>(rt: &R, cluster: &Cluster<H>, client: &ClientId, output: &mut O)
+// Gives the next ballot, and prints that, or returns the number of the refusal.
+fn assign<H, R, O, E>(
+    rt: &R,
+    cluster: &Cluster<H>,
+    clerk: &mut Clerk<'_, '_, E>,
+    config: Config,
+    output: &mut O,
+) -> Option<u8>
+where
+    H: RunNaming,
+    R: Wait + Clock,
+    O: Write,
+    E: Write,
+{
+    let mut assigned = Assigned::new(0, &config);
+    match cluster.assign(rt, config) {
+        Ok(ballot) => {
+            assigned.ballot = ballot;
+            let _ = writeln!(output, "ballot {ballot}");
+            clerk.assigned(rt, assigned);
+            None
+        }
+        Err(error) => Some(error.number()),
+    }
+}
+
+// Crashes a node, and prints that, or returns the number of the refusal.
+fn crash<H, R, O, E>(
+    rt: &R,
+    cluster: &Cluster<H>,
+    clerk: &mut Clerk<'_, '_, E>,
+    number: u8,
+    output: &mut O,
+) -> Option<u8>
+where
+    H: RunNaming,
+    R: Wait + Clock,
+    O: Write,
+    E: Write,
+{
+    clerk.record.crash(number);
+    match cluster.crash(rt, number) {
+        Ok(true) => {
+            let _ = writeln!(output, "crashed {number}");
+            clerk.crashed(rt, number);
+            None
+        }
+        // No such node runs.
+        Ok(false) => Some(Idle.number()),
+        Err(error) => Some(error.number()),
+    }
+}
+
+// Ends a client's session, and prints that, or returns the number of the refusal.
+fn expel<H, R, O>(rt: &R, cluster: &Cluster<H>, client: &ClientId, output: &mut O) -> Option<u8>
 where
     H: RunNaming,
     R: Wait + Clock,
@@ -167,26 +293,23 @@ where
     match cluster.expel(rt, client) {
         Ok(true) => {
             let _ = writeln!(output, "expel {client}");
+            None
         }
-        Ok(false) => print_refusal(output, ProposeError::NotActive.number()),
-        Err(error) => print_refusal(output, error.number()),
+        Ok(false) => Some(ProposeError::NotActive.number()),
+        Err(error) => Some(error.number()),
     }
 }
 
-// Prints the refusal of an order, by its number.
-fn print_refusal<O: Write>(output: &mut O, number: u8) {
-    let _ = writeln!(output, "refused {number}");
-}
-
 // Prints the status of each node that is served, in the order of their numbers.
-fn print_all<H, R, O>(rt: &R, cluster: &Cluster<H>, nodes: &[ListeningNode], output: &mut O)
+fn print_all<H, R, O, E>(rt: &R, cluster: &Cluster<H>, clerk: &mut Clerk<'_, '_, E>, output: &mut O)
 where
     H: RunNaming,
     R: Wait + Clock,
     O: Write,
+    E: Write,
 {
     for number in 1..=MAX_NODE {
-        if nodes.iter().any(|node| node.id == number) {
+        if clerk.has(number) {
             if let Some(status) = cluster.status(rt, number) {
                 print_status(number, &status, output);
             }
@@ -210,20 +333,5 @@ fn print_status<O: Write>(number: u8, status: &Status, output: &mut O) {
 fn role_of(status: &Status) -> &'static str
     ensures { result.now ≡ role_of status.now }
 {
-    if status.stopped {
-        return "crashed";
-    }
-    if status.ballot == 0 {
-        return "none";
-    }
-    if status.role.is_active() {
-        return "primary";
-    }
-    if status.role.is_fetching() {
-        return "fetching";
-    }
-    if status.role.is_installing() {
-        return "installing";
-    }
-    "backup"
+    node_role(status).text()
 }

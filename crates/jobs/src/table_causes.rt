@@ -8,7 +8,11 @@ use std::str;
 
 /// Prints in one line what is wrong with the table of nodes of a file: its path, the line, the
 /// cause. Prints nothing if the file cannot be read any more.
-pub(crate) fn print_cause<R: Files + AllocGlobal, E: Write>(rt: &R, path: &str, faults: &mut E) {
+pub(crate) fn print_table_cause<R: Files + AllocGlobal, E: Write>(
+    rt: &R,
+    path: &str,
+    faults: &mut E,
+) {
     let Ok(bytes) = bytes_of(rt, path) else {
         return;
     };

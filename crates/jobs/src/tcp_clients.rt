@@ -5,12 +5,14 @@ ghost use Rattle.jobs.specs.Done.{PrintsAll};
 ghost use Rattle.jobs.specs.Failures.{CanPublish, CanSubscribe, FailsToPublish, FailsToSubscribe};
 
 use crate::job_error::JobError;
+use crate::loss_cause::LossCause;
 use command_line::{Publish, Subscribe};
-use std::io::Write;
+use std::alloc::Global;
+use std::io::{ErrorKind, Write};
 use std::net::{Net, TcpStream};
-use std::thread;
 use std::time::{Clock, Duration};
-use user_client::{Publisher, Servers, Subscriber};
+use std::{io, thread};
+use user_client::{Denial, Publisher, Servers, Subscriber, UserClientError};
 
 /// How long a client waits after a lost connection, in milliseconds.
 const PAUSE_MILLIS: u64 = 200;
@@ -24,6 +26,19 @@ struct TcpServers<'a, R> {
     addresses: &'a [&'a str],
     // The index of the address to try next; 0 after the last.
     next: usize,
+    // The address that was tried last, and why no connection to it could be opened, if so.
+    failed: Option<(&'a str, ErrorKind)>,
+}
+
+impl<'a, R> TcpServers<'a, R> {
+    fn new(rt: &'a R, addresses: &'a [&'a str]) -> TcpServers<'a, R> {
+        TcpServers {
+            rt,
+            addresses,
+            next: 0,
+            failed: None,
+        }
+    }
 }
 
 impl<'a, R: Net<Stream = TcpStream> + Clock> Servers for TcpServers<'a, R> {
@@ -34,19 +49,32 @@ impl<'a, R: Net<Stream = TcpStream> + Clock> Servers for TcpServers<'a, R> {
     type Stream = TcpStream;
 
     fn open(&mut self) -> Option<TcpStream> {
-        let address = self.addresses.get(self.next).or(self.addresses.first())?;
+        let address = *self.addresses.get(self.next).or(self.addresses.first())?;
         self.next = self.next.saturating_add(1);
         if self.next >= self.addresses.len() {
             self.next = 0;
         }
-        let stream = TcpStream::connect(self.rt, *address).ok()?;
-        stream.set_nodelay(true).ok()?;
-        Some(stream)
+        match connect(self.rt, address) {
+            Ok(stream) => {
+                self.failed = None;
+                Some(stream)
+            }
+            Err(error) => {
+                self.failed = Some((address, error.kind()));
+                None
+            }
+        }
     }
 
     fn pause(&mut self) {
         thread::sleep(self.rt, Duration::from_millis(PAUSE_MILLIS));
     }
+}
+
+fn connect<R: Net<Stream = TcpStream>>(rt: &R, address: &str) -> io::Result<TcpStream> {
+    let stream = TcpStream::connect(rt, address)?;
+    stream.set_nodelay(true)?;
+    Ok(stream)
 }
 
 /// Publishes once, and waits until that is acknowledged. Tries the addresses in turn. The clauses
@@ -65,12 +93,11 @@ where
         job.retain,
         job.message,
     )?;
-    let mut servers = TcpServers {
-        rt,
-        addresses: job.addresses.as_slice(),
-        next: 0,
-    };
-    Ok(publisher.run(&mut servers, job.tries)?)
+    let mut servers = TcpServers::new(rt, job.addresses.as_slice());
+    match publisher.run(&mut servers, job.tries) {
+        Ok(()) => Ok(()),
+        Err(error) => Err(failure(rt.alloc(), error, servers.failed, publisher.denial())),
+    }
 }
 
 /// Prints publications, a line each, until as many were printed as the job's `count`. Tries the
@@ -89,10 +116,31 @@ where
         → O.contents output.new ≡ O.contents output.old }
 {
     let mut subscriber = Subscriber::new(rt.alloc(), job.id, job.filter, job.qos, job.count)?;
-    let mut servers = TcpServers {
-        rt,
-        addresses: job.addresses.as_slice(),
-        next: 0,
-    };
-    Ok(subscriber.run(&mut servers, output, job.tries)?)
+    let mut servers = TcpServers::new(rt, job.addresses.as_slice());
+    match subscriber.run(&mut servers, output, job.tries) {
+        Ok(()) => Ok(()),
+        Err(error) => Err(failure(rt.alloc(), error, servers.failed, subscriber.denial())),
+    }
+}
+
+// Returns the error of a client. One that lost all its connections has the cause of the last: the
+// address that could not be reached, or the server's denial.
+fn failure(
+    alloc: Global,
+    error: UserClientError,
+    failed: Option<(&str, ErrorKind)>,
+    denial: Option<Denial>,
+) -> JobError {
+    match (error, failed, denial) {
+        (UserClientError::Lost, Some((address, kind)), _) => match String::from_str(
+            alloc, address,
+        ) {
+            Ok(address) => JobError::Lost(LossCause::Address(address, kind)),
+            Err(_) => JobError::Memory,
+        },
+        (UserClientError::Lost, None, Some(Denial::Connack(code))) => {
+            JobError::Lost(LossCause::Connack(code))
+        }
+        (error, _, _) => JobError::from(error),
+    }
 }

@@ -10,8 +10,6 @@ mod limiter;
 mod log_word;
 mod notice;
 mod telling;
-#[cfg(test)]
-mod tests;
 mod theorems;
 mod window;
 

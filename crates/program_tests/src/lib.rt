@@ -7,6 +7,8 @@ mod inputs;
 #[cfg(test)]
 mod library;
 #[cfg(test)]
+mod operator;
+#[cfg(test)]
 mod scripts;
 #[cfg(test)]
 mod texts;

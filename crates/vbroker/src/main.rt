@@ -27,6 +27,7 @@ fn run<R>(rt: &R) -> u8
 where
     R: Env + Files + Input + Print + Eprint + Threads + Wait + Clock + Sync + AllocGlobal,
     R: Net<Listener = TcpListener, Stream = TcpStream>,
+    R::Reader: Send,
 {
     let mut faults = StandardError::new(rt);
     let words = match words(rt) {

@@ -1,6 +1,6 @@
 // Inputs of a server whose first read fails.
 
-use jobs::{print_fault, serve_table};
+use jobs::{Operation, print_fault, serve_table};
 use std::io::{BufReader, ErrorKind, Read};
 use std::net::{Net, TcpListener, TcpStream};
 use std::sync::Wait;
@@ -58,11 +58,14 @@ where
         has_failed: false,
         rest,
     };
+    let operation = Operation::of("warn", None)?;
     match BufReader::new(rt.alloc(), failing) {
-        Ok(mut input) => Some(match serve_table(rt, ONE, &mut input, output, faults) {
-            Ok(()) => 0,
-            Err(error) => print_fault(faults, &error),
-        }),
+        Ok(mut input) => Some(
+            match serve_table(rt, ONE, operation, &mut input, output, faults) {
+                Ok(()) => 0,
+                Err(error) => print_fault(faults, &error),
+            },
+        ),
         Err(_) => None,
     }
 }
@@ -87,6 +90,7 @@ fn a_line_without_memory_is_refused(rt: HostRuntime) {
     let mut faults = Vec::new(rt.alloc());
     let status = serve_failing(&rt, ErrorKind::OutOfMemory, rest, &mut output, &mut faults);
     let told = text_of(faults.as_slice());
-    let came = (status, text_of(output.as_slice()), told.contains(LISTENS));
+    let is_told = told.contains(LISTENS) && told.contains("[WARN ] order \"\" refused 12\n");
+    let came = (status, text_of(output.as_slice()), is_told);
     assert_eq!(rt; came, (Some(0), "refused 12\nbye\n", true), "{told}");
 }

@@ -10,5 +10,5 @@ returns c =
     rw (c.in_ok-write.ensures.bytes, c.in_ok-head.ensures.ok, c.kind_of-kind.ensures, c.allow_of-allow.ensures)
     (head_joined (codes "HTTP/1.1 ") (decimal c.args.status) (codes " ")
     (unwrap_or (reason_phrase c.args.status) (codes "<unknown status code>")) (codes "\r\n")
-    (allow_of c.args.wanted.now) (codes "Content-Type: ") (kind_of c.args.wanted.now)
+    (allow_of c.args.wanted.now) (codes "Content-Type: ") (kind_of c.args.view.now c.args.wanted.now)
     (codes "Content-Length: " ++ decimal c.args.length ++ codes "\r\nConnection: close\r\n\r\n"))

@@ -1,6 +1,6 @@
 use Rattle.user_client.specs.Refusals.{RefusesPublisher}
-use Rattle.jobs.specs.Failures.{CanPublish, RefusesToPublish, asked_publication}
-use Rattle.jobs.proofs.JobsEnd.{at_work, by_words}
+use Rattle.jobs.specs.Failures.{CanPublish, asked_publication}
+use Rattle.jobs.proofs.JobsEnd.{by_words}
 use Rattle.jobs.proofs.tcp_clients.publish.Goals as goal
 
 pub returns-in_err-publisher-clause-refused : goal.returns-in_err-publisher-clause-refused
@@ -9,6 +9,5 @@ returns-in_err-publisher-clause-refused g c =
     (RefusesPublisher c.args.job.now.id.now (asked_publication c.args.job.now)) c.in_err-publisher.field-0.0
     c.from_residual.ensures.1 c.in_err-publisher.ensures.err
 
-pub returns-in_err-run-clause-refused : goal.returns-in_err-run-clause-refused
-returns-in_err-run-clause-refused g c =
-    at_work c.from_residual-in_err-run.result (CanPublish c.args.job.now) (RefusesToPublish c.args.job.now) c.in_ok-publisher.ensures.ok
+pub returns-clause-refused : goal.returns-clause-refused
+returns-clause-refused g c = λ cannot. absurd (cannot c.in_ok-publisher.ensures.ok)

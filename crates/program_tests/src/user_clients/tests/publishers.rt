@@ -1,11 +1,11 @@
 // Publishers over servers in memory.
 
 use super::servers::*;
-use packet_base::QoS;
+use packet_base::{QoS, RefusalCode};
 use std::alloc::Global;
 use std::cell::RefCell;
 use std::test::Fail;
-use user_client::{Publisher, UserClientError};
+use user_client::{Denial, Publisher, UserClientError};
 
 fn publish(alloc: Global, qos: QoS, servers: &mut Scripted<'_>) -> Result<(), UserClientError> {
     let mut publisher = Publisher::new(alloc, "a", "t/1", qos, false, "x")?;
@@ -79,7 +79,53 @@ fn a_publication_is_given_up(rt: HostRuntime) {
     assert_eq!(rt; fault, None);
     let pieces: &[Pieces] = &[&[CONNACK], &[CONNACK]];
     let written: &[&[u8]] = &[CONNECT, PUBLISH, CONNECT];
-    let fault = fault_of_publishing(rt.alloc(), QoS::ExactlyOnce, pieces, written, lost, 1);
+    let session_lost = Err(UserClientError::SessionLost);
+    let fault = fault_of_publishing(
+        rt.alloc(),
+        QoS::ExactlyOnce,
+        pieces,
+        written,
+        session_lost,
+        1,
+    );
+    assert_eq!(rt; fault, None);
+}
+
+// What a server sends on its first connection, and why it then denies the client a connection for
+// good.
+const DENIALS: &[(Pieces, RefusalCode)] = &[
+    (&[WRONG_PROTOCOL], RefusalCode::ProtocolVersion),
+    (&[WRONG_IDENTIFIER], RefusalCode::IdentifierRejected),
+    (&[WRONG_PASSWORD], RefusalCode::BadUserNameOrPassword),
+    (&[NOT_AUTHORIZED], RefusalCode::NotAuthorized),
+    (&[&[0x20, 2], &[0, 5]], RefusalCode::NotAuthorized),
+];
+
+// A refused connection is not tried again, but a server that is unavailable is.
+#[test]
+fn a_refused_connection_ends_a_publisher(rt: HostRuntime) {
+    for (pieces, code) in DENIALS {
+        let denied = Err(UserClientError::Denied(Denial::Connack(*code)));
+        let connections = &[*pieces, &[CONNACK, PUBACK]];
+        let written: &[&[u8]] = &[CONNECT];
+        let fault = fault_of_publishing(
+            rt.alloc(),
+            QoS::AtLeastOnce,
+            connections,
+            written,
+            denied,
+            0,
+        );
+        assert_eq!(rt; fault, None, "{code}");
+    }
+    let pieces: &[Pieces] = &[&[UNAVAILABLE], &[CONNACK, PUBACK]];
+    let written: &[&[u8]] = &[CONNECT, CONNECT, PUBLISH_ANSWERED, DISCONNECT];
+    let fault = fault_of_publishing(rt.alloc(), QoS::AtLeastOnce, pieces, written, Ok(()), 1);
+    assert_eq!(rt; fault, None);
+    let pieces: &[Pieces] = &[&[UNAVAILABLE], &[UNAVAILABLE]];
+    let lost = Err(UserClientError::Lost);
+    let written: &[&[u8]] = &[CONNECT, CONNECT];
+    let fault = fault_of_publishing(rt.alloc(), QoS::AtLeastOnce, pieces, written, lost, 2);
     assert_eq!(rt; fault, None);
 }
 
@@ -114,7 +160,7 @@ fn what_comes_after_the_last_answer_does_not_matter(rt: HostRuntime) {
 fn a_publication_at_qos_0_is_written(rt: HostRuntime) {
     let alloc = rt.alloc();
     let pieces: &[Pieces] = &[&[CONNACK], &[CONNACK]];
-    let lost = Err(UserClientError::Lost);
+    let lost = Err(UserClientError::SessionLost);
     let room = CONNECT.len();
     let written: &[&[u8]] = &[CONNECT, CONNECT];
     let fault = fault_within(alloc, QoS::AtMostOnce, room, pieces, written, lost, 1);

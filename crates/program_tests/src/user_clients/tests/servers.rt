@@ -104,6 +104,21 @@ pub const CONNACK: &[u8] = &[0x20, 2, 0, 0];
 /// CONNACK 0 with a session present.
 pub const SESSION_PRESENT: &[u8] = &[0x20, 2, 1, 0];
 
+/// CONNACK 1 (MQTT 3.2.2.3).
+pub const WRONG_PROTOCOL: &[u8] = &[0x20, 2, 0, 1];
+
+/// CONNACK 2.
+pub const WRONG_IDENTIFIER: &[u8] = &[0x20, 2, 0, 2];
+
+/// CONNACK 3.
+pub const UNAVAILABLE: &[u8] = &[0x20, 2, 0, 3];
+
+/// CONNACK 4.
+pub const WRONG_PASSWORD: &[u8] = &[0x20, 2, 0, 4];
+
+/// CONNACK 5.
+pub const NOT_AUTHORIZED: &[u8] = &[0x20, 2, 0, 5];
+
 /// PUBREC of Packet Identifier 1, as all that follow.
 pub const PUBREC: &[u8] = &[0x50, 2, 0, 1];
 
@@ -118,6 +133,9 @@ pub const PUBACK_AND_NONSENSE: &[u8] = &[0x40, 2, 0, 1, 0, 0];
 
 /// SUBACK that grants QoS 2.
 pub const SUBACK: &[u8] = &[0x90, 3, 0, 1, 2];
+
+/// SUBACK that refuses (MQTT 3.9.3).
+pub const SUBACK_FAILURE: &[u8] = &[0x90, 3, 0, 1, 0x80];
 
 /// CONNECT of client `a` with keep alive 0.
 pub const CONNECT: &[u8] = &[

@@ -2,11 +2,11 @@
 
 use super::servers::*;
 use client_base::printed::print_text;
-use packet_base::QoS;
+use packet_base::{QoS, RefusalCode};
 use std::alloc::Global;
 use std::cell::RefCell;
 use std::test::Fail;
-use user_client::{Subscriber, UserClientError};
+use user_client::{Denial, Subscriber, UserClientError};
 
 fn subscribe(
     alloc: Global,
@@ -84,6 +84,26 @@ fn a_subscription_is_asked_for_again(rt: HostRuntime) {
     let written: &[&[u8]] = &[CONNECT, SUBSCRIBE, CONNECT, DISCONNECT];
     let fault = fault_of_hearing(rt.alloc(), 2, pieces, b"0 0 t/1 x\n0 0 t/1 x\n", written);
     assert_eq!(rt; fault, None);
+}
+
+// A refused subscription ends the client, whether or not a publication came before.
+#[test]
+fn a_refused_subscription_ends_a_subscriber(rt: HostRuntime) {
+    let denied = Some(Fault::End(Err(UserClientError::Denied(Denial::Suback))));
+    let written: &[&[u8]] = &[CONNECT, SUBSCRIBE];
+    let pieces: &[Pieces] = &[&[CONNACK, SUBACK_FAILURE]];
+    let fault = fault_of_hearing(rt.alloc(), 1, pieces, b"", written);
+    assert_eq!(rt; fault, denied);
+    let pieces: &[Pieces] = &[&[CONNACK, PUBLISH_ONCE, SUBACK_FAILURE]];
+    let fault = fault_of_hearing(rt.alloc(), 2, pieces, b"", written);
+    assert_eq!(rt; fault, denied);
+    let pieces: &[Pieces] = &[&[NOT_AUTHORIZED]];
+    let refused = Denial::Connack(RefusalCode::NotAuthorized);
+    let fault = fault_of_hearing(rt.alloc(), 1, pieces, b"", &[CONNECT]);
+    assert_eq!(rt;
+        fault,
+        Some(Fault::End(Err(UserClientError::Denied(refused))))
+    );
 }
 
 // An identifier and a filter, and the number with which they are refused (docs/MANUAL.md): an

@@ -99,6 +99,42 @@ pub(super) const ROWS: &[(&str, &str, &str, &str)] = &[
     ),
 ];
 
+// Requests to a broker into which nobody looked, and what they are answered.
+pub(super) const UNLOOKED: &[(&str, &str, &str, &str)] = &[
+    (
+        "GET /sessions HTTP/1.1\r\n\r\n",
+        "503 Service Unavailable",
+        PLAIN,
+        "503 Service Unavailable\n",
+    ),
+    (
+        "GET /connections HTTP/1.1\r\n\r\n",
+        "503 Service Unavailable",
+        PLAIN,
+        "503 Service Unavailable\n",
+    ),
+    (
+        "GET /status HTTP/1.1\r\n\r\n",
+        "200 OK",
+        JSON,
+        "{\"active\":null,\"nodes\":[]}",
+    ),
+];
+
+// The metrics of a broker without nodes into which nobody looked.
+pub(super) const METRICS_OF_ORDERS: &str = "\
+# HELP vbroker_takeovers_total Takeovers.
+# TYPE vbroker_takeovers_total counter
+vbroker_takeovers_total 1
+# HELP vbroker_refusals_total Of orders.
+# TYPE vbroker_refusals_total counter
+vbroker_refusals_total{number=\"18\"} 2
+# HELP vbroker_commands_held Held by a node.
+# TYPE vbroker_commands_held gauge
+# HELP vbroker_commands_committed As a node knows.
+# TYPE vbroker_commands_committed gauge
+";
+
 // The metrics, in the text format of Prometheus: for each its help, its type, its samples.
 pub(super) const METRICS_BODY: &str = "\
 # HELP vbroker_connections Connections.
@@ -131,16 +167,16 @@ vbroker_publications_total 1000
 # HELP vbroker_losses_total Steps without memory.
 # TYPE vbroker_losses_total counter
 vbroker_losses_total 0
-# HELP vbroker_takeovers_total Takeovers.
-# TYPE vbroker_takeovers_total counter
-vbroker_takeovers_total 1
 # HELP vbroker_received_bytes_total Of clients.
 # TYPE vbroker_received_bytes_total counter
 vbroker_received_bytes_total 12
 # HELP vbroker_sent_bytes_total For clients.
 # TYPE vbroker_sent_bytes_total counter
 vbroker_sent_bytes_total 34
-# HELP vbroker_refusals_total By their number.
+# HELP vbroker_takeovers_total Takeovers.
+# TYPE vbroker_takeovers_total counter
+vbroker_takeovers_total 1
+# HELP vbroker_refusals_total Of orders.
 # TYPE vbroker_refusals_total counter
 vbroker_refusals_total{number=\"18\"} 2
 # HELP vbroker_commands_held Held by a node.

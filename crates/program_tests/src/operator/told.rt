@@ -1,11 +1,10 @@
 // Lines as an operator reads them.
 
-use crate::{CloseReason, Limiter, Notice, QueueState, log_filter, tell, tell_held_back};
 use log::LevelFilter;
 use log::sink::Memory;
+use notices::{CloseReason, Limiter, Notice, QueueState, log_filter, tell, tell_held_back};
 use packet_base::RefusalCode;
 use std::alloc::Global;
-use std::test::*;
 use topics::MalformedKind;
 
 // Notices, and the line of each with its level.

@@ -3,11 +3,11 @@
 mod rows;
 mod views;
 
-use crate::{AdminView, MAX_LISTED, RequestReader, answer, serve_admin};
-use rows::{METRICS, METRICS_BODY, PLAIN, ROWS};
+use admin::{AdminView, MAX_LISTED, RequestReader, answer, serve_admin};
+use rows::{METRICS, METRICS_BODY, METRICS_OF_ORDERS, PLAIN, ROWS, UNLOOKED};
 use std::alloc::{AllocError, Global};
-use std::test::*;
-use views::{fill, session, unused};
+use std::test::Fail;
+use views::{details, fill, session, unlooked};
 
 // Returns the answer with this status, these fields and this body.
 fn whole(alloc: Global, status: &str, fields: &str, body: &str) -> Result<String, AllocError> {
@@ -40,7 +40,7 @@ fn plays(
 
 // Returns how many of the rows are not as they should be.
 fn wrong_rows(alloc: Global) -> Result<usize, AllocError> {
-    let mut view = unused(alloc)?;
+    let mut view = unlooked(alloc)?;
     fill(alloc, &mut view)?;
     let mut wrong = 0usize;
     for row in ROWS {
@@ -53,7 +53,7 @@ fn wrong_rows(alloc: Global) -> Result<usize, AllocError> {
 
 // Returns true if the metrics are these.
 fn metrics_are(alloc: Global) -> Result<bool, AllocError> {
-    let mut view = unused(alloc)?;
+    let mut view = unlooked(alloc)?;
     fill(alloc, &mut view)?;
     plays(
         alloc,
@@ -69,7 +69,7 @@ fn metrics_are(alloc: Global) -> Result<bool, AllocError> {
 
 // Returns true if health and another method have these answers where no primary serves.
 fn refusals_are(alloc: Global) -> Result<bool, AllocError> {
-    let view = unused(alloc)?;
+    let view = unlooked(alloc)?;
     let health = "GET /healthz HTTP/1.1\r\n\r\n";
     let status = "503 Service Unavailable";
     let away = plays(
@@ -84,9 +84,26 @@ fn refusals_are(alloc: Global) -> Result<bool, AllocError> {
     Ok(away && plays(alloc, &view, &(post, status, allow.as_str(), body))?)
 }
 
+// Returns true if what only a look into the nodes shows is refused where nobody looked, and the
+// metrics are without it.
+fn unlooked_are(alloc: Global) -> Result<bool, AllocError> {
+    let view = unlooked(alloc)?;
+    for row in UNLOOKED {
+        if !plays(alloc, &view, row)? {
+            return Ok(false);
+        }
+    }
+    let metrics = "GET /metrics HTTP/1.1\r\n\r\n";
+    plays(
+        alloc,
+        &view,
+        &(metrics, "200 OK", METRICS, METRICS_OF_ORDERS),
+    )
+}
+
 // Returns true if a request of 4,097 bytes is too long, and one of 4,096 is not.
 fn limit_is(alloc: Global) -> Result<bool, AllocError> {
-    let view = unused(alloc)?;
+    let view = unlooked(alloc)?;
     let long = vec![in alloc; b'A'; 4_097]?;
     let too_long = whole(
         alloc,
@@ -114,12 +131,13 @@ fn fed(alloc: Global, request: &[u8]) -> Result<usize, AllocError> {
 
 // Returns how many sessions pages of 1,001 sessions list, one page after the other.
 fn listed(alloc: Global) -> Result<(usize, usize), AllocError> {
-    let mut view = unused(alloc)?;
+    let mut view = unlooked(alloc)?;
+    let mut sessions = Vec::new(alloc);
     for number in 0..=MAX_LISTED {
         let client = format!(in alloc; "client {number:04}")?;
-        view.sessions
-            .push(session(alloc, client.as_str(), None, 0)?)?;
+        sessions.push(session(alloc, client.as_str(), None, 0)?)?;
     }
+    view.details = Some(details(sessions, Vec::new(alloc)));
     let first = answer(alloc, &view, b"GET /sessions HTTP/1.1\r\n\r\n")?;
     let next = answer(
         alloc,
@@ -136,7 +154,7 @@ fn braces(page: &[u8]) -> usize {
 
 // Returns true if a request is answered over a device as in memory.
 fn is_served(alloc: Global, request: &[u8]) -> Result<bool, AllocError> {
-    let view = unused(alloc)?;
+    let view = unlooked(alloc)?;
     let mut input = request;
     let mut output = Vec::new(alloc);
     let served = serve_admin(alloc, &view, &mut input, &mut output).is_ok();
@@ -148,6 +166,7 @@ fn requests_have_their_answers(rt: HostRuntime) -> Result<(), Fail> {
     assert_eq!(rt; wrong_rows(rt.alloc())?, 0);
     assert!(rt; metrics_are(rt.alloc())?);
     assert!(rt; refusals_are(rt.alloc())?);
+    assert!(rt; unlooked_are(rt.alloc())?);
     assert!(rt; limit_is(rt.alloc())?);
     Ok(())
 }

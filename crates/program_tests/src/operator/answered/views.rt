@@ -1,8 +1,8 @@
 // Snapshots for tests.
 
-use crate::{
-    ActiveBallot, AdminView, ConnectionLine, Counters, Filled, NodeLine, RefusalCount, Role,
-    SessionLine,
+use admin::{
+    ActiveBallot, AdminView, ConnectionLine, Counters, Details, Filled, NodeLine, OrderCounts,
+    RefusalCount, Role, SessionLine,
 };
 use std::alloc::{AllocError, Global};
 
@@ -44,36 +44,48 @@ pub(super) fn session(
 }
 
 // Returns counts.
-fn counters(alloc: Global) -> Result<Counters, AllocError> {
-    Ok(Counters {
+fn counters() -> Counters {
+    Counters {
         connections: filled(2, 60),
         sessions: filled(2, 4_096),
         retained: filled(9, 16_384),
         queue: filled(4_096, 4_096),
         publications: 1_000,
-        refusals: Vec::from_slice(
-            alloc,
-            &[RefusalCount {
-                number: 18,
-                count: 2,
-            }],
-        )?,
         losses: 0,
-        takeovers: 1,
         received_bytes: 12,
         sent_bytes: 34,
+    }
+}
+
+// Returns what orders did.
+fn orders(alloc: Global) -> Result<OrderCounts, AllocError> {
+    let refused = RefusalCount {
+        number: 18,
+        count: 2,
+    };
+    Ok(OrderCounts {
+        takeovers: 1,
+        refusals: Vec::from_slice(alloc, &[refused])?,
     })
 }
 
-// Returns what is known of a broker that nobody uses.
-pub(super) fn unused(alloc: Global) -> Result<AdminView, AllocError> {
+// Returns what is known of a broker into which nobody looked.
+pub(super) fn unlooked(alloc: Global) -> Result<AdminView, AllocError> {
     Ok(AdminView {
         active: None,
         nodes: Vec::new(alloc),
-        sessions: Vec::new(alloc),
-        connections: Vec::new(alloc),
-        counters: counters(alloc)?,
+        orders: orders(alloc)?,
+        details: None,
     })
+}
+
+// Returns what is seen by a look into a broker with these sessions and connections.
+pub(super) fn details(sessions: Vec<SessionLine>, connections: Vec<ConnectionLine>) -> Details {
+    Details {
+        sessions,
+        connections,
+        counters: counters(),
+    }
 }
 
 // Returns a connection.
@@ -86,6 +98,23 @@ fn connection(client: Option<String>, connected_seconds: u64) -> ConnectionLine 
     }
 }
 
+// Returns sessions.
+fn sessions(alloc: Global) -> Result<Vec<SessionLine>, AllocError> {
+    let mut sessions = Vec::new(alloc);
+    sessions.push(session(alloc, "a", Some(7), 3)?)?;
+    sessions.push(session(alloc, "b\"\n", None, 4_096)?)?;
+    Ok(sessions)
+}
+
+// Returns connections.
+fn connections(alloc: Global) -> Result<Vec<ConnectionLine>, AllocError> {
+    let mut connections = Vec::new(alloc);
+    let client = Some(String::from_str(alloc, "a")?);
+    connections.push(connection(client, 7))?;
+    connections.push(connection(None, 0))?;
+    Ok(connections)
+}
+
 // Adds nodes, sessions and connections.
 pub(super) fn fill(alloc: Global, view: &mut AdminView) -> Result<(), AllocError> {
     let members = Vec::from_slice(alloc, &[1, 2])?;
@@ -96,10 +125,6 @@ pub(super) fn fill(alloc: Global, view: &mut AdminView) -> Result<(), AllocError
     });
     view.nodes.push(node(1, 2, Role::Primary, 55, 54))?;
     view.nodes.push(node(3, 1, Role::Crashed, 2, 2))?;
-    view.sessions.push(session(alloc, "a", Some(7), 3)?)?;
-    view.sessions.push(session(alloc, "b\"\n", None, 4_096)?)?;
-    let client = Some(String::from_str(alloc, "a")?);
-    view.connections.push(connection(client, 7))?;
-    view.connections.push(connection(None, 0))?;
+    view.details = Some(details(sessions(alloc)?, connections(alloc)?));
     Ok(())
 }
