@@ -6,6 +6,4 @@ pub mod expelling;
 pub mod freezing;
 pub mod node;
 pub mod publications;
-pub mod queue;
-pub mod retained_topics;
 mod traffic;

@@ -4,7 +4,7 @@ use crate::measures::nanos_each;
 use anyhow::Result;
 use ballot_base::Message;
 use broker_spec::Command;
-use message_form::{read_message, write_message};
+use links::message_form::{read_message, write_message};
 use std::alloc::Global;
 use std::time::CpuClock;
 

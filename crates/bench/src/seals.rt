@@ -4,7 +4,7 @@ ghost use Rattle.std.specs.Prelude.{◌<◌, ◌^◌, length};
 
 use crate::measures::nanos_each;
 use anyhow::{Result, ensure};
-use seal::{FrameReader, Opener, Sealer};
+use links::seal::{FrameReader, Opener, Sealer};
 use std::time::CpuClock;
 
 /// The key of the frames.

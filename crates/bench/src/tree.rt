@@ -1,7 +1,7 @@
 // The tree index compared with the list index: a grant, a set and a clear, over many clients with
 // 64 filters each. In processor time.
 
-use crate::measures::{nanos_each, print_memory};
+use crate::measures::nanos_each;
 use anyhow::{Result, ensure};
 use packet_base::{ClientId, QoS};
 use std::alloc::Global;
@@ -37,16 +37,6 @@ pub fn run(rt: &HostRuntime) -> Result<()> {
         measure::<ListIndex>(rt, "list", Shape::Ten, *clients, 10)?;
     }
     Ok(())
-}
-
-/// Prints the time of a set, and the memory of 4,096 clients with 64 filters each, in the tree.
-pub fn fill_only(rt: &HostRuntime) -> Result<()> {
-    let mut index = TreeIndex::new(rt.alloc());
-    let start = rt.process_cpu_time()?;
-    fill(rt.alloc(), &mut index, Shape::One, 4_096)?;
-    let nanos = nanos_each(rt, start, 4_096 * FILTERS)?;
-    println!(rt; "tree, a set in {nanos} ns")?;
-    print_memory(rt, "tree ")
 }
 
 fn measure<I: SubIndex>(

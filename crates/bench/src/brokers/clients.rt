@@ -75,9 +75,9 @@ impl Clients {
 
     /// Publishes under identifier 1, and lets all clients answer the result of it until nothing is
     /// in transit.
-    pub fn publish(&mut self, count: u64, topic: &TopicName, qos: QoS, retain: bool) -> Result<()> {
+    pub fn publish(&mut self, count: u64, topic: &TopicName, qos: QoS) -> Result<()> {
         let name = name_of(count)?;
-        let publish = publication(self.alloc, topic, qos, retain)?;
+        let publish = publication(self.alloc, topic, qos)?;
         self.send(name, Packet::Publish(publish))
     }
 
@@ -147,11 +147,11 @@ fn put_filter(alloc: Global, text: &str, qos: QoS, wanted: &mut Vec<Subscription
     Ok(())
 }
 
-fn publication(alloc: Global, topic: &TopicName, qos: QoS, retain: bool) -> Result<Publish> {
+fn publication(alloc: Global, topic: &TopicName, qos: QoS) -> Result<Publish> {
     Ok(Publish {
         topic: topic.clone()?,
         delivery: delivery_at(qos),
-        retain,
+        retain: false,
         payload: Payload::new(alloc, &PAYLOAD)?,
     })
 }

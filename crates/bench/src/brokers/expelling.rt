@@ -58,7 +58,7 @@ fn fill(rt: &HostRuntime, clients: &mut Clients) -> Result<()> {
 // drop it.
 fn put_in(clients: &mut Clients, topic: &TopicName) -> Result<()> {
     for _ in 0..WAITING {
-        clients.publish(2, topic, QoS::AtLeastOnce, false)?;
+        clients.publish(2, topic, QoS::AtLeastOnce)?;
     }
     Ok(())
 }

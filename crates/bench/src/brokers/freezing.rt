@@ -70,7 +70,7 @@ fn fill(alloc: Global, clients: &mut Clients, waiting: u32) -> Result<()> {
 // Publishes this many times. One filter of each session of the crowd matches.
 fn publish_all(clients: &mut Clients, topic: &TopicName, waiting: u32) -> Result<()> {
     for _ in 0..waiting {
-        clients.publish(1, topic, QoS::AtLeastOnce, false)?;
+        clients.publish(1, topic, QoS::AtLeastOnce)?;
     }
     Ok(())
 }

@@ -78,7 +78,7 @@ fn publish(rt: &HostRuntime, clients: &mut Clients, qos: QoS) -> Result<u128> {
 fn time(rt: &HostRuntime, clients: &mut Clients, qos: QoS, topic: &TopicName) -> Result<u128> {
     let start = rt.process_cpu_time()?;
     for _ in 0..ROUNDS {
-        clients.publish(PUBLISHER, topic, qos, false)?;
+        clients.publish(PUBLISHER, topic, qos)?;
     }
     nanos_each(rt, start, ROUNDS)
 }
