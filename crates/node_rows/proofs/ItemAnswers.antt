@@ -3,7 +3,7 @@ use Rattle.std.proofs.Common.{◌≡◌, true, ℕ, [], ◌∷◌, Some, Ok, cod
 use Rattle.rows.specs.Fields.{Text, number_of}
 use Rattle.ballot_base.specs.declared.message.Message.{Message}
 use Rattle.broker_spec.specs.declared.command.Command.{Command}
-use Rattle.message_form.specs.Outcome.{message_of}
+use Rattle.links.specs.message_form.Outcome.{message_of}
 use Rattle.world_base.specs.declared.node_connections.port.Port.{Port}
 use Rattle.world_base.specs.declared.node_core.item.Item.TheVariants as items
 use Rattle.node_rows.specs.Items.{Items}

@@ -15,7 +15,7 @@ use Rattle.world_base.specs.declared.node_connections.port.Port.{Port}
 use Rattle.world_base.specs.declared.node_core.item.Item.{Item}
 use Rattle.world_base.specs.declared.node_core.item.Item.TheVariants as items
 use Rattle.ballot_base.specs.declared.message.Message.{Message}
-use Rattle.message_form.specs.Outcome.{message_of}
+use Rattle.links.specs.message_form.Outcome.{message_of}
 use Rattle.world_base.specs.node_core.Core.{CountedCore}
 use Rattle.world_base.specs.node_core.Losses.{ItemStepOrLost}
 use Rattle.world_base.specs.node_core.PortOutput.{handed_after, hands_over, listed_at, pending_bytes}

@@ -10,7 +10,7 @@ use Rattle.ballot_base.specs.declared.status.Role.TheVariants as roles
 use Rattle.ballot_base.specs.declared.status.Status.{Status}
 use Rattle.broker_spec.specs.declared.command.Command.{Command}
 use Rattle.broker_spec.specs.declared.command.Output.{Output}
-use Rattle.message_form.specs.Messages.{written}
+use Rattle.links.specs.message_form.Messages.{written}
 use Rattle.world_base.specs.declared.node_connections.handed.Handed.{Handed}
 use Rattle.world_base.specs.declared.node_connections.handed.Handed.TheVariants as handed
 use Rattle.node_rows.specs.Answers.{number_fields}

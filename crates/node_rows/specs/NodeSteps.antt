@@ -11,7 +11,7 @@ use Rattle.ballot_base.specs.declared.message.Message.{Message}
 use Rattle.broker_spec.specs.declared.command.Command.{Command}
 use Rattle.broker_spec.specs.declared.command.Output.{Output}
 use Rattle.world_base.specs.declared.node_connections.port.Port.{Port}
-use Rattle.message_form.specs.Outcome.{message_of}
+use Rattle.links.specs.message_form.Outcome.{message_of}
 use Rattle.world_base.specs.declared.node_core.item.Item.{Item}
 use Rattle.world_base.specs.declared.node_core.item.Item.TheVariants as items
 use Rattle.world_base.specs.node_core.Core.{CountedCore}

@@ -1,13 +1,13 @@
 // The item that a step is.
 
 ghost use Rattle.std.specs.Prelude.{◌≡◌, ◌∷◌, [], IfOk, Ok};
-ghost use Rattle.message_form.specs.Outcome.{message_of};
+ghost use Rattle.links.specs.message_form.Outcome.{message_of};
 ghost use Rattle.node_rows.specs.Items.{Items};
 
 use crate::values::{number_of, port_of};
 use ballot_base::Message;
 use broker_spec::Command;
-use message_form::read_message;
+use links::message_form::read_message;
 use packet_base::ClientId;
 use rows::{Field, StepFault};
 use std::alloc::Global;

@@ -1,7 +1,7 @@
 // Steps of one node: what comes to it, and what it sends then.
 
 ghost use Rattle.std.specs.Prelude.{◌≡◌, ◌++◌, ◌∷◌, [], codes, map, IfOk, OnOk};
-ghost use Rattle.message_form.specs.Messages.{written};
+ghost use Rattle.links.specs.message_form.Messages.{written};
 ghost use Rattle.node_rows.specs.NodeAnswers.{effect_fields, handed_fields, log_fields, stage_text, status_fields};
 ghost use Rattle.node_rows.specs.Answers.{lost_answers};
 ghost use Rattle.node_rows.specs.NodeSteps.{NodeDoes, TakesItem};
@@ -11,7 +11,7 @@ use crate::node_items::{item_of, item_with_value, message_of};
 use crate::values::port_of;
 use ballot_base::{Effect, Message, Role, Status};
 use broker_spec::{Command, Output};
-use message_form::{WriteFault, write_message};
+use links::message_form::{WriteFault, write_message};
 use rows::{Field, Fields, StepFault, counted, only, word, yes_or_no};
 use std::alloc::Global;
 use world_base::{Handed, Item, NodeCore};

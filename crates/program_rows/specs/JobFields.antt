@@ -17,9 +17,18 @@ use Rattle.program_rows.specs.AnswerFields.{flag_fields, number_fields}
 abbrev pub address_fields : Text → List Text
 address_fields address = codes "address" ∷ address ∷ []
 
--- `serve config "one.toml"`
+-- `admin "h:1"`, if there is such an address
+abbrev pub admin_fields : Option (Bor Text) → List Text
+admin_fields None = []
+admin_fields (Some admin) = codes "admin" ∷ admin.now ∷ []
+
+-- `log "info"`, then the address
+abbrev pub told_fields : Serve → List Text
+told_fields job = codes "log" ∷ job.log.now ∷ admin_fields job.admin
+
+-- `serve config "one.toml"`, then the rest
 abbrev pub serve_fields : Serve → List Text
-serve_fields job = codes "serve" ∷ codes "config" ∷ job.config.now ∷ []
+serve_fields job = codes "serve" ∷ codes "config" ∷ job.config.now ∷ told_fields job
 
 -- `tries 10`, then each address
 abbrev pub tries_fields : ℕ → List Text → List Text

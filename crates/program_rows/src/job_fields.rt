@@ -9,7 +9,7 @@ ghost use Rattle.program_rows.specs.JobFields.{address_fields, asked_fields, con
 ghost use Rattle.program_rows.specs.JobFields.{escape_fields, file_fields, job_fields};
 ghost use Rattle.program_rows.specs.JobFields.{message_fields, play_fields};
 ghost use Rattle.program_rows.specs.JobFields.{publish_fields, serve_fields, subscribe_fields};
-ghost use Rattle.program_rows.specs.JobFields.{tries_fields};
+ghost use Rattle.program_rows.specs.JobFields.{admin_fields, told_fields, tries_fields};
 
 use crate::answers::{put_flag, put_number, put_text};
 use command_line::{Escape, Job, Play, Publish, Serve, Subscribe};
@@ -41,7 +41,24 @@ fn put_serve(job: &Serve<'_>, out: &mut Fields) -> Result<(), AllocError>
     ensures { OnOk result (out.new ≡ out.old ++ serve_fields job.now) }
 {
     out.text("serve")?;
-    put_text("config", job.config, out)
+    put_text("config", job.config, out)?;
+    put_told(job, out)
+}
+
+fn put_told(job: &Serve<'_>, out: &mut Fields) -> Result<(), AllocError>
+    ensures { OnOk result (out.new ≡ out.old ++ told_fields job.now) }
+{
+    put_text("log", job.log, out)?;
+    put_admin(job.admin, out)
+}
+
+fn put_admin(admin: Option<&str>, out: &mut Fields) -> Result<(), AllocError>
+    ensures { OnOk result (out.new ≡ out.old ++ admin_fields admin.entry) }
+{
+    match admin {
+        Some(admin) => put_text("admin", admin, out),
+        None => Ok(()),
+    }
 }
 
 fn put_publish(job: &Publish<'_>, out: &mut Fields) -> Result<(), AllocError>
