@@ -2,6 +2,7 @@
 import os
 import queue
 import re
+import socket
 import subprocess
 import sys
 import tempfile
@@ -90,11 +91,13 @@ def program_of(words):
     return os.path.abspath(named)
 
 
-def install(*packages):
-    """Installs Debian's packages, as root."""
-    for words in (["update"], ["install", "-y", "--no-install-recommends", *packages]):
-        subprocess.run(["apt-get", "-q", *words], check=True, stdout=sys.stderr,
-            env={**os.environ, "DEBIAN_FRONTEND": "noninteractive"})
+def free_ports(count):
+    """Returns ports at which nobody listens now."""
+    found = [socket.create_server(("127.0.0.1", 0)) for _ in range(count)]
+    ports = [it.getsockname()[1] for it in found]
+    for it in found:
+        it.close()
+    return ports
 
 
 def built_load(folder):

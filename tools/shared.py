@@ -1,5 +1,5 @@
 """What several tools need: lines of a file, where its functions begin and end, the groups of
-crates.txt, a script as a module."""
+crates.txt, the toolchain's command."""
 import functools
 import importlib.machinery
 import importlib.util
@@ -69,16 +69,11 @@ def groups():
     return found
 
 
-def module_of(path):
-    """Loads a script as a module."""
-    sys.dont_write_bytecode = True
-    name = f"script_{os.path.basename(path)}"
-    loader = importlib.machinery.SourceFileLoader(name, path)
-    made = importlib.util.module_from_spec(importlib.util.spec_from_loader(name, loader))
-    loader.exec_module(made)
-    return made
-
-
 def toolchain():
     """Loads the toolchain's command `rt` as a module."""
-    return module_of(os.path.realpath(shutil.which("rt") or sys.exit("there is no rt on the PATH")))
+    sys.dont_write_bytecode = True
+    path = os.path.realpath(shutil.which("rt") or sys.exit("there is no rt on the PATH"))
+    loader = importlib.machinery.SourceFileLoader("script_rt", path)
+    made = importlib.util.module_from_spec(importlib.util.spec_from_loader("script_rt", loader))
+    loader.exec_module(made)
+    return made
