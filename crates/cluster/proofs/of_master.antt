@@ -1,5 +1,2 @@
-pub mod FieldsGiven
-pub mod NumbersSaid
-pub mod OrdersRefused
 pub mod NextAnswers
 pub mod Standing

@@ -7,13 +7,10 @@ mod master_runs;
 mod node_link;
 mod obeying;
 mod order_socket;
-mod orders;
 mod roster;
 mod serving;
 mod state_file;
 mod told;
-mod word_fault;
-mod words;
 
 pub use hall::Hall;
 pub use key_file::{KEY_BYTES, KeyFault, make_key, read_key};

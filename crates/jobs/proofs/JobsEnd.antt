@@ -11,7 +11,7 @@ use Rattle.user_client.specs.declared.user_client_error.UserClientError.{UserCli
 use Rattle.jobs.specs.Done.{PrintsAll, SaysBye}
 use Rattle.jobs.specs.Failures.{FailsAt, FailsToServe}
 use Rattle.jobs.specs.Errors.{error_of_client, exit_status, error_of_table}
-use Rattle.jobs.specs.Orders.{AreNumbers}
+use Rattle.script.specs.Orders.{AreNumbers}
 use Rattle.jobs.specs.Transcripts.{IsScriptText, PlaysScript, PrintsPlayed, PrintsRecovery, PrintsRecoveryOf}
 use Rattle.jobs.specs.declared.job_error.JobError.{JobError}
 use Rattle.jobs.specs.declared.job_error.JobError.TheVariants as errors

@@ -1,4 +1,1 @@
-pub mod NumbersSaid
-pub mod FieldsGiven
-pub mod OrdersRefused
 pub mod JobsEnd

@@ -5,7 +5,7 @@ use Rattle.command_line.specs.declared.job.Escape.{Escape}
 use Rattle.command_line.specs.declared.job.Play.{Play}
 use Rattle.play.specs.Transcripts.{Plays}
 use Rattle.play.specs.Recoveries.{TellsRecovery}
-use Rattle.jobs.specs.Orders.{AreNumbers}
+use Rattle.script.specs.Orders.{AreNumbers}
 
 -- the text's transcript was written, from a world in which this many events lost something
 pub record Prints (text : List ℕ) (old new : Option (List ℕ)) (losses : ℕ) : Type 0 where

@@ -23,8 +23,6 @@ mod tcp_clients;
 mod teller;
 mod whole_input;
 mod whole_output;
-mod word_fault;
-mod words;
 
 pub use command_line::{Job, LineFault, NodeTable, TableFault, line, table};
 pub use job_error::JobError;

@@ -1,4 +1,4 @@
-// Monitors: whoever asks over HTTP for health, status and metrics.
+// Monitors, which ask over HTTP for health, status and metrics.
 //
 // Eight threads wait in `accept` and serve one connection at a time each, so a ninth waits in the
 // queue of the system. A request has five seconds to come, and each write of the answer one. Nothing
@@ -33,7 +33,7 @@ const PAUSE_MILLIS: u64 = 1;
 /// How many times waiting threads are woken at the end, at most.
 const WAKES: u32 = 10_000;
 
-/// How many bytes behind a request are read at most, so that the answer arrives.
+/// How many pieces of 1,024 bytes are read at most after a request, so that the answer arrives.
 const LEFT_PIECES: usize = 64;
 
 /// Where monitors connect.
@@ -125,7 +125,7 @@ where
     read_rest(&mut input)
 }
 
-// Reads what a monitor sent behind its request: a connection with unread bytes is reset, and its
+// Reads what a monitor sent after its request: a connection with unread bytes is reset, and its
 // answer may be lost.
 fn read_rest<I: Read>(input: &mut I) -> io::Result<()> {
     let mut piece = [0u8; 1_024];

@@ -2,7 +2,7 @@
 
 ghost use Rattle.std.specs.Prelude.{◌≡◌};
 ghost use Rattle.admin.specs.View.{role_text};
-ghost use Rattle.jobs.specs.Orders.{role_of};
+ghost use Rattle.script.specs.Answers.{role_of};
 
 use crate::clerk::Clerk;
 use crate::order_record::Assigned;

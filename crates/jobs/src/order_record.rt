@@ -4,7 +4,7 @@ use admin::{OrderCounts, RefusalCount};
 use ballot_base::{Config, MAX_NODE};
 use std::alloc::{AllocError, Global};
 
-/// How many ballots are remembered, the latest ones. Only one that waits longer than so many later
+/// How many ballots are remembered: the latest ones. One that still waits after this many later
 /// ones is forgotten.
 const BALLOTS: usize = 64;
 

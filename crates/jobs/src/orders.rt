@@ -1,42 +1,20 @@
 // Orders to the nodes of a server, as lines of its input.
 
-ghost use Rattle.std.specs.Prelude.{◌≡◌, None, IfErr, IfOk, OnOk};
-ghost use Rattle.packet_base.specs.ClientId.{client_fault};
-ghost use Rattle.script.specs.Fields.{texts};
-ghost use Rattle.jobs.specs.Orders.{IsNoOrder, IsOrder, IsWordRefused, OrderNothing, Orders, RefusesLine, role_of};
-ghost use Rattle.jobs.specs.declared.orders.Order.TheVariants as orders;
-
 use crate::clerk::Clerk;
 use crate::desk::{Desk, Heard};
 use crate::job_error::JobError;
-use crate::node_view::{node_role, view_of};
+use crate::node_view::view_of;
 use crate::order_record::Assigned;
-use crate::word_fault::WordFault;
-use crate::words::{client_of, members_of, named_node, no_order};
 use ballot_base::errors::ProposeError;
-use ballot_base::{Config, MAX_NODE, Status};
+use ballot_base::{Config, MAX_NODE};
 use master::Idle;
 use packet_base::ClientId;
 use post::Cluster;
 use run_history::RunNaming;
-use script::fields_of;
-use std::alloc::Global;
+use script::orders::{Answer, Order, StatusLine, WordFault, no_order, order_of};
 use std::io::Write;
 use std::sync::Wait;
 use std::time::{Clock, Duration};
-
-// The meaning of a line.
-#[derive(Drop)]
-enum Order {
-    Quit,
-    // Prints the status of each node.
-    Status,
-    // Assigns the next ballot to a configuration.
-    Assign(Config),
-    Crash(u8),
-    // Ends a client's session.
-    Expel(ClientId),
-}
 
 /// How long the attendant waits for an order before it looks at the nodes, in milliseconds.
 const LOOK_MILLIS: u64 = 200;
@@ -153,8 +131,13 @@ where
     O: Write,
     E: Write,
 {
-    let _ = writeln!(output, "refused {number}");
+    print(Answer::Refused(number), output);
     clerk.refused(rt, order, number);
+}
+
+// Prints an answer. Serving goes on even if nothing can be printed.
+fn print<O: Write>(answer: Answer<'_>, output: &mut O) {
+    let _ = writeln!(output, "{answer}");
 }
 
 // Returns a line without its end.
@@ -162,49 +145,7 @@ fn without_end(line: &str) -> &str {
     line.trim_end_matches('\n')
 }
 
-// Returns the order of a line, or why it is refused.
-fn order_of(alloc: Global, line: &str) -> Result<Order, WordFault>
-    ensures order { IfOk result (IsOrder line.now) }
-    ensures refused { IfErr result (RefusesLine line.now) }
-{
-    if let Some(client) = line.strip_prefix("expel ") {
-        return expel_of(alloc, client);
-    }
-    let Ok(fields) = fields_of(alloc, line) else {
-        return Err(WordFault::Memory);
-    };
-    order_of_words(alloc, fields.as_slice())
-}
-
-// Returns the order of a line's words, `expel` apart, or why they are refused.
-fn order_of_words(alloc: Global, words: &[&str]) -> Result<Order, WordFault>
-    ensures order { IfOk result (Orders (texts words.now)) }
-    ensures refused { IfErr result (IsNoOrder (OrderNothing (texts words.now))) }
-{
-    match words {
-        ["quit"] => Ok(Order::Quit),
-        ["status"] => Ok(Order::Status),
-        ["crash", node] => Ok(Order::Crash(named_node(node)?)),
-        ["assign", members, primary] => {
-            let members = members_of(alloc, members)?;
-            let primary = named_node(primary)?;
-            Ok(Order::Assign(Config { members, primary }))
-        }
-        _ => Err(no_order()),
-    }
-}
-
-// Returns the order to expel the client, or why its identifier is refused.
-fn expel_of(alloc: Global, client: &str) -> Result<Order, WordFault>
-    ensures order { IfOk result (λ order. order ≡ orders.Expel client.now) }
-    ensures sound { OnOk result (client_fault client.now ≡ None) }
-    ensures refused { IfErr result (IsWordRefused client.now) }
-{
-    Ok(Order::Expel(client_of(alloc, client)?))
-}
-
-// Carries out an order and prints the result, or returns the number by which it is refused. Serving
-// goes on even if nothing can be printed.
+// Carries out an order and prints the result, or returns the number by which it is refused.
 fn answer<H, R, O, E>(
     rt: &R,
     cluster: &Cluster<H>,
@@ -248,7 +189,7 @@ where
     match cluster.assign(rt, config) {
         Ok(ballot) => {
             assigned.ballot = ballot;
-            let _ = writeln!(output, "ballot {ballot}");
+            print(Answer::Ballot(ballot), output);
             clerk.assigned(rt, assigned);
             None
         }
@@ -273,7 +214,7 @@ where
     clerk.record.crash(number);
     match cluster.crash(rt, number) {
         Ok(true) => {
-            let _ = writeln!(output, "crashed {number}");
+            print(Answer::Crashed(number), output);
             clerk.crashed(rt, number);
             None
         }
@@ -292,7 +233,7 @@ where
 {
     match cluster.expel(rt, client) {
         Ok(true) => {
-            let _ = writeln!(output, "expel {client}");
+            print(Answer::Expelled(client.as_str()), output);
             None
         }
         Ok(false) => Some(ProposeError::NotActive.number()),
@@ -311,27 +252,9 @@ where
     for number in 1..=MAX_NODE {
         if clerk.has(number) {
             if let Some(status) = cluster.status(rt, number) {
-                print_status(number, &status, output);
+                let line = StatusLine::of(number, &status);
+                let _ = writeln!(output, "{line}");
             }
         }
     }
-}
-
-// Prints the status of one node.
-fn print_status<O: Write>(number: u8, status: &Status, output: &mut O) {
-    let ballot = status.ballot;
-    let role = role_of(status);
-    let held = status.held;
-    let committed = status.committed;
-    let _ = writeln!(
-        output,
-        "node {number} ballot {ballot} {role} held {held} committed {committed}"
-    );
-}
-
-// Returns the word for what a node does.
-fn role_of(status: &Status) -> &'static str
-    ensures { result.now ≡ role_of status.now }
-{
-    node_role(status).text()
 }

@@ -9,12 +9,11 @@ ghost use Rattle.jobs.specs.Transcripts.{IsScriptText, PlaysScript, Prints, Prin
 use crate::job_error::JobError;
 use crate::whole_input::{bytes_of, rest_of};
 use crate::whole_output::write;
-use crate::word_fault::WordFault;
-use crate::words::{client_of, members_of};
 use ballot_base::errors::OpeningError;
 use command_line::{Escape, Play};
 use packet_base::ClientId;
 use play::{PlayError, escape, play};
+use script::orders::{WordFault, client_of, members_of};
 use std::alloc::Global;
 use std::io::{BufRead, Write};
 use std::rt::Files;

@@ -288,7 +288,7 @@ where
     obeyed
 }
 
-// Closes the door for monitors, if there is one, at which so many threads began.
+// Closes the door for monitors, if there is one, at which `begun` threads serve.
 fn close<R: Clock + Net<Stream = TcpStream>>(rt: &R, door: &Option<MonitorDoor>, begun: usize) {
     if let Some(door) = door {
         door.close(rt, begun);

@@ -1,10 +1,13 @@
 pub mod AllRead
 pub mod ByWord
+pub mod FieldsGiven
 pub mod FieldsRead
 pub mod Lawful
 pub mod ManyLines
 pub mod NotRefused
+pub mod NumbersSaid
 pub mod OneForm
 pub mod OneLine
 pub mod OneOpening
+pub mod OrdersRefused
 pub mod WithoutFault

@@ -1,5 +1,7 @@
+pub mod Answers
 pub mod Fields
 pub mod Lines
+pub mod Orders
 pub mod Scripts
 pub mod Theorems
 pub mod Faults

@@ -8,6 +8,7 @@ mod line_reader;
 mod lines;
 mod numbers;
 mod opening;
+pub mod orders;
 mod script_line;
 mod script_reader;
 mod theorems;

@@ -1,18 +1,15 @@
 // Carrying out orders, and answering them.
 
-ghost use Rattle.std.specs.Prelude.{◌≡◌};
-ghost use Rattle.cluster.specs.master.Orders.{role_of};
-
 use crate::desk::{DeskError, Keeper, State};
 use crate::master::hall::Hall;
-use crate::master::orders::{Order, order_of};
 use crate::master::roster::{Roster, Seat};
 use crate::master::told;
-use crate::master::words::NO_ORDER;
-use ballot_base::{Config, MAX_NUMBER, Members, Status};
+use ballot_base::errors::{OpeningError, ProposeError};
+use ballot_base::{Config, MAX_NUMBER, Members};
 use links::Parcel;
 use machine::Memory;
 use packet_base::ClientId;
+use script::orders::{Answer, NO_ORDER, Order, StatusLine, order_of};
 use std::io;
 use std::io::{BufRead, ErrorKind, Write};
 use std::sync::Wait;
@@ -21,12 +18,9 @@ use std::time::Clock;
 /// After how long without a report a node is silent, in milliseconds.
 const SILENT_MILLIS: u64 = 1000;
 
-/// The numbers of the refusals that the master has: no node is the active primary; a member has no
-/// number that a node has now; no ballot is left; the state was not kept.
-const NOT_ACTIVE: u8 = 18;
+const SILENT: &str = "silent";
 
-const BAD_MEMBERS: u8 = 20;
-
+/// The numbers of refusals by the master: no ballot is left; the state was not kept.
 const BALLOTS_SPENT: u8 = 21;
 
 const NOT_KEPT: u8 = 25;
@@ -84,9 +78,13 @@ where
     Some(text)
 }
 
-// Prints the refusal of an order, by its number.
+// Writes the line of an answer.
+fn say<O: Write>(output: &mut O, answer: Answer<'_>) {
+    let _ = writeln!(output, "{answer}");
+}
+
 fn refuse<O: Write>(output: &mut O, number: u8) {
-    let _ = writeln!(output, "refused {number}");
+    say(output, Answer::Refused(number));
 }
 
 // Assigns the next ballot, if all of its members are linked now.
@@ -98,13 +96,11 @@ where
 {
     let Config { members, primary } = config;
     if !are_linked(&hall.roster.lock(rt), &members) {
-        return refuse(output, BAD_MEMBERS);
+        return refuse(output, OpeningError::BadMembers.number());
     }
     let given = told::assign(&mut *hall.desk.lock(rt), members, primary);
     match given {
-        Ok(ballot) => {
-            let _ = writeln!(output, "ballot {ballot}");
-        }
+        Ok(ballot) => say(output, Answer::Ballot(ballot)),
         Err(error) => refuse(output, number_of(error)),
     }
 }
@@ -120,7 +116,9 @@ fn are_linked(roster: &Roster, members: &Members) -> bool {
 // Returns the number of a refusal.
 fn number_of(error: DeskError) -> u8 {
     match error {
-        DeskError::BadMembers | DeskError::NeverGiven | DeskError::NumbersSpent => BAD_MEMBERS,
+        DeskError::BadMembers | DeskError::NeverGiven | DeskError::NumbersSpent => {
+            OpeningError::BadMembers.number()
+        }
         DeskError::BallotsSpent => BALLOTS_SPENT,
         DeskError::NotKept => NOT_KEPT,
     }
@@ -134,9 +132,7 @@ where
     O: Write,
 {
     match hall.roster.lock(rt).pass(number, Parcel::Crash) {
-        Ok(true) => {
-            let _ = writeln!(output, "crashed {number}");
-        }
+        Ok(true) => say(output, Answer::Crashed(number)),
         Ok(false) => refuse(output, NO_ORDER),
         Err(Memory) => refuse(output, Memory.number()),
     }
@@ -155,10 +151,8 @@ where
     };
     let passed = pass_to_primary(&mut hall.roster.lock(rt), client);
     match passed {
-        Ok(true) => {
-            let _ = writeln!(output, "expel {named}");
-        }
-        Ok(false) => refuse(output, NOT_ACTIVE),
+        Ok(true) => say(output, Answer::Expelled(named.as_str())),
+        Ok(false) => refuse(output, ProposeError::NotActive.number()),
         Err(Memory) => refuse(output, Memory.number()),
     }
 }
@@ -215,49 +209,28 @@ fn show_members<O: Write>(members: &Members, all: &mut Vec<u8>, output: &mut O) 
 // Prints the status of one node, and its address if it was ever linked.
 fn show_node<O: Write>(number: u8, seat: Option<&Seat>, now: u64, output: &mut O) {
     let Some(seat) = seat else {
-        let _ = writeln!(output, "node {number} ballot 0 silent held 0 committed 0 -");
+        let line = silent(number);
+        let _ = writeln!(output, "{line} -");
         return;
     };
-    let is_silent = now.saturating_sub(seat.reported) > SILENT_MILLIS;
-    let address = seat.address;
-    match &seat.status {
-        Some(status) => {
-            let role = if is_silent { "silent" } else { role_of(status) };
-            let ballot = status.ballot;
-            let held = status.held;
-            let committed = status.committed;
-            let _ = writeln!(
-                output,
-                "node {number} ballot {ballot} {role} held {held} committed {committed} {address}"
-            );
-        }
-        None => {
-            let _ = writeln!(
-                output,
-                "node {number} ballot 0 silent held 0 committed 0 {address}"
-            );
-        }
+    let mut line = match &seat.status {
+        Some(status) => StatusLine::of(number, status),
+        None => silent(number),
+    };
+    if now.saturating_sub(seat.reported) > SILENT_MILLIS {
+        line.role = SILENT;
     }
+    let address = seat.address;
+    let _ = writeln!(output, "{line} {address}");
 }
 
-// Returns the word for what a node does.
-fn role_of(status: &Status) -> &'static str
-    ensures { result.now ≡ role_of status.now }
-{
-    if status.stopped {
-        return "crashed";
+// Returns the line of a node that reported no status.
+fn silent(number: u8) -> StatusLine<'static> {
+    StatusLine {
+        number,
+        ballot: 0,
+        role: SILENT,
+        held: 0,
+        committed: 0,
     }
-    if status.ballot == 0 {
-        return "none";
-    }
-    if status.role.is_active() {
-        return "primary";
-    }
-    if status.role.is_fetching() {
-        return "fetching";
-    }
-    if status.role.is_installing() {
-        return "installing";
-    }
-    "backup"
 }
