@@ -15,12 +15,18 @@ answer_text (answers.Crashed number) = codes "crashed " ++ decimal number
 answer_text (answers.Expelled client) = codes "expel " ++ client.now
 answer_text (answers.Refused number) = codes "refused " ++ decimal number
 
--- the line for a node: its number, its ballot, what it does, how much it holds and knows committed
+-- how many commands a node holds, and of how many it knows that all members hold them
+abbrev pub counts_text : ℕ → ℕ → Text
+counts_text held committed =
+    codes "held " ++ decimal held ++ codes " committed " ++ decimal committed
+
+-- the line for a node: its number, its ballot, what it does, and these counts
 abbrev pub node_text : ℕ → ℕ → Text → ℕ → ℕ → Text
 node_text number ballot role held committed =
     codes "node " ++ decimal number ++ codes " ballot " ++ decimal ballot ++ codes " " ++ role
-    ++ codes " held " ++ decimal held ++ codes " committed " ++ decimal committed
+    ++ codes " " ++ counts_text held committed
 
+-- the text of a line
 abbrev pub line_text : StatusLine → Text
 line_text line = node_text line.number line.ballot line.role.now line.held line.committed
 

@@ -60,12 +60,31 @@ impl fmt::Display for StatusLine<'_> {
         let number = self.number;
         let ballot = self.ballot;
         let role = self.role;
+        let counts = Counts {
+            held: self.held,
+            committed: self.committed,
+        };
+        write!(f, "node {number} ballot {ballot} {role} {counts}")
+    }
+}
+
+// The end of a status line.
+#[derive(Clone, Copy)]
+struct Counts {
+    held: u64,
+    committed: u64,
+}
+
+impl fmt::Display for Counts {
+    ghost use Rattle.std.specs.Prelude.{Some};
+    ghost use Rattle.script.specs.Answers.{counts_text};
+
+    ghost output = { λ counts. Some (counts_text counts.held counts.committed) };
+
+    fn fmt<W: fmt::Write>(&self, f: &mut fmt::Formatter<W>) -> fmt::Result {
         let held = self.held;
         let committed = self.committed;
-        write!(
-            f,
-            "node {number} ballot {ballot} {role} held {held} committed {committed}"
-        )
+        write!(f, "held {held} committed {committed}")
     }
 }
 
