@@ -5,8 +5,9 @@ use Rattle.std.specs.Str.{bytes_eq}
 use Rattle.toml.specs.View.{items_view}
 use Rattle.toml.specs.declared.value.Value.{Value}
 use Rattle.cluster.specs.declared.table.cluster_table.NodeRow.{NodeRow}
-use Rattle.cluster.specs.table.Tables.{Row, items_count, row_data, rows_data, told_apart}
-use Rattle.cluster.specs.table.Tables.Fault.{twice}
+use Rattle.cluster.specs.table.Entries.Fault.{twice}
+use Rattle.cluster.specs.table.Given.{row_data, rows_data}
+use Rattle.cluster.specs.table.Tables.{Row, items_count, told_apart}
 
 pub items_counted : (vs : List Value) → items_count (items_view vs) ≡ length vs
 items_counted [] = refl

@@ -4,9 +4,10 @@ ghost use Rattle.std.specs.Prelude.{◌≡◌, ◌+◌, ◌≤◌, length, strin
 ghost use Rattle.std.specs.List.{list_any};
 ghost use Rattle.std.specs.Str.{bytes_eq};
 ghost use Rattle.toml.specs.View.{items_view, members_view, table_view, view};
-ghost use Rattle.cluster.specs.table.Tables.{Gives, Reads, count_checked, end_at, row_data, row_in};
-ghost use Rattle.cluster.specs.table.Tables.{row_of, rows_data, rows_in, rows_of, table_data};
-ghost use Rattle.cluster.specs.table.Tables.{table_in, text_at, text_in, told_apart, value_at};
+ghost use Rattle.cluster.specs.table.Entries.{end_at, text_at, text_in, value_at};
+ghost use Rattle.cluster.specs.table.Given.{Gives, Reads, row_data, rows_data, table_data};
+ghost use Rattle.cluster.specs.table.Tables.{count_checked, row_in, row_of, rows_in, rows_of};
+ghost use Rattle.cluster.specs.table.Tables.{table_in, told_apart};
 
 use crate::table::cluster_table::{ClusterTable, NodeRow};
 use crate::table::fault::TableFault;
@@ -62,7 +63,7 @@ fn value_at<'a>(
 }
 
 // Returns the text of the key that has to come next.
-#[tactic(auto, unfolding(crate::specs::table::Tables::text_at))]
+#[tactic(auto, unfolding(crate::specs::table::Entries::text_at))]
 fn text_at(
     alloc: Global,
     row: usize,

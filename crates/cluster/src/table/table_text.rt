@@ -1,7 +1,8 @@
 // Reading the table of a cluster.
 
 ghost use Rattle.std.specs.Prelude.{◌≡◌};
-ghost use Rattle.cluster.specs.table.Tables.{Gives, table_data, table_of};
+ghost use Rattle.cluster.specs.table.Given.{Gives, table_data};
+ghost use Rattle.cluster.specs.table.Tables.{table_of};
 
 use crate::table::cluster_table::ClusterTable;
 use crate::table::document::document_table;

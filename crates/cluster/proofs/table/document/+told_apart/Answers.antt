@@ -1,5 +1,6 @@
 use Rattle.std.proofs.Common.{◌≡◌, ◌∷◌, ap, rules, subst, sym, ◌∙◌}
-use Rattle.cluster.specs.table.Tables.{Gives, rows_data, told_apart}
+use Rattle.cluster.specs.table.Given.{Gives, rows_data}
+use Rattle.cluster.specs.table.Tables.{told_apart}
 use Rattle.cluster.proofs.of_table.Counted.{first_apart, link_again, listen_again}
 use Rattle.cluster.proofs.table.document.+told_apart.Goals as goal
 
