@@ -1,1 +1,2 @@
+pub mod LateMessages
 pub mod QoSOfEntries

@@ -6,6 +6,7 @@
 #[cfg(test)]
 mod brokers;
 mod limits;
+mod orders;
 #[cfg(test)]
 mod packets;
 mod ranges;
@@ -18,6 +19,10 @@ mod told;
 mod worlds;
 
 pub use limits::numbers_of_texts;
+pub use orders::{
+    clean_connects_find_nothing, first_faults_of_texts, full_sessions_take_qos_0,
+    late_messages_change_nothing, wildcards_hide_from_dollar,
+};
 pub use ranges::ranges_have_their_edges;
 pub use readings::{
     answers_fit_the_qos, expels_of_nobody_are_nothing, live_connections_are_current,
