@@ -61,8 +61,10 @@ where
 struct Pair<'a, D: Dials> {
     dials: &'a D,
     rows: &'a [String],
-    listeners: (&'a TcpListener, &'a TcpListener),
-    nodes: (&'a LoopNode, &'a LoopNode),
+    one: &'a TcpListener,
+    two: &'a TcpListener,
+    first: &'a LoopNode,
+    second: &'a LoopNode,
 }
 
 // What each gives comes to the other in order, each message with its number.
@@ -71,12 +73,12 @@ where
     R: AllocGlobal + Threads + Wait + Clock + RandomSource + Eprint + Sync,
     D: Dials + Sync,
 {
-    let (first, second) = pair.nodes;
+    let (first, second) = (pair.first, pair.second);
     let one = LinkHall::new(rt.alloc(), life(1, 0), 2, first, now).ok()?;
     let two = LinkHall::new(rt.alloc(), life(2, 1), 2, second, now).ok()?;
     Some(thread::scope(thread::scope_env(), rt, |scope| {
         let (one, two) = (&one, &two);
-        let doors = [pair.listeners.0, pair.listeners.1];
+        let doors = [pair.one, pair.two];
         let all = scope.spawn(move || keep(rt, one, pair, doors[0])).is_ok()
             & scope.spawn(move || keep(rt, two, pair, doors[1])).is_ok();
         let is_met = is_told(rt, first, &[Told::Met(2)]) && is_told(rt, second, &[Told::Met(1)]);
@@ -235,8 +237,10 @@ where
     let pair = Pair {
         dials,
         rows: &rows,
-        listeners: (&one, &two),
-        nodes: (&nodes.0, &nodes.1),
+        one: &one,
+        two: &two,
+        first: &nodes.0,
+        second: &nodes.1,
     };
     exchange(rt, &pair, Instant::now(rt).ok()?)
 }

@@ -55,12 +55,13 @@ impl<'a, R: AllocGlobal + Wait + Clock + RandomSource> NodeEnd<'a, R> {
             number,
         };
         let met = meet(rt, &own, &stream, Duration::from_millis(READ_MILLIS)).ok()?;
+        let cluster = met.other.cluster;
         Some(NodeEnd {
             reader: LinkReader::new(rt.alloc(), met.opener, Way::MasterToNode),
             writer: LinkWriter::new(rt.alloc(), met.sealer),
             came: Parcels::new(rt, rt.alloc()),
             parcels: Vec::new(rt.alloc()),
-            cluster: met.other.cluster,
+            cluster,
             stream,
         })
     }
