@@ -1,5 +1,7 @@
 pub mod of_outbox
 mod HighestFound
+mod LinkKept
 mod NoneAmong
+mod OpensWith
 mod QueuesJoin
 mod RefusedByConfig

@@ -1,21 +1,25 @@
 // A message from one node to another.
 
-ghost use Rattle.std.specs.Prelude.{◌≡◌, ◌++◌, ◌∷◌, [], false, true};
+ghost use Rattle.std.specs.Prelude.{◌≡◌, ◌≢◌, ◌++◌, ◌∷◌, [], Some, false, true};
+ghost use Rattle.links.specs.link_queue.Queues.{with_message, without_message};
 ghost use Rattle.lists.specs.Lists.{has_id};
 ghost use Rattle.world_base.specs.declared.node_core.item.Item.TheVariants.{Peer};
+ghost use Rattle.post.specs.Linked.{body_payload};
 ghost use Rattle.post.specs.outbox.Given.{IsMasterNumber};
 ghost use Rattle.post.specs.outbox.MasterAnswers.{answer_to, master_after_outcome, message_if};
 ghost use Rattle.post.specs.outbox.Replacement.{still_waiting};
 
 use crate::cluster::Cluster;
+use crate::linked::{LinkedNode, RouteQueue};
 use crate::outbox::{Answer, MessagingMaster, Outbox};
+use links::link_queue::Fate;
 use run_history::{RunNaming, SentMessage};
 use std::marker::Model;
 use std::sync::Wait;
 
 /// A message that a node's step sent in the run, with the number of its receiver; 0 is the master.
-/// It cannot be dropped: it ends in its receiver's outbox or at the master, or is lost if no node
-/// has the number.
+/// It cannot be dropped: it ends in its receiver's outbox, at the master or at a link to its
+/// receiver, or is lost if no node has the number.
 pub struct AddressedMessage<H: RunNaming> {
     sent: SentMessage<H>,
 }
@@ -78,6 +82,28 @@ impl<H: RunNaming> AddressedMessage<H> {
         requires none { has_id self.receiver cluster.now ≡ false }
     {
         let _ = cluster;
+        let AddressedMessage { sent: _sent } = self;
+    }
+
+    /// Queues the message for the link that leads to its receiver, as [`RouteQueue::queue`].
+    pub(crate) fn queue_at(self, queue: &mut RouteQueue<H>) -> Fate
+        requires { queue.old.leads ≡ Some self.receiver }
+        ensures queued { result ≡ Fate.Queued → queue.new ≡ record queue.old {
+          queue = with_message queue.old.queue self.message (body_payload self.message.body);
+        } }
+        ensures lost { result ≢ Fate.Queued →
+            queue.new ≡ record queue.old { queue = without_message queue.old.queue } }
+    {
+        let AddressedMessage { sent } = self;
+        queue.queue(sent)
+    }
+
+    /// Drops the message: it is not for `node`, and no route of it leads to its receiver, which no
+    /// clause says.
+    pub(crate) fn lose_away(self, node: &LinkedNode<H>)
+        requires { self.receiver ≡ node.now.number → ⊥ }
+    {
+        let _ = node;
         let AddressedMessage { sent: _sent } = self;
     }
 

@@ -9,7 +9,7 @@
 // is lost, as the protocol allows; orders fail with an error instead. The master has no thread: it
 // only answers, and whoever asks takes its lock.
 
-ghost use Rattle.std.specs.Prelude.{◌≡◌, ◌≤◌, ◌&&◌, IfOk, IfSome, IsErrOf, None, Ok, OnOk, OnSome, false, is_some, length, nat_lt, true};
+ghost use Rattle.std.specs.Prelude.{◌≡◌, ◌≤◌, ◌&&◌, IfOk, IfSome, IsErrOf, None, Ok, OnOk, false, is_some, length, nat_lt, true};
 ghost use Rattle.ballot_base.specs.LawfulConfig.{is_lawful, max_node};
 ghost use Rattle.lists.specs.Lists.{has_id};
 ghost use Rattle.post.specs.outbox.Given.{IsMasterNumber};
@@ -33,11 +33,9 @@ use std::sync::{Mutex, Wait};
 use std::thread;
 use std::time::{Clock, Duration, Instant};
 
-/// How long a thread sleeps between two looks at a node's status, in milliseconds.
+/// How long a thread sleeps between two looks at the status of a node that is to crash, in
+/// milliseconds.
 const NODE_LOOK_MILLIS: u64 = 1;
-
-/// The most looks for the status of a node that is not yet served.
-const STATUS_LOOKS: u32 = 1_000;
 
 /// The deadline of a crash that was ordered, in milliseconds.
 const STOP_MILLIS: u64 = 40;
@@ -67,11 +65,13 @@ impl<H: RunNaming> Model for Cluster<H> {
 }
 
 impl<H: RunNaming> Cluster<H> {
-    /// Returns the nodes of these numbers, and the master of their run, which has given the first
-    /// ballot. `opening` is the run's log as it opened. The only error is that memory ran out.
+    /// Returns the nodes of these numbers, which open in ballot 1 of this configuration, and the
+    /// master of their run, which has given that ballot. `opening` is the run's log as it opened.
+    /// The only error is that memory ran out.
     pub fn new(
         alloc: Global,
         numbers: &[u8],
+        config: &Config,
         master: MasterOnRecord<H>,
         opening: &SeenRun<H>,
     ) -> Result<Cluster<H>, Memory>
@@ -79,7 +79,7 @@ impl<H: RunNaming> Cluster<H> {
         requires numbers { master.state.greatest ≡ max_node }
         ensures { IfOk result (λ cluster. cluster ≡ numbers.now) }
     {
-        let nodes = peers_of(alloc, numbers, opening)?;
+        let nodes = peers_of(alloc, numbers, config, opening)?;
         Ok(Cluster {
             nodes,
             master: Mutex::new(MessagingMaster::new(master)),
@@ -132,10 +132,7 @@ impl<H: RunNaming> Cluster<H> {
         let Some(node) = self.node(number) else {
             return Ok(false);
         };
-        let Some(status) = self.status(rt, number) else {
-            return Ok(false);
-        };
-        if status.stopped || !node.queue_crash(rt)? {
+        if node.status(rt).stopped || !node.queue_crash(rt)? {
             return Ok(false);
         }
         await_stop(rt, node);
@@ -145,7 +142,7 @@ impl<H: RunNaming> Cluster<H> {
     /// Queues the order to end a client's session for the active primary of the highest ballot that
     /// has not crashed, by what each node showed last: no node is asked. Returns false if there is
     /// none. If memory runs out, nothing is queued. No clause says any of this.
-    pub fn expel<R: Wait + Clock>(&self, rt: &R, client: &ClientId) -> Result<bool, Memory> {
+    pub fn expel<R: Wait>(&self, rt: &R, client: &ClientId) -> Result<bool, Memory> {
         let shown = self.shown(rt)?;
         let Some(number) = primary_of(shown.as_slice()) else {
             return Ok(false);
@@ -157,35 +154,25 @@ impl<H: RunNaming> Cluster<H> {
         Ok(true)
     }
 
-    // Returns the status that each served node showed last.
-    fn shown<R: Wait + Clock>(&self, rt: &R) -> Result<Vec<Shown>, Memory> {
+    // Returns the status that each node showed last.
+    fn shown<R: Wait>(&self, rt: &R) -> Result<Vec<Shown>, Memory> {
         let mut shown = Vec::with_capacity(self.alloc, self.nodes.len())?;
         for node in &self.nodes {
-            if let Some(status) = self.status(rt, node.number) {
-                shown.push(Shown {
-                    number: node.number,
-                    status,
-                })?;
-            }
+            shown.push(Shown {
+                number: node.number,
+                status: node.status(rt),
+            })?;
         }
         Ok(shown)
     }
 
-    /// Returns the status that a node showed last. Returns none if no node has this number, or if
-    /// it is not served within [`STATUS_LOOKS`] looks, about a second. The clause says only that
-    /// some node has the number.
-    pub fn status<R: Wait + Clock>(&self, rt: &R, number: u8) -> Option<Status>
-        ensures { OnSome result (is_node self.now number ≡ true) }
+    /// Returns the status that a node showed last; before it is served, that in which it opens.
+    /// Returns none exactly if no node has this number.
+    pub fn status<R: Wait>(&self, rt: &R, number: u8) -> Option<Status>
+        ensures { is_some result ≡ is_node self.now number }
     {
         let node = self.node(number)?;
-        for _ in 0..STATUS_LOOKS {
-            let status = node.status(rt);
-            if status.is_some() {
-                return status;
-            }
-            thread::sleep(rt, Duration::from_millis(NODE_LOOK_MILLIS));
-        }
-        None
+        Some(node.status(rt))
     }
 
     /// Returns true if there are several nodes.
@@ -298,7 +285,7 @@ fn await_stop<H: RunNaming, R: Wait + Clock>(rt: &R, node: &Peer<H>) {
 }
 
 fn has_stopped<H: RunNaming, R: Wait>(rt: &R, node: &Peer<H>) -> bool {
-    matches!(node.status(rt), Some(status) if status.stopped)
+    node.status(rt).stopped
 }
 
 // Returns true once the deadline of a crash has passed, counted from `start`, or if the clock
@@ -313,13 +300,14 @@ fn had_its_time<R: Clock>(rt: &R, start: Instant) -> bool {
 fn peers_of<H: RunNaming>(
     alloc: Global,
     numbers: &[u8],
+    config: &Config,
     opening: &SeenRun<H>,
 ) -> Result<Vec<Peer<H>>, Memory>
     ensures { IfOk result (λ nodes. peer_numbers nodes.items ≡ numbers.now) }
 {
     let mut nodes = Vec::with_capacity(alloc, numbers.len())?;
     for number in numbers {
-        nodes.push(Peer::new(alloc, *number, opening.again()))?;
+        nodes.push(Peer::new(alloc, *number, config, opening.again()))?;
     }
     Ok(nodes)
 }

@@ -14,4 +14,5 @@ pub use order_error::OrderError;
 pub use outbox::Outbox;
 pub use theorems::{later_commits_suffice, later_counts_suffice};
 pub use urgency::is_urgent;
+pub(crate) use urgency::is_urgent_message;
 pub use waker::Waker;

@@ -15,6 +15,7 @@ ghost use Rattle.post.specs.outbox.MasterAnswers.{MayGet};
 ghost use Rattle.post.specs.outbox.Queued.{IsOrder, IsQueued};
 
 use crate::addressed_message::AddressedMessage;
+use crate::opening_status::opening_status;
 use crate::outbox::{Answer, MessagingMaster, OrderError, Outbox, Waker, is_urgent};
 use ballot_base::{Config, Status};
 use machine::Memory;
@@ -64,6 +65,8 @@ pub struct Peer<H: RunNaming> {
     outbox: Mutex<Outbox<H>>,
     // Its intake budget, and its status after its last change.
     intake: Mutex<Intake>,
+    // The status in which it opens, shown until it is served.
+    opens_with: Status,
     // True once the order to crash was queued for it.
     is_crash_ordered: Mutex<bool>,
     waker: Waker,
@@ -78,15 +81,16 @@ impl<H: RunNaming> Model for Peer<H> {
 }
 
 impl<H: RunNaming> Peer<H> {
-    /// Returns the node of this number, for which nothing waits, and which is not served yet.
-    /// `opening` is the run's log as it opened.
-    pub(crate) fn new(alloc: Global, number: u8, opening: SeenRun<H>) -> Peer<H>
+    /// Returns the node of this number, for which nothing waits, and which is not served yet; it
+    /// opens in ballot 1 of this configuration. `opening` is the run's log as it opened.
+    pub(crate) fn new(alloc: Global, number: u8, config: &Config, opening: SeenRun<H>) -> Peer<H>
         ensures { result ≡ record { number = number } }
     {
         Peer {
             number,
             outbox: Mutex::new(Outbox::new(alloc, number, opening)),
             intake: Mutex::new(Intake::new()),
+            opens_with: opening_status(number, config),
             is_crash_ordered: Mutex::new(false),
             waker: Waker::new(),
         }
@@ -308,8 +312,9 @@ impl<H: RunNaming> Peer<H> {
         }
     }
 
-    /// Returns the status that the node showed last; none before it is served.
-    pub(crate) fn status<R: Wait>(&self, rt: &R) -> Option<Status> {
-        self.intake.lock(rt).status()
+    /// Returns the status that the node showed last, or the one in which it opens, before it is
+    /// served. No clause says so.
+    pub(crate) fn status<R: Wait>(&self, rt: &R) -> Status {
+        self.intake.lock(rt).status().unwrap_or(self.opens_with)
     }
 }

@@ -98,9 +98,9 @@ ended_at : (config : Config) (log : List RunEvent) (nodes : List NodeView) (node
 ended_at config log nodes node all long at =
     all at.0 node (omega (arith, at.1, long)) (at_index nodes at.0 node at.1 (sym at.2))
 
-report_in : (config : Config) (log : List RunEvent) (one : EndedView) (index : ℕ)
-    → IsTold one → IsPrefix one.log log → IsEnded max_node config log index one.node → IsReportIn config log one.report
-report_in config log one index told known ended = record {
+pub report_in : (nodes : ℕ) (config : Config) (log : List RunEvent) (one : EndedView) (index : ℕ)
+    → IsTold one → IsPrefix one.log log → IsEnded nodes config log index one.node → IsReportIn nodes config log one.report
+report_in nodes config log one index told known ended = record {
   index = one.node.index;
   named = told.named;
   ended = one.node.node.core;
@@ -158,12 +158,12 @@ served_run config log party nodes others served run end long moved told known id
     λ one at. Contains-permutation (others ++ map node_of served) nodes one.node moved (Contains-append_right others (map node_of served) one.node (contains_map node_of served one at)) in record {
       history = subst (IsHistory max_node config) (sym is_log) end.history;
       reports =
-          subst (λ (l : List RunEvent). All (IsReportIn config l) run.reports.items) (sym is_log)
-          (subst (All (IsReportIn config log)) (sym reports)
-          (All-map (IsReportIn config log) (λ (one : EndedView). one.report) served
+          subst (λ (l : List RunEvent). All (IsReportIn max_node config l) run.reports.items) (sym is_log)
+          (subst (All (IsReportIn max_node config log)) (sym reports)
+          (All-map (IsReportIn max_node config log) (λ (one : EndedView). one.report) served
           (λ k d less.
           let at = among (get_or served k d) (Contains-get_or served k d less) in
-          report_in config log (get_or served k d) at.0 (told k d less) (known k d less) (ended_at config log nodes (get_or served k d).node end.settled long at))));
+          report_in max_node config log (get_or served k d) at.0 (told k d less) (known k d less) (ended_at config log nodes (get_or served k d).node end.settled long at))));
       served =
           subst (IsPermutation (numbers_of served)) (sym (ap (map (λ (report : NodeReport). report.number)) reports ∙ map_twice served))
           (IsPermutation-refl (numbers_of served));

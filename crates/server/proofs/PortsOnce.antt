@@ -143,7 +143,7 @@ served_once : (config : Config) (numbers : List ℕ) (run : ServedRun) → IsSer
 served_once config numbers run served number port has =
     let among = Contains-permutation numbers _ number served.served (has_contains number numbers has) in
     let one = image_of (λ (report : NodeReport). report.number) run.reports.items number among in
-    let in_run = All-contains (IsReportIn config run.log) run.reports.items one.of served.reports one.among in
+    let in_run = All-contains (IsReportIn max_node config run.log) run.reports.items one.of served.reports one.among in
     subst (λ (n : ℕ). openings_at port (items_taken n run.log) ≤ 1) one.is
     (once_at run.log in_run.ended one.of in_run.is port)
 

@@ -13,19 +13,21 @@ use Rattle.server.specs.Ended.{IsReportOf}
 use Rattle.server.specs.declared.node_threads.served_node.NodeReport.{NodeReport}
 use Rattle.server.specs.declared.served_run.ServedRun.{ServedRun}
 
--- by the log of a run that opened in this configuration, the report is of the node of its number
-pub record IsReportIn (config : Config) (log : List RunEvent) (report : NodeReport) : Type 0 where
+-- by the log of a run of so many nodes that opened in this configuration, the report is of the node
+-- of its number
+pub record IsReportIn (nodes : ℕ) (config : Config) (log : List RunEvent)
+    (report : NodeReport) : Type 0 where
   pub index : ℕ
   pub named : index + 1 ≡ report.number
   pub ended : CoreState
-  pub at_end : slice_get (nodes_in max_node config log) index ≡ Some ended
+  pub at_end : slice_get (nodes_in nodes config log) index ≡ Some ended
   pub is : IsReportOf (sent_in log) log ended report
 
 -- What was served is one run of the model of groups, which opened in this configuration. The nodes
 -- of these numbers each have a report of it, in rising order, and the other nodes did nothing.
 pub record IsServedRun (config : Config) (numbers : List ℕ) (run : ServedRun) : Type 0 where
   pub history : IsHistory max_node config run.log
-  pub reports : All (IsReportIn config run.log) run.reports.items
+  pub reports : All (IsReportIn max_node config run.log) run.reports.items
   pub served : IsPermutation numbers
       (map (λ (report : NodeReport). report.number) run.reports.items)
   pub rising : IsNonDecreasingBy (λ (report : NodeReport). report.number) run.reports.items

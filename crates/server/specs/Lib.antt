@@ -2,6 +2,7 @@ pub mod node_threads
 pub mod Ended
 pub mod Ends
 pub mod Inside
+pub mod Linked
 pub mod Opening
 pub mod Ports
 pub mod Promised

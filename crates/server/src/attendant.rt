@@ -1,6 +1,6 @@
 // What runs while nodes are served.
 
-use post::Cluster;
+use post::{Cluster, LinkedNode};
 use run_history::{RunNaming, SeenRun};
 
 /// What runs while nodes are served, and gives them orders.
@@ -23,4 +23,26 @@ pub trait Attendant: Drop {
         seen: &mut SeenRun<H>,
     ) -> Self::Answer
         ensures { attends self cluster.now seen.new result };
+}
+
+/// What runs while a node serves whose other nodes and master are in other programs: it keeps the
+/// links to them.
+pub trait LinkAttendant: Drop {
+    ghost use Rattle.std.specs.Prelude.{ℕ, List};
+    ghost use Rattle.run_history.specs.declared.event.RunEvent.{RunEvent};
+
+    /// What it returns.
+    type Answer: Drop;
+
+    // What it may return, and have seen of the run's log, if it ran with the node of this number.
+    ghost attends: { Self → ℕ → List RunEvent → Self.Answer → Type 0 };
+
+    /// Runs with this node. When it returns, the node ends. `seen` is the log of the run as it
+    /// opened; the run that is returned at the end begins with what it is extended to.
+    fn attend<H: RunNaming + Send + Sync>(
+        self,
+        node: &LinkedNode<H>,
+        seen: &mut SeenRun<H>,
+    ) -> Self::Answer
+        ensures { attends self node.now.number seen.new result };
 }

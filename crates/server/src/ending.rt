@@ -1,12 +1,14 @@
 // Settling the run of the nodes that were served.
 
-ghost use Rattle.std.specs.Prelude.{◌≡◌, ◌++◌, [], All, IfOk, IsPermutation, OnOk, map};
+ghost use Rattle.std.specs.Prelude.{◌≡◌, ◌++◌, [], true, All, Contains, IfOk, IsPermutation, OnOk, map};
 ghost use Rattle.std.specs.List.Sorted.{IsNonDecreasingBy};
 ghost use mathlib.Core.List.{IsPrefix};
+ghost use Rattle.run_history.specs.Linked.{IsRun};
 ghost use Rattle.server.specs.Ended.{IsTold};
-ghost use Rattle.server.specs.Ends.{IsServedRun};
+ghost use Rattle.server.specs.Ends.{IsReportIn, IsServedRun};
 ghost use Rattle.server.specs.Inside.{IsIdle, numbers_of};
 
+use crate::linked_run::LinkedRun;
 use crate::node_threads::{EndedNode, NodeReport};
 use crate::serve_error::ServeError;
 use crate::served_run::ServedRun;
@@ -54,6 +56,47 @@ pub(crate) fn settle<H: RunNaming, R: Wait>(
         log: log.into_log(),
         reports,
     })
+}
+
+/// Returns the run of the node that was served, the only one of linked nodes that did anything here.
+/// `seen` is any prefix of its log. Fails with `Memory` if there is none, which does not occur.
+pub(crate) fn settle_linked<H: RunNaming, R: Wait>(
+    rt: &R,
+    seen: &SeenRun<H>,
+    ended: EndedNodes<H>,
+) -> Result<LinkedRun, ServeError>
+    requires { H.linked ≡ true }
+    ensures seen { IfOk result (λ run. IsPrefix seen.now run.log) }
+    ensures run { IfOk result (λ run. IsRun true H.nodes H.config run.log) }
+    ensures report { IfOk result (λ run. IsReportIn H.nodes H.config run.log run.report) }
+    ensures among { IfOk result (λ run.
+        Contains (numbers_of ended.served.items) run.report.number) }
+{
+    let EndedNodes { served, .. } = ended;
+    let Some(one) = served.into_iter().next() else {
+        return Err(ServeError::Memory);
+    };
+    Ok(settle_one(rt, seen, one))
+}
+
+// Returns the run of a node.
+fn settle_one<H: RunNaming, R: Wait>(rt: &R, seen: &SeenRun<H>, one: EndedNode<H>) -> LinkedRun
+    requires { H.linked ≡ true }
+    ensures seen { IsPrefix seen.now result.log }
+    ensures run { IsRun true H.nodes H.config result.log }
+    ensures report { IsReportIn H.nodes H.config result.log result.report }
+    ensures number { result.report ≡ one.report }
+{
+    let mut mark = seen.again();
+    mark.learn(one.seen());
+    let EndedNode { report, node, .. } = one;
+    mark.learn(&node.seen());
+    node.settle(rt, &mark);
+    mark.is_run();
+    LinkedRun {
+        log: mark.into_log(),
+        report,
+    }
 }
 
 // Returns a prefix of the log that has what was seen, and what these nodes know of messages.

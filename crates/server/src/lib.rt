@@ -3,7 +3,10 @@
 #![tactic(auto)]
 
 mod attendant;
+mod attending;
 mod ending;
+mod linked_run;
+mod linked_service;
 pub mod node_threads;
 mod opening;
 mod outcome;
@@ -11,19 +14,22 @@ mod rows;
 mod serve_error;
 mod served_run;
 mod service;
+mod serving;
 mod shutdown;
 mod theorems;
 mod thread_starts;
 
 pub use crate::node_threads::{NodeReport, THREADS};
-pub use attendant::Attendant;
+pub use attendant::{Attendant, LinkAttendant};
 pub use ballot_base::errors::{OpeningError, ProposeError};
 pub use ballot_base::{Config, MAX_NODE, Members, Status};
+pub use linked_run::LinkedRun;
+pub use linked_service::serve_linked;
 pub use machine::Memory;
 pub use master::Idle;
 pub use node_base::devices::{Gate, NoGate};
-pub use post::Cluster;
 pub use post::outbox::OrderError;
+pub use post::{Cluster, LinkedNode, Route};
 pub use rows::numbers_of_a_server;
 pub use serve_error::ServeError;
 pub use served_run::ServedRun;

@@ -8,7 +8,7 @@ ghost use Rattle.server.specs.Opening.{AddsNode, first_in, inbox_among};
 
 use crate::node_threads::{NodeContexts, OpenedNode};
 use ballot_base::errors::OpeningError;
-use ballot_base::{Config, MAX_NODE};
+use ballot_base::{Config, MAX_NUMBER};
 use machine::Memory;
 use mailbox::Inbox;
 use run_history::{NodeMaker, NodeOnRecord, RunNaming, SeenRun};
@@ -50,8 +50,8 @@ impl<H: RunNaming> OpenedNodes<H> {
 }
 
 /// Opens the node of each number, and puts it on record; those that have a listener are to be
-/// served. Fails with `BadMembers` if two listeners have one number, if a number is outside 1 to
-/// 15, or if no ballot may have the configuration. The other error is that memory ran out.
+/// served. Fails with `BadMembers` if two listeners have one number, if a number is none of the
+/// nodes', or if no ballot may have the configuration. The other error is that memory ran out.
 pub(crate) fn open_all<H: RunNaming>(
     alloc: Global,
     contexts: &NodeContexts<'_, H>,
@@ -59,7 +59,8 @@ pub(crate) fn open_all<H: RunNaming>(
     maker: NodeMaker<H>,
     log: &SeenRun<H>,
 ) -> Result<OpenedNodes<H>, OpeningError>
-    requires nodes { H.nodes ≡ MAX_NODE }
+    requires nodes { contexts.now.nodes ≡ H.nodes }
+    requires bound { contexts.now.nodes ≤ MAX_NUMBER }
     requires config { config.now ≡ H.config }
     requires maker { maker ≡ 0 }
     requires log { log.now ≡ opening_log H.nodes H.config H.linked }
@@ -76,11 +77,11 @@ pub(crate) fn open_all<H: RunNaming>(
     let mut maker = maker;
     let mut opened = OpenedNodes {
         served: Vec::with_capacity(alloc, contexts.listeners.len())?,
-        others: Vec::with_capacity(alloc, usize::from(MAX_NODE))?,
+        others: Vec::with_capacity(alloc, usize::from(contexts.nodes))?,
     };
-    for index in 0..MAX_NODE {
+    for index in 0..contexts.nodes {
         let number = index + 1;
-        let core = NodeCore::new(alloc, number, config)?;
+        let core = NodeCore::up_to(alloc, contexts.nodes, number, config)?;
         let node = maker.make(log, core, index);
         let is_served = contexts.listener_of(number).is_some();
         opened.add(alloc, number, node, is_served)?;

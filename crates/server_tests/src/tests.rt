@@ -1,4 +1,5 @@
-// What no clause says: when logs are cut, and what is refused.
+// What no clause says: when logs are cut, what is refused, and how linked nodes serve.
 
 mod cuts;
+mod linked;
 mod refusals;

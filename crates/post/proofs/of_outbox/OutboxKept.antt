@@ -41,7 +41,7 @@ of_nodes_taken zero items = omega arith
 of_nodes_taken (suc n) [] = omega arith
 of_nodes_taken (suc n) (first ∷ items) = let e = of_nodes_taken n items in omega (arith, e)
 
-each_taken : {A : Type 0} (P : A → Type 0) (n : ℕ) (items : List A) → Each P items → Each P (take n items)
+pub each_taken : {A : Type 0} (P : A → Type 0) (n : ℕ) (items : List A) → Each P items → Each P (take n items)
 each_taken P zero items each = tt
 each_taken P (suc n) [] each = tt
 each_taken P (suc n) (first ∷ items) each = (each.0, each_taken P n items each.1)

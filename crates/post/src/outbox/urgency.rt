@@ -27,8 +27,8 @@ pub(crate) fn is_any_urgent<H: RunNaming>(items: &[SentItem<H>]) -> bool
     items.iter().any(|sent| is_urgent(sent.item()))
 }
 
-// Returns true for every message but a Commit, on which a backup applies places and sends nothing.
-fn is_urgent_message(message: &Message<Command>) -> bool
+/// Returns true for every message but a Commit, on which a backup applies places and sends nothing.
+pub(crate) fn is_urgent_message(message: &Message<Command>) -> bool
     ensures { result ≡ wakes (Peer message.now) }
 {
     !matches!(message.body, Body::Commit(_, _))

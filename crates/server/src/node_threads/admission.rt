@@ -1,6 +1,7 @@
 // Waiting for a node's intake budget.
 
-ghost use Rattle.std.specs.Prelude.{◌≡◌, ◌≤◌, IfSome, None, length};
+ghost use Rattle.std.specs.Prelude.{◌≡◌, ◌≤◌, IfSome, None, false};
+ghost use Rattle.post.specs.Several.{has_several};
 
 use crate::node_threads::shared::Shared;
 use node::{HasState, NodeNaming};
@@ -17,7 +18,7 @@ const ADMIT_LOOK_MILLIS: u64 = 1;
 
 impl<'a, H: RunNaming, J: NodeNaming, S: HasState<H, J>, G: Gate> Shared<'a, H, J, S, G> {
     /// Waits until the node's intake budget has room, and reserves `bytes` of it. Reserves nothing
-    /// if there is only one node, if the node has closed the connection, or if the listener is
+    /// if no ballot has other members, if the node has closed the connection, or if the listener is
     /// closed.
     pub(crate) fn admit<R: Wait + Clock>(
         &self,
@@ -28,9 +29,9 @@ impl<'a, H: RunNaming, J: NodeNaming, S: HasState<H, J>, G: Gate> Shared<'a, H, 
         requires { bytes ≤ PIECE_BYTES }
         ensures all { IfSome result (λ admitted. admitted ≡ bytes) }
         ensures none { bytes ≡ 0 → result ≡ None }
-        ensures alone { length self.now.context.cluster.now ≤ 1 → result ≡ None }
+        ensures alone { has_several self.now.context.neighbours ≡ false → result ≡ None }
     {
-        if bytes == 0 || !self.context.cluster.are_several() {
+        if bytes == 0 || !self.context.neighbours.are_several() {
             return None;
         }
         for _ in rt.forever() {

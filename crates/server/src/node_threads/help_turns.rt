@@ -23,6 +23,8 @@ impl<'a, H: RunNaming, J: NodeNaming, S: HasState<H, J>, G: Gate> ServedNode<'a,
         // thread is awake then, or woken, it looks again before it sleeps. Otherwise the thread
         // that gets the lock of the node's lane takes what waits. If another thread holds that
         // lock, it looks again after it has released it, in its next round or by `wake_urgent`.
+        // What waits for links is written by their threads.
+        self.shared.context.neighbours.wake_links(rt);
         if !self.is_gated {
             for _ in 0..ROUNDS {
                 if !self.help_each(rt, all) {
@@ -30,7 +32,7 @@ impl<'a, H: RunNaming, J: NodeNaming, S: HasState<H, J>, G: Gate> ServedNode<'a,
                 }
             }
         }
-        self.shared.context.cluster.wake_urgent(rt);
+        self.shared.context.neighbours.wake_urgent(rt);
     }
 
     // Makes one round. Returns true if it held the lane of a node, and so has to look again.

@@ -27,6 +27,9 @@ use world_base::node_core::Item;
 /// How often a tick is sent to the node, in milliseconds.
 const TICK_MILLIS: u64 = 200;
 
+/// How long the thread sleeps before the next tick while the node hurries, in milliseconds.
+const HURRY_MILLIS: u64 = 1;
+
 /// How many times the thread looks for items before it sleeps. With the pauses between, this takes
 /// about as long as it takes to wake a thread.
 const LOOKS_BEFORE_SLEEP: u32 = 64;
@@ -35,13 +38,15 @@ const LOOKS_BEFORE_SLEEP: u32 = 64;
 /// after it came.
 const SPINS: u32 = 8;
 
-// The last tick.
+// The last tick that was due by time.
 #[derive(Clone, Copy)]
 struct LastTick {
     // Its time, in the milliseconds of the node's clock; 0 before the first.
     time: u64,
-    // How many ticks were sent (saturates at 2^64 - 1).
+    // How many of them were sent (saturates at 2^64 - 1).
     ticks: u64,
+    // True if the node hurries: the next turn is due after a millisecond.
+    hurries: bool,
 }
 
 impl<'a, H: RunNaming, J: NodeNaming, S: HasState<H, J>, G: Gate> ServedNode<'a, H, J, S, G> {
@@ -50,19 +55,23 @@ impl<'a, H: RunNaming, J: NodeNaming, S: HasState<H, J>, G: Gate> ServedNode<'a,
         ensures { result ≡ self.now.number }
     {
         let shared = &self.shared;
-        let mut last = LastTick { time: 0, ticks: 0 };
+        let mut last = LastTick {
+            time: 0,
+            ticks: 0,
+            hurries: false,
+        };
         for _ in rt.forever() {
             if let Some(closed) = shared.context.listener.closed(rt) {
                 return closed;
             }
             let latest = self.do_own_turn(rt, last);
-            shared.context.cluster.wake_urgent(rt);
+            shared.context.neighbours.wake_urgent(rt);
             shared.writer().write_busy(rt, FIRST_INDEX, false);
             if latest.time > last.time {
                 shared.end_overdue(rt, latest.time);
             }
             last = latest;
-            shared.sleep_until_wanted(rt);
+            shared.sleep_until_wanted(rt, last.hurries);
         }
         unreachable!()
     }
@@ -95,7 +104,22 @@ impl<'a, H: RunNaming, J: NodeNaming, S: HasState<H, J>, G: Gate> Shared<'a, H, 
         self.take_queued(rt, own);
         let last = self.tick(rt, own, last);
         self.cut_by_size(rt, own);
-        last
+        LastTick {
+            hurries: self.hurry(rt, own),
+            ..last
+        }
+    }
+
+    // Sends a tick if the node hurries. It counts for no cut. Returns whether it was sent.
+    fn hurry<R: Wait + Clock>(&self, rt: &R, own: &mut OwnLane<H, J>) -> bool
+        ensures { SendsMore own.old own.new }
+    {
+        if !self.context.neighbours.hurry(rt) {
+            return false;
+        }
+        let now = self.context.now(rt);
+        self.send_own(rt, own, Item::Tick(now));
+        true
     }
 
     // Sends a tick if it is due, and then a cut if that is due by time. Returns the last tick.
@@ -109,7 +133,11 @@ impl<'a, H: RunNaming, J: NodeNaming, S: HasState<H, J>, G: Gate> Shared<'a, H, 
         self.send_own(rt, own, Item::Tick(now));
         let ticks = last.ticks.saturating_add(1);
         self.cut_in_time(rt, own, ticks);
-        LastTick { time: now, ticks }
+        LastTick {
+            time: now,
+            ticks,
+            hurries: false,
+        }
     }
 
     // Sends a tick or a cut, and then takes what waits in the inbox.
@@ -197,14 +225,14 @@ impl<'a, H: RunNaming, J: NodeNaming, S: HasState<H, J>, G: Gate> Shared<'a, H, 
     }
 
     // Sleeps until an item is queued or a tick is due, unless an item comes at once.
-    fn sleep_until_wanted<R: Wait>(&self, rt: &R) {
+    fn sleep_until_wanted<R: Wait>(&self, rt: &R, hurries: bool) {
         if self.comes_at_once(rt) {
             return;
         }
         let is_wanted = self.context.peer.doze(rt) || self.context.listener.is_closed(rt);
         if !is_wanted {
-            let tick = Duration::from_millis(TICK_MILLIS);
-            self.context.peer.sleep(rt, tick);
+            let tick = if hurries { HURRY_MILLIS } else { TICK_MILLIS };
+            self.context.peer.sleep(rt, Duration::from_millis(tick));
         }
     }
 

@@ -106,7 +106,7 @@ impl<'a, H: RunNaming, J: NodeNaming, S: HasState<H, J>, G: Gate> Shared<'a, H, 
         }
         let (more, given) = take_as_permitted(rt, self.alloc, state, permit, lane);
         self.context.peer.show(rt, state.status());
-        self.context.cluster.queue_given(rt, state, given);
+        self.context.neighbours.queue_given(rt, state, given);
         // The node's own thread sends the cut.
         if state.wants_cut() {
             self.context.peer.wake(rt);

@@ -243,9 +243,13 @@ fn fault_of_opened<H: RunNaming, R: Wait + Clock>(
     requires config { opened.config ≡ H.config }
     requires own { H.linked ≡ false }
 {
-    let Opened { run, master, .. } = opened;
+    let Opened {
+        run,
+        master,
+        config,
+    } = opened;
     let (master, _maker, log) = run.named::<H>(master);
-    match Cluster::new(alloc, &[1, 2], master, &log) {
+    match Cluster::new(alloc, &[1, 2], &config, master, &log) {
         Ok(cluster) => fault_in(rt, alloc, &cluster, rows),
         Err(_) => Some(None),
     }

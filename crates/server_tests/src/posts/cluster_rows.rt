@@ -54,6 +54,14 @@ type Table = (&'static str, &'static [Row]);
 
 const SHOWN: &[Table] = &[
     (
+        "a node that is not served yet shows how it opens",
+        &[
+            (Act::Status(1), Came::Has(Some(FIRST))),
+            (Act::Status(2), Came::Has(Some(BACKUP))),
+            (Act::Status(3), Came::Has(None)),
+        ],
+    ),
+    (
         "a node shows how much it applied",
         &[
             (Act::Show(1, PRIMARY), Came::Done),

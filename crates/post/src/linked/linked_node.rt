@@ -1,0 +1,263 @@
+// A node whose other nodes and master are in other programs.
+//
+// The order of locks is that of `Cluster`, with a route in place of an outbox of another node, and
+// what links bring in place of the master: it is locked while no other lock is held. What the
+// node's steps gave is queued while its state is locked, so messages keep the order of the steps.
+// Nothing is written there, and nobody is woken.
+
+ghost use Rattle.std.specs.Prelude.{◌≡◌, IfOk, IfSome, is_some, nat_lt, length};
+ghost use Rattle.post.specs.Linked.{LinkedView};
+
+use crate::addressed_message::AddressedMessage;
+use crate::given_effects::{GivenEffects, Receivers, queue_all};
+use crate::linked::route::Route;
+use crate::peer::Peer;
+use ballot_base::{Config, MASTER, Message, Status};
+use broker_spec::Command;
+use machine::Memory;
+use node::{NodeNaming, NodeState};
+use packet_base::ClientId;
+use run_history::{LinksOnRecord, RunNaming, SeenRun, SentMessage};
+use std::alloc::Global;
+use std::marker::Model;
+use std::sync::{Mutex, Wait};
+
+/// How many ticks a node hurries after a link came up: one for each place that may be open, and for
+/// what was in transit.
+const HURRIED_TICKS: u32 = 8_192;
+
+/// A node whose other nodes and master are in other programs: the node as its links see it, a route
+/// to the node of each row of the cluster's table, and one to the master. What waits is under
+/// locks, so no clause of a call says what is queued.
+#[derive(Drop)]
+pub struct LinkedNode<H: RunNaming> {
+    peer: Peer<H>,
+    // Puts what links bring on record.
+    links: Mutex<LinksOnRecord<H>>,
+    // In the order of the table.
+    rows: Vec<Route<H>>,
+    master: Route<H>,
+    // How many ticks it hurries still.
+    hurry: Mutex<u32>,
+}
+
+impl<H: RunNaming> Model for LinkedNode<H> {
+    ghost use Rattle.std.specs.Prelude.{length};
+    ghost use Rattle.post.specs.Linked.{LinkedView};
+
+    ghost Value = { LinkedView };
+
+    ghost view = { λ node. record { number = node.peer.number; rows = length node.rows.items } };
+}
+
+impl<H: RunNaming> LinkedNode<H> {
+    /// Returns the node of this number, which opens in ballot 1 of this configuration, with a route
+    /// to each of so many rows. No link has come up. `opening` is the run's log as it opened. The
+    /// only error is that memory ran out.
+    pub fn new(
+        alloc: Global,
+        number: u8,
+        config: &Config,
+        rows: usize,
+        links: LinksOnRecord<H>,
+        opening: &SeenRun<H>,
+    ) -> Result<LinkedNode<H>, Memory>
+        ensures { IfOk result (λ node. node ≡ record { number = number; rows = rows }) }
+    {
+        let rows = routes_of(alloc, rows, opening)?;
+        Ok(LinkedNode {
+            peer: Peer::new(alloc, number, config, opening.again()),
+            links: Mutex::new(links),
+            rows,
+            master: Route::new(alloc, opening.again()),
+            hurry: Mutex::new(0),
+        })
+    }
+
+    /// Returns the node's number.
+    pub fn number(&self) -> u8
+        ensures { result ≡ self.now.number }
+    {
+        self.peer.number
+    }
+
+    /// Returns how many rows the table has.
+    pub fn rows(&self) -> usize
+        ensures { result ≡ self.now.rows }
+    {
+        self.rows.len()
+    }
+
+    /// Returns the route to the node of a row, counted from 0.
+    pub fn row(&self, index: usize) -> Option<&Route<H>>
+        ensures { is_some result ≡ nat_lt index self.now.rows }
+    {
+        self.rows.get(index)
+    }
+
+    /// Returns the route to the master.
+    pub fn master(&self) -> &Route<H> {
+        &self.master
+    }
+
+    /// Returns the node as its own threads see it.
+    pub fn peer(&self) -> &Peer<H>
+        ensures { result.now.number ≡ self.now.number }
+    {
+        &self.peer
+    }
+
+    /// Puts a message that a link has read on record, queues it for the node, and wakes the node's
+    /// own thread, if the message is urgent. Without room or memory it is lost, as the protocol
+    /// allows. No clause says that it waits in the outbox afterwards.
+    pub fn bring<R: Wait>(&self, rt: &R, message: Message<Command>) {
+        let sent = self.put_on_record(rt, message);
+        self.peer.queue_addressed(rt, AddressedMessage::new(sent));
+        self.peer.wake_if_urgent(rt);
+    }
+
+    fn put_on_record<R: Wait>(&self, rt: &R, message: Message<Command>) -> SentMessage<H>
+        ensures { result.receiver ≡ self.now.number }
+    {
+        self.links.lock(rt).bring(rt, self.peer.number, message)
+    }
+
+    /// Returns the status that the node showed last; before it is served, that in which it opens.
+    pub fn status<R: Wait>(&self, rt: &R) -> Status {
+        self.peer.status(rt)
+    }
+
+    /// Lets the node hurry, as a link has come up again: what was in transit on it may be lost, and a
+    /// primary repeats one place a tick.
+    pub fn hurry<R: Wait>(&self, rt: &R) {
+        *self.hurry.lock(rt) = HURRIED_TICKS;
+        self.peer.wake(rt);
+    }
+
+    /// Returns true if the node is to tick at once: it hurries, and is an active primary of which
+    /// not all places are agreed. Counts that as a hurried tick.
+    pub(crate) fn hurries<R: Wait>(&self, rt: &R) -> bool {
+        let mut left = self.hurry.lock(rt);
+        if *left == 0 {
+            return false;
+        }
+        *left = if has_open_places(self.peer.status(rt)) {
+            *left - 1
+        } else {
+            0
+        };
+        *left > 0
+    }
+
+    /// Queues the order to crash. Returns false if it was queued before. Fails if memory runs out:
+    /// then it is not queued.
+    pub fn crash<R: Wait>(&self, rt: &R) -> Result<bool, Memory> {
+        self.peer.queue_crash(rt)
+    }
+
+    /// Queues the order to end a client's session. Fails if memory runs out: then it is not queued.
+    pub fn expel<R: Wait>(&self, rt: &R, client: &ClientId) -> Result<(), Memory> {
+        self.peer.queue_expel(rt, client)
+    }
+
+    /// Queues what the node's steps gave for others, in order. `giver` is the node's state, as
+    /// evidence that the caller holds its lock. A message for a number to which no route leads is
+    /// lost. Nobody is woken: the caller calls [`LinkedNode::wake_urgent`], once it has released
+    /// the lock. No clause says that a message waits for a link afterwards.
+    pub fn queue_given<J: NodeNaming, R: Wait>(
+        &self,
+        rt: &R,
+        giver: &NodeState<H, J>,
+        given: GivenEffects<H>,
+    ) {
+        // Evidence alone: nothing of it is read.
+        let _ = giver;
+        queue_all(rt, &mut NodeAndRoutes { node: self }, given);
+    }
+
+    /// Wakes the node's own thread and the threads that write on links, where something urgent
+    /// waits.
+    pub fn wake_urgent<R: Wait>(&self, rt: &R) {
+        self.peer.wake_if_urgent(rt);
+        self.wake_links(rt);
+    }
+
+    /// Wakes the threads that write on links, where something urgent waits.
+    pub(crate) fn wake_links<R: Wait>(&self, rt: &R) {
+        self.master.wake_if_urgent(rt);
+        for route in &self.rows {
+            route.wake_if_urgent(rt);
+        }
+    }
+
+    // Queues a message of the node for its receiver.
+    fn queue<R: Wait>(&self, rt: &R, addressed: AddressedMessage<H>) {
+        if addressed.receiver() == self.peer.number {
+            self.peer.queue_addressed(rt, addressed);
+        } else if addressed.receiver() == MASTER {
+            self.queue_for_master(rt, addressed);
+        } else {
+            self.queue_away(rt, addressed);
+        }
+    }
+
+    // Queues a message for the master, if its link came up once.
+    fn queue_for_master<R: Wait>(&self, rt: &R, addressed: AddressedMessage<H>)
+        requires { addressed.receiver ≡ self.now.number → ⊥ }
+    {
+        match self.master.offer(rt, addressed) {
+            Some(back) => back.lose_away(self),
+            None => {}
+        }
+    }
+
+    // Queues a message at the route that leads to its receiver, if there is one.
+    fn queue_away<R: Wait>(&self, rt: &R, addressed: AddressedMessage<H>)
+        requires { addressed.receiver ≡ self.now.number → ⊥ }
+    {
+        let mut unsent = addressed;
+        for route in &self.rows {
+            match route.offer(rt, unsent) {
+                Some(back) => unsent = back,
+                None => return,
+            }
+        }
+        unsent.lose_away(self);
+    }
+}
+
+// Returns true for an active primary of which not all places are agreed.
+fn has_open_places(status: Status) -> bool {
+    status.serves() && status.committed < status.held
+}
+
+fn routes_of<H: RunNaming>(
+    alloc: Global,
+    rows: usize,
+    opening: &SeenRun<H>,
+) -> Result<Vec<Route<H>>, Memory>
+    ensures { IfOk result (λ routes. length routes.items ≡ rows) }
+{
+    let mut routes = Vec::with_capacity(alloc, rows)?;
+    for _ in 0..rows {
+        routes.push(Route::new(alloc, opening.again()))?;
+    }
+    Ok(routes)
+}
+
+// The node itself and its routes, as receivers of messages.
+#[derive(Drop)]
+struct NodeAndRoutes<'a, H: RunNaming> {
+    node: &'a LinkedNode<H>,
+}
+
+impl<'a, H: RunNaming> Receivers<AddressedMessage<H>> for NodeAndRoutes<'a, H> {
+    // It queues under locks, of which no clause speaks.
+    ghost queues = { λ _ _ _. Unit {0} };
+
+    fn queue<R: Wait>(&mut self, rt: &R, addressed: AddressedMessage<H>)
+        ensures { Unit {0} }
+    {
+        self.node.queue(rt, addressed);
+    }
+}

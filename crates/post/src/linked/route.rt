@@ -1,0 +1,121 @@
+// The way to a node of another program, or to the master.
+//
+// All that waits there is under one lock, held for one call: the thread that does the node's step
+// only pushes, and waits for no socket. The thread that writes takes all at once. It says the
+// number that its connection was made with, so what was sent to one life of a node is never written
+// to another.
+
+ghost use Rattle.std.specs.Prelude.{◌≡◌, IfSome};
+ghost use Rattle.lists.specs.Lists.{Each};
+ghost use Rattle.post.specs.Linked.{IsSentTo};
+
+use crate::addressed_message::AddressedMessage;
+use crate::linked::route_queue::RouteQueue;
+use crate::outbox::Waker;
+use broker_spec::Command;
+use links::link_queue::{LogName, Waiting};
+use run_history::{RunNaming, SeenRun};
+use std::alloc::Global;
+use std::sync::{Mutex, Wait};
+use std::time::Duration;
+
+/// What waits for the node of a row, or for the master, and the waker of the thread that writes it
+/// on a link. All of it is under locks, so no clause of a call says what waits.
+#[derive(Drop)]
+pub struct Route<H: RunNaming> {
+    queue: Mutex<RouteQueue<H>>,
+    waker: Waker,
+}
+
+impl<H: RunNaming> Route<H> {
+    /// Returns the route of a link that never came up. `opening` is the run's log as it opened.
+    pub(crate) fn new(alloc: Global, opening: SeenRun<H>) -> Route<H> {
+        Route {
+            queue: Mutex::new(RouteQueue::new(alloc, opening)),
+            waker: Waker::new(),
+        }
+    }
+
+    /// Notes that the link came up with the node of this number; 0 is the master. If it is another
+    /// one than before, what waited is dropped. Logs that were in transit may be queued again.
+    pub fn meet<R: Wait>(&self, rt: &R, number: u8) {
+        self.queue.lock(rt).meet(number);
+    }
+
+    /// Notes that the link to the node of this number broke: logs that were in transit may be
+    /// queued again. Does nothing if the route leads to another node by now.
+    pub fn part<R: Wait>(&self, rt: &R, number: u8) {
+        let mut queue = self.queue.lock(rt);
+        if queue.leads_to(number) {
+            queue.part();
+        }
+    }
+
+    /// Takes all that waits for the node of this number, in order. Returns none if the route leads
+    /// to another node by now: then the connection has to end.
+    pub fn take<R: Wait>(&self, rt: &R, alloc: Global, number: u8) -> Option<Vec<Waiting<Command>>>
+        ensures { IfSome result (λ taken.
+            Each (IsSentTo H.linked H.nodes H.config number) taken.items) }
+    {
+        let mut queue = self.queue.lock(rt);
+        if queue.leads_to(number) {
+            Some(queue.take(alloc, number))
+        } else {
+            None
+        }
+    }
+
+    /// Notes that a log which was taken has left for the node of this number: another of its kind
+    /// and ballot may be queued. Does nothing if the route leads to another node by now.
+    pub fn sent<R: Wait>(&self, rt: &R, number: u8, name: LogName) {
+        let mut queue = self.queue.lock(rt);
+        if queue.leads_to(number) {
+            queue.sent(name);
+        }
+    }
+
+    /// Sleeps until a message waits for which the thread is to be woken, which all are but a
+    /// Commit, until [`Route::wake`] is called, or until `time` has passed. One thread at a time
+    /// sleeps here.
+    pub fn wait<R: Wait>(&self, rt: &R, time: Duration) {
+        self.waker.doze(rt);
+        if self.queue.lock(rt).is_urgent() {
+            return;
+        }
+        self.waker.sleep(rt, time);
+    }
+
+    /// Wakes the thread that sleeps in [`Route::wait`].
+    pub fn wake<R: Wait>(&self, rt: &R) {
+        self.waker.wake(rt);
+    }
+
+    /// Returns how many messages were dropped (saturates at 2^64 - 1).
+    pub fn dropped<R: Wait>(&self, rt: &R) -> u64 {
+        self.queue.lock(rt).dropped()
+    }
+
+    /// Wakes the thread that sleeps in [`Route::wait`], if an urgent message waits.
+    pub(crate) fn wake_if_urgent<R: Wait>(&self, rt: &R) {
+        if self.queue.lock(rt).is_urgent() {
+            self.waker.wake(rt);
+        }
+    }
+
+    /// Queues a message, if the link leads to its receiver; without room or memory it is lost, as
+    /// the protocol allows. Otherwise returns it.
+    pub(crate) fn offer<R: Wait>(
+        &self,
+        rt: &R,
+        addressed: AddressedMessage<H>,
+    ) -> Option<AddressedMessage<H>>
+        ensures { IfSome result (λ back. back ≡ addressed) }
+    {
+        let mut queue = self.queue.lock(rt);
+        if !queue.leads_to(addressed.receiver()) {
+            return Some(addressed);
+        }
+        let _ = addressed.queue_at(&mut queue);
+        None
+    }
+}
