@@ -1,8 +1,10 @@
-//! Tests of the words and the table of `vcluster`, of the files of its master, and of a master with
-//! nodes over loopback. A crate with tests is proved a second time with them, so they are a crate
-//! of their own.
+//! Tests of the words and the table of `vcluster`, of what its master keeps and in which files, and
+//! of a master with nodes over loopback. A crate with tests is proved a second time with them, so
+//! they are a crate of their own.
 #![tactic(auto)]
 
+#[cfg(test)]
+mod desk_rows;
 #[cfg(test)]
 mod disk;
 #[cfg(test)]

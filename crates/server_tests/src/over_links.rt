@@ -1,6 +1,5 @@
-// What goes over a link between nodes, its ends, and what the master of a cluster keeps.
+// What goes over a link between nodes, and its ends.
 
-mod desk_rows;
 mod frame_rows;
 mod link_ends;
 mod message_rows;
