@@ -1,5 +1,4 @@
-// What no clause says: when logs are cut, what is refused, and how linked nodes serve.
+// What no clause says: when logs are cut, and what is refused.
 
 mod cuts;
-mod linked;
 mod refusals;
