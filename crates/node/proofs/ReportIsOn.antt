@@ -9,19 +9,18 @@ use Rattle.world_base.specs.node_core.Core.{CountedCore}
 use Rattle.run_history.specs.Log.{items_taken}
 use Rattle.run_history.specs.Parties.{NodeView as RecordView}
 use Rattle.node.specs.LockedNode.{ReportsOn}
-use Rattle.node.specs.Report.{ReportsAll}
+use Rattle.node.specs.Report.{ReportsAll, ReportView}
 use Rattle.node.specs.State.{AreOfLanes, NodeStateView, Replays, items_of, on_record}
-use Rattle.node.specs.declared.report.Report.{Report}
 
-pub report_is_on : (first_of : ℕ → CountedCore) (state : NodeStateView) (number : ℕ) (old lanes : List (LaneView Item)) (report : Report)
+pub report_is_on : (first_of : ℕ → CountedCore) (state : NodeStateView) (number : ℕ) (old lanes : List (LaneView Item)) (report : ReportView)
     (ended : RecordView) → state.receiver.inbox ≡ number → length old ≡ state.receiver.lanes → map unmet lanes ≡ map unmet old
     → ended ≡ on_record state → Replays (first_of state.receiver.inbox) state.receiver.taken state.node
     → ended.index + 1 ≡ state.receiver.inbox → items_taken state.receiver.inbox state.log ≡ items_of state.receiver.taken
-    → All (ReportsAll state.receiver.taken report.left.items) lanes → AreOfLanes state.receiver
-    → length report.taken.items ≡ state.receiver.lanes
-    → EachIndex report.taken.items (λ lane. slice_index report.taken.items lane ≡ length (items_of_lane lane state.receiver.taken))
-    → report.base ≡ state.node.core.replica.state.log.base → ReportsOn (first_of number) number lanes report ended
-report_is_on first_of state number old lanes report ended is_number all same is_ended replays named items whole below each counted base =
+    → All (ReportsAll state.receiver.taken report.left) lanes → AreOfLanes state.receiver
+    → length report.taken ≡ state.receiver.lanes
+    → EachIndex report.taken (λ lane. slice_index report.taken lane ≡ length (items_of_lane lane state.receiver.taken))
+    → report.number ≡ state.receiver.inbox → report.base ≡ state.node.core.replica.state.log.base → ReportsOn (first_of number) number lanes report ended
+report_is_on first_of state number old lanes report ended is_number all same is_ended replays named items whole below each counted of base =
     let lens : state.receiver.lanes ≡ length lanes
     = sym all ∙ (sym (length-map old unmet) ∙ (sym (ap length same) ∙ length-map lanes unmet)) in
     record {
@@ -29,6 +28,7 @@ report_is_on first_of state number old lanes report ended is_number all same is_
       replays = subst (λ n. Replays (first_of n) state.receiver.taken ended.node) is_number
           (subst (λ (e : RecordView). Replays (first_of state.receiver.inbox) state.receiver.taken e.node) (sym is_ended) replays);
       named = named ∙ is_number;
+      of = of ∙ is_number;
       items = subst (λ n. items_taken n ended.log ≡ items_of state.receiver.taken) is_number
           (ap (λ (e : RecordView). items_taken state.receiver.inbox e.log) is_ended ∙ items);
       whole = whole;

@@ -7,9 +7,8 @@ use Rattle.world_base.specs.declared.node_core.item.Item.{Item}
 use Rattle.world_base.specs.node_core.Core.{CountedCore}
 use Rattle.run_history.specs.Log.{items_taken}
 use Rattle.run_history.specs.Parties.{NodeView as RecordView}
-use Rattle.node.specs.Report.{ReportsAll}
+use Rattle.node.specs.Report.{ReportsAll, ReportView}
 use Rattle.node.specs.State.{Replays, NodeStateView, items_of, next_taking}
-use Rattle.node.specs.declared.report.Report.{Report}
 
 -- what a node shows outside its lock: its number, how many lanes its inbox has, and whether a gate
 -- is asked before each taking
@@ -52,16 +51,18 @@ pub record AreItsLanes (node : NodeView) (lanes : List (LaneView Item)) : Type 0
 -- The report is of the node of this number, as it ended, which was the replay of what it took, from
 -- this first state on; by the log that it knows it took just this. Lane by lane, what it took
 -- followed by what is left over is all that was sent, in order; and nothing was taken from other
--- lanes. The report has the count of items taken of each lane, and the base of the node's log.
+-- lanes. The report has the node's number, the count of items taken of each lane, and the base of
+-- the node's log.
 pub record ReportsOn (first : CountedCore) (number : ℕ) (lanes : List (LaneView Item))
-    (report : Report) (ended : RecordView) : Type 0 where
+    (report : ReportView) (ended : RecordView) : Type 0 where
   pub taken : List (ℕ × Item)
   pub replays : Replays first taken ended.node
   pub named : ended.index + 1 ≡ number
+  pub of : report.number ≡ number
   pub items : items_taken number ended.log ≡ items_of taken
-  pub whole : All (ReportsAll taken report.left.items) lanes
+  pub whole : All (ReportsAll taken report.left) lanes
   pub below : Each (λ (one : ℕ × Item). one.0 < length lanes) taken
-  pub each : length report.taken.items ≡ length lanes
-  pub counted : EachIndex report.taken.items (λ lane.
-      slice_index report.taken.items lane ≡ length (items_of_lane lane taken))
+  pub each : length report.taken ≡ length lanes
+  pub counted : EachIndex report.taken (λ lane.
+      slice_index report.taken lane ≡ length (items_of_lane lane taken))
   pub base : report.base ≡ ended.node.core.replica.state.log.base

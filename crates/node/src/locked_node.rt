@@ -15,7 +15,7 @@ ghost use Rattle.node.specs.LockedNode.{AreItsLanes, ReportsOn, WasAsked, WasInf
 use crate::naming::NodeNaming;
 use crate::node_state::NodeState;
 use crate::permit::Permit;
-use crate::report::Report;
+use crate::report::{Report, ReportSpace};
 use machine::Memory;
 use mailbox::{Lane, MAX_ITEMS};
 use node_base::devices::Gate;
@@ -59,9 +59,9 @@ pub struct Node<'g, H: RunNaming, J: NodeNaming, S: HasState<H, J>, G: Gate> {
     passing: Mutex<()>,
     // The number of takings for which the gate did not open (saturates at 2^64 - 1).
     missed: Mutex<u64>,
-    // Allocated beforehand, so that closing needs no memory: the report, and what is left over as it
-    // lies in the inbox.
-    report: Report,
+    // Allocated beforehand, so that closing needs no memory: for the report, and for what is left
+    // over as it lies in the inbox.
+    space: ReportSpace,
     envelopes: Vec<(u8, SentItem<H>)>,
     // Which node the number names; the caller chooses it.
     naming: PhantomData<J>,
@@ -77,17 +77,17 @@ impl<'g, H: RunNaming, J: NodeNaming, S: HasState<H, J>, G: Gate> Model for Node
 
     ghost view = { λ node. record {
       number = node.number;
-      lanes = length node.report.taken.items;
+      lanes = length node.space.taken.items;
       is_gated = is_some node.gate;
     } };
 
-    ghost invariant = { λ node. HasCapacity (length node.report.taken.items) node.report
+    ghost invariant = { λ node. HasCapacity (length node.space.taken.items) node.space
         × (node.envelopes.items ≡ []) × (max_items ≤ vec_capacity node.envelopes) };
 }
 
 impl<'g, H: RunNaming, J: NodeNaming, G: Gate> Node<'g, H, J, NodeState<H, J>, G> {
-    /// Returns a node with this state, and a gate or none. Allocates its report. The only error is
-    /// that memory ran out: then the state is dropped.
+    /// Returns a node with this state, and a gate or none. Allocates space for its report. The only
+    /// error is that memory ran out: then the state is dropped.
     pub fn start(
         alloc: Global,
         state: NodeState<H, J>,
@@ -98,7 +98,7 @@ impl<'g, H: RunNaming, J: NodeNaming, G: Gate> Node<'g, H, J, NodeState<H, J>, G
         ensures gated { IfOk result (λ node. node.is_gated ≡ is_some gate.entry) }
     {
         let number = state.number();
-        let report = Report::with_capacity(alloc, state.lanes())?;
+        let space = ReportSpace::new(alloc, state.lanes())?;
         let envelopes = Vec::with_capacity(alloc, MAX_ITEMS)?;
         Ok(Node {
             state: Mutex::new(state),
@@ -106,7 +106,7 @@ impl<'g, H: RunNaming, J: NodeNaming, G: Gate> Node<'g, H, J, NodeState<H, J>, G
             gate,
             passing: Mutex::new(()),
             missed: Mutex::new(0),
-            report,
+            space,
             envelopes,
             naming: PhantomData,
         })
@@ -125,7 +125,7 @@ impl<'g, H: RunNaming, J: NodeNaming, G: Gate> Node<'g, H, J, NodeState<H, J>, G
 
         // Lane by lane, what was taken followed by what is left over is all that was sent, in
         // order.
-        ensures whole { All (ArrivesWhole result.0.taken.items result.0.left.items) lanes.new }
+        ensures whole { All (ArrivesWhole result.0.taken result.0.left) lanes.new }
         ensures lanes { map unmet lanes.new ≡ map unmet lanes.old }
 
         // The report is about the node that is returned, which was the replay of what was taken; by
@@ -138,14 +138,14 @@ impl<'g, H: RunNaming, J: NodeNaming, G: Gate> Node<'g, H, J, NodeState<H, J>, G
             state,
             number,
             missed,
-            report,
+            space,
             envelopes,
             ..
         } = self;
         let state = state.into_inner();
         // They are all its lanes, but no clause is about what was under a lock.
-        if state.number() == number && state.lanes() == report.taken.len() && state.has_all(lanes) {
-            return state.close(rt, lanes, report, envelopes, missed.into_inner());
+        if state.number() == number && state.lanes() == space.taken.len() && state.has_all(lanes) {
+            return state.close(rt, lanes, space, envelopes, missed.into_inner());
         }
         for _ in rt.forever() {}
         unreachable!()
@@ -164,7 +164,7 @@ impl<'g, H: RunNaming, J: NodeNaming, S: HasState<H, J>, G: Gate> Node<'g, H, J,
     pub fn has_all(&self, lanes: &[Lane<SentItem<H>, J>]) -> bool
         ensures { IsTrue result ↔ AreItsLanes self.now lanes.now }
     {
-        if lanes.len() != self.report.taken.len() {
+        if lanes.len() != self.space.taken.len() {
             return false;
         }
         for (index, lane) in lanes.iter().enumerate() {

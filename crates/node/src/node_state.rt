@@ -29,7 +29,7 @@ ghost use Rattle.run_history.specs.Parties.{HandedOver};
 use crate::growth::{grown, is_large};
 use crate::handed_counts::HandedCounts;
 use crate::naming::NodeNaming;
-use crate::report::Report;
+use crate::report::{Report, ReportSpace};
 use ballot_base::{Effect, Status};
 use broker_spec::{Command, Output};
 use machine::Memory;
@@ -314,37 +314,37 @@ impl<H: RunNaming, J: NodeNaming> NodeState<H, J> {
     }
 
     /// Ends the node, once its lanes send no more. Reports the fate of everything that they sent,
-    /// and returns the node as the run has it on record. Allocates nothing: `report` and
-    /// `envelopes` have their capacity. `gate_missed` counts takings at which the gate stayed shut.
-    pub fn close<R: Wait>(
+    /// and returns the node as the run has it on record. Allocates nothing: `space` and `envelopes`
+    /// have their capacity. `gate_missed` counts takings at which the gate stayed shut.
+    pub(crate) fn close<R: Wait>(
         self,
         rt: &R,
         lanes: &mut [Lane<SentItem<H>, J>],
-        report: Report,
+        space: ReportSpace,
         envelopes: Vec<(u8, SentItem<H>)>,
         gate_missed: u64,
     ) -> (Report, NodeOnRecord<H>)
         requires lanes { AreAllLanes self.receiver lanes.old }
-        requires capacity { HasCapacity self.receiver.lanes report }
+        requires capacity { HasCapacity self.receiver.lanes space }
         requires empty { envelopes.items ≡ [] }
         requires envelopes { max_items ≤ vec_capacity envelopes }
 
         // Lane by lane, what was taken followed by what is left over is all that was sent, in
         // order.
-        ensures whole { All (ArrivesWhole result.0.taken.items result.0.left.items) lanes.new }
+        ensures whole { All (ArrivesWhole result.0.taken result.0.left) lanes.new }
         ensures lanes { map unmet lanes.new ≡ map unmet lanes.old }
 
         // The same for the items that the node replayed.
-        ensures all { All (ReportsAll self.receiver.taken result.0.left.items) lanes.new }
+        ensures all { All (ReportsAll self.receiver.taken result.0.left) lanes.new }
 
         // The count of each lane is that of the replay.
-        ensures counted { EachIndex result.0.taken.items (λ lane.
-            slice_index result.0.taken.items lane
-            ≡ length (items_of_lane lane self.receiver.taken)) }
-        ensures each { length result.0.taken.items ≡ self.receiver.lanes }
+        ensures counted { EachIndex result.0.taken (λ lane.
+            slice_index result.0.taken lane ≡ length (items_of_lane lane self.receiver.taken)) }
+        ensures each { length result.0.taken ≡ self.receiver.lanes }
         ensures below { AreOfLanes self.receiver }
         ensures replays { Replays (J.first_of self.receiver.inbox) self.receiver.taken self.node }
 
+        ensures number { result.0.number ≡ self.receiver.inbox }
         ensures base { result.0.base ≡ self.node.core.replica.state.log.base }
         ensures gate { result.0.gate_missed ≡ gate_missed }
 
@@ -360,13 +360,13 @@ impl<H: RunNaming, J: NodeNaming> NodeState<H, J> {
             takings: _takings,
             counts: _counts,
         } = self;
-        let mut report = report;
+        let mut space = space;
         let mut envelopes = envelopes;
-        report.base = node.core().snapshot().0;
-        report.gate_missed = gate_missed;
-        receiver.take_rest(rt, lanes, report.taken.as_mut_slice(), &mut envelopes);
-        open_all(rt, envelopes, &mut report.left);
-        (report, node)
+        let number = receiver.number();
+        let base = node.core().snapshot().0;
+        receiver.take_rest(rt, lanes, space.taken.as_mut_slice(), &mut envelopes);
+        open_all(rt, envelopes, &mut space.left);
+        (Report::new(number, space, base, gate_missed), node)
     }
 }
 

@@ -8,6 +8,6 @@ returns-then-has_all-clause-reports g c =
     report_is_on g.J.NodeNaming.first_of c.into_inner-state.result c.args.self.number _ c.close.new.lanes c.close.result.0 c.close.result.1
     (sym c.number.ensures ∙ (c.if-number.true ∙ ap (λ (n : NodeView). n.number) c.self.view_is))
     (c.requires.lanes.all ∙ (sym (ap (λ (n : NodeView). n.lanes) c.self.view_is)
-    ∙ omega (arith, c.self.inside.report.taken.ok.0, c.if-lanes-len.true, c.lanes.ensures)))
+    ∙ omega (arith, c.self.inside.space.taken.ok.0, c.if-lanes-len.true, c.lanes.ensures)))
     c.close.ensures.lanes c.close.ensures.ended c.close.ensures.replays c.close.ensures.named c.close.ensures.items
-    c.close.ensures.all c.close.ensures.below c.close.ensures.each c.close.ensures.counted c.close.ensures.base
+    c.close.ensures.all c.close.ensures.below c.close.ensures.each c.close.ensures.counted c.close.ensures.number c.close.ensures.base
