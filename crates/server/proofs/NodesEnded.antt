@@ -106,6 +106,7 @@ report_in nodes config log one index told known ended = record {
   ended = one.node.node.core;
   at_end = ended.settled.state;
   is = record {
+    of = told.is.of;
     taken = told.is.taken;
     items =
         subst (λ (number : ℕ). items_taken number log ≡ items_taken number one.node.log) told.named ended.settled.items

@@ -80,12 +80,12 @@ other_port port lane n low apart = grind (arith, nat_tests, low, apart)
 
 module _ (log : List RunEvent) (ended : CoreState) (report : NodeReport) (is : IsReportOf (sent_in log) log ended report) (port : Port) where
   -- what was taken of a lane is the front of what came by it
-  part : (lane : ℕ) → openings_at port (items_of_lane lane is.taken) ≤ openings_at port (came_by lane is.taken report.report.left.items)
-  part lane = omega (arith, openings_append port (items_of_lane lane is.taken) (items_of_lane lane report.report.left.items))
+  part : (lane : ℕ) → openings_at port (items_of_lane lane is.taken) ≤ openings_at port (came_by lane is.taken report.report.left)
+  part lane = omega (arith, openings_append port (items_of_lane lane is.taken) (items_of_lane lane report.report.left))
 
   own_none : openings_at port (items_of_lane 0 is.taken) ≡ 0
   own_none =
-      let all = own_tells_none port (sent_in log) report.number [] (came_by 0 is.taken report.report.left.items) is.own in
+      let all = own_tells_none port (sent_in log) report.number [] (came_by 0 is.taken report.report.left) is.own in
       let less = part 0 in
       omega (arith, all, less)
 

@@ -25,15 +25,16 @@ came_by lane taken left = items_of_lane lane taken ++ items_of_lane lane left
 -- The report has the base of the node's own log.
 pub record IsReportOf (messages : List (ℕ × Message Command)) (log : List RunEvent)
     (ended : CoreState) (report : NodeReport) : Type 0 where
+  pub of : report.report.number ≡ report.number
   pub taken : List (ℕ × Item)
   pub items : items_taken report.number log ≡ items_of taken
   pub by_lanes : Each (λ (one : ℕ × Item). one.0 < LANES) taken
-  pub lanes : length report.report.taken.items ≡ LANES
-  pub counted : EachIndex report.report.taken.items (λ lane.
-      slice_index report.report.taken.items lane ≡ length (items_of_lane lane taken))
+  pub lanes : length report.report.taken ≡ LANES
+  pub counted : EachIndex report.report.taken (λ lane.
+      slice_index report.report.taken lane ≡ length (items_of_lane lane taken))
   pub connections : (lane : ℕ) → 0 < lane → lane < LANES →
-      SendsRow lane [] (came_by lane taken report.report.left.items)
-  pub own : SendsOwn messages report.number [] (came_by 0 taken report.report.left.items)
+      SendsRow lane [] (came_by lane taken report.report.left)
+  pub own : SendsOwn messages report.number [] (came_by 0 taken report.report.left)
   pub base : report.report.base ≡ ended.replica.state.log.base
 
 -- a node that ended, as the run has it on record, with its report, and a prefix of the run's log by

@@ -44,7 +44,7 @@ impl<'a, H: RunNaming, J: NodeNaming, G: Gate> Shared<'a, H, J, NodeState<H, J>,
         // Lane by lane, what was taken followed by what is left over is all that was sent, in
         // order.
         ensures whole { IfOk result (λ ended.
-            All (ArrivesWhole ended.0.taken.items ended.0.left.items) lanes.new) }
+            All (ArrivesWhole ended.0.taken ended.0.left) lanes.new) }
         ensures lanes { OnOk result (map unmet lanes.new ≡ map unmet lanes.old) }
         ensures each { OnOk result (length lanes.new ≡ self.entry.node.lanes) }
         ensures its { OnOk result (AreItsLanes self.entry.node lanes.old) }
