@@ -322,19 +322,22 @@ fn close<H: RunNaming, J: NodeNaming, R: Wait>(
     if node.has_all(lanes) {
         let (report, _node) = node.close(rt, lanes);
         names.uses("Node::close", has_one_left(&report));
-        names.uses("Report", report.gate_missed == 0);
+        names.uses("Report", is_of_node_1(&report));
         drop(report);
     } else {
         drop(node);
     }
 }
 
+// Returns true if a report is of node 1, which cut no log, and whose gate opened for each taking.
+fn is_of_node_1(report: &Report) -> bool {
+    report.number() == 1 && report.base() == 0 && report.gate_missed() == 0
+}
+
 // Returns true if two items were taken, and a tick is left over.
 fn has_one_left(report: &Report) -> bool {
-    let left = report.left.as_slice();
-    report.taken.as_slice() == [2].as_slice()
-        && left.len() == 1
-        && left.first().is_some_and(is_tick)
+    let left = report.left();
+    report.taken() == [2].as_slice() && left.len() == 1 && left.first().is_some_and(is_tick)
 }
 
 // Returns true if an item of lane 0 is the tick at 5.

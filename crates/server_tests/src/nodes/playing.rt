@@ -277,22 +277,22 @@ fn close<H: RunNaming, J: NodeNaming, R: Wait>(
 
 // Returns true if a report says this.
 fn is_report_of(report: &Report, told: &Told) -> bool {
-    report.taken.as_slice() == told.taken
-        && report.left.len() == told.left.len()
-        && report.left.iter().zip(told.left).all(|((lane, item), (wanted, time))| {
+    report.taken() == told.taken
+        && report.left().len() == told.left.len()
+        && report.left().iter().zip(told.left).all(|((lane, item), (wanted, time))| {
             lane == wanted && matches!(item, Item::Tick(now) if now == time)
         })
-        && report.gate_missed == told.missed
+        && report.gate_missed() == told.missed
 }
 
 // Returns a report as it is shown.
 fn shape_of(report: &Report) -> Shape {
     let (mut taken, mut left) = ([0u64; 2], [0u8; 2]);
-    for (to, count) in taken.iter_mut().zip(report.taken.as_slice()) {
+    for (to, count) in taken.iter_mut().zip(report.taken()) {
         *to = *count;
     }
-    for (to, (lane, _)) in left.iter_mut().zip(report.left.as_slice()) {
+    for (to, (lane, _)) in left.iter_mut().zip(report.left()) {
         *to = *lane;
     }
-    (taken, left, report.left.len(), report.gate_missed)
+    (taken, left, report.left().len(), report.gate_missed())
 }

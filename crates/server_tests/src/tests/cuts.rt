@@ -172,5 +172,5 @@ fn are_cut_where_wanted(reports: &[NodeReport], are_cut: &[bool]) -> bool {
         && reports
             .iter()
             .zip(are_cut)
-            .all(|(report, is_cut)| (report.report.base > 0) == *is_cut)
+            .all(|(report, is_cut)| (report.report.base() > 0) == *is_cut)
 }

@@ -109,9 +109,9 @@ fn are_through(reports: &[NodeReport], count: usize) -> bool {
 
 // Returns true if a node took what was sent to it, and never continued while the gate was shut.
 fn is_through(report: &NodeReport) -> bool {
-    report.report.gate_missed == 0
-        && report.report.left.is_empty()
-        && report.report.taken.iter().any(|count| *count > 0)
+    report.report.gate_missed() == 0
+        && report.report.left().is_empty()
+        && report.report.taken().iter().any(|count| *count > 0)
 }
 
 // At this gate nodes 1, 2, .. wait for each other: it opens once all are there at the same time.
