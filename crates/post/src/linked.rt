@@ -1,5 +1,6 @@
 //! A node whose other nodes and master are in other programs, and what waits for links to them.
 
+mod hurry;
 mod linked_node;
 mod payload;
 mod route;

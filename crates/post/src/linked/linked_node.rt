@@ -10,6 +10,7 @@ ghost use Rattle.post.specs.Linked.{LinkedView};
 
 use crate::addressed_message::AddressedMessage;
 use crate::given_effects::{GivenEffects, Receivers, queue_all};
+use crate::linked::hurry::Hurry;
 use crate::linked::route::Route;
 use crate::peer::Peer;
 use ballot_base::{Config, MASTER, Message, Status};
@@ -22,10 +23,6 @@ use std::alloc::Global;
 use std::marker::Model;
 use std::sync::{Mutex, Wait};
 
-/// How many ticks a node hurries after a link came up: one for each place that may be open, and for
-/// what was in transit.
-const HURRIED_TICKS: u32 = 8_192;
-
 /// A node whose other nodes and master are in other programs: the node as its links see it, a route
 /// to the node of each row of the cluster's table, and one to the master. What waits is under
 /// locks, so no clause of a call says what is queued.
@@ -37,8 +34,8 @@ pub struct LinkedNode<H: RunNaming> {
     // In the order of the table.
     rows: Vec<Route<H>>,
     master: Route<H>,
-    // How many ticks it hurries still.
-    hurry: Mutex<u32>,
+    // How much longer it hurries.
+    hurry: Mutex<Hurry>,
 }
 
 impl<H: RunNaming> Model for LinkedNode<H> {
@@ -70,7 +67,7 @@ impl<H: RunNaming> LinkedNode<H> {
             links: Mutex::new(links),
             rows,
             master: Route::new(alloc, opening.again()),
-            hurry: Mutex::new(0),
+            hurry: Mutex::new(Hurry::ended()),
         })
     }
 
@@ -128,25 +125,23 @@ impl<H: RunNaming> LinkedNode<H> {
     }
 
     /// Lets the node hurry, as a link has come up again: what was in transit on it may be lost, and a
-    /// primary repeats one place a tick.
+    /// primary repeats one place a tick. It hurries while more of what it holds now is agreed, and
+    /// for some thousand ticks after that. No clause says so.
     pub fn hurry<R: Wait>(&self, rt: &R) {
-        *self.hurry.lock(rt) = HURRIED_TICKS;
+        let status = self.peer.status(rt);
+        *self.hurry.lock(rt) = Hurry::since(status);
         self.peer.wake(rt);
     }
 
     /// Returns true if the node is to tick at once: it hurries, and is an active primary of which
     /// not all places are agreed. Counts that as a hurried tick.
     pub(crate) fn hurries<R: Wait>(&self, rt: &R) -> bool {
-        let mut left = self.hurry.lock(rt);
-        if *left == 0 {
+        let mut hurry = self.hurry.lock(rt);
+        if !hurry.is_on() {
             return false;
         }
-        *left = if has_open_places(self.peer.status(rt)) {
-            *left - 1
-        } else {
-            0
-        };
-        *left > 0
+        *hurry = hurry.after_tick(self.peer.status(rt));
+        hurry.is_on()
     }
 
     /// Queues the order to crash. Returns false if it was queued before. Fails if memory runs out:
@@ -224,11 +219,6 @@ impl<H: RunNaming> LinkedNode<H> {
         }
         unsent.lose_away(self);
     }
-}
-
-// Returns true for an active primary of which not all places are agreed.
-fn has_open_places(status: Status) -> bool {
-    status.serves() && status.committed < status.held
 }
 
 fn routes_of<H: RunNaming>(
