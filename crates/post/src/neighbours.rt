@@ -1,7 +1,7 @@
 // What a node's threads know of those to whom its steps give messages.
 
-ghost use Rattle.std.specs.Prelude.{◌≡◌, IfSome};
-ghost use Rattle.post.specs.Several.{has_several};
+ghost use Rattle.std.specs.Prelude.{◌≡◌, IfSome, is_some};
+ghost use Rattle.post.specs.Several.{has_node, has_several};
 
 use crate::cluster::Cluster;
 use crate::given_effects::GivenEffects;
@@ -33,7 +33,8 @@ impl<'a, H: RunNaming> Neighbours<'a, H> {
 
     /// Returns the node of this number, if it is in the program.
     pub fn node(&self, number: u8) -> Option<&'a Peer<H>>
-        ensures { IfSome result (λ node. node.now.number ≡ number) }
+        ensures some { IfSome result (λ node. node.now.number ≡ number) }
+        ensures is { is_some result ≡ has_node self.now number }
     {
         match self {
             Neighbours::InProgram(cluster) => cluster.node(number),
