@@ -105,6 +105,7 @@ impl<H: RunNaming> RouteQueue<H> {
         } else {
             self.queue.clear();
             self.leads = Some(number);
+            self.is_urgent = false;
         }
     }
 
