@@ -5,3 +5,4 @@ mod NoneAmong
 mod OpensWith
 mod QueuesJoin
 mod RefusedByConfig
+mod RowsPinned

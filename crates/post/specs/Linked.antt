@@ -1,5 +1,5 @@
 -- What waits for nodes of other programs, and for a master that is elsewhere.
-use Rattle.std.specs.Prelude.{◌≡◌, ℕ, Bool, true, List, [], length, filter, Option, Some, None}
+use Rattle.std.specs.Prelude.{◌≡◌, ℕ, zero, suc, Bool, true, List, [], ◌∷◌, ◌++◌, length, filter, Option, Some, None}
 use Rattle.ballot_base.specs.declared.config.Config.{Config}
 use Rattle.ballot_base.specs.declared.message.Body.{Body}
 use Rattle.ballot_base.specs.declared.message.Body.TheVariants as bodies
@@ -22,6 +22,11 @@ pub record LinkedView : Type 0 where
   pub rows : ℕ
 
 -- ---- routes
+
+-- the row of each route to a node, counted from 0, where the table has so many
+abbrev pub rows_of : ℕ → List (Option ℕ)
+rows_of zero = []
+rows_of (suc rows) = rows_of rows ++ Some rows ∷ []
 
 -- what waits for a link, and the number of the node to which the link leads now, if it ever came up
 pub record RouteView : Type 0 where

@@ -5,8 +5,8 @@
 // node's steps gave is queued while its state is locked, so messages keep the order of the steps.
 // Nothing is written there, and nobody is woken.
 
-ghost use Rattle.std.specs.Prelude.{◌≡◌, IfOk, IfSome, is_some, nat_lt, length};
-ghost use Rattle.post.specs.Linked.{LinkedView};
+ghost use Rattle.std.specs.Prelude.{◌≡◌, IfOk, IfSome, None, Some, is_some, nat_lt};
+ghost use Rattle.post.specs.Linked.{LinkedView, rows_of};
 
 use crate::addressed_message::AddressedMessage;
 use crate::given_effects::{GivenEffects, Receivers, queue_all};
@@ -39,12 +39,15 @@ pub struct LinkedNode<H: RunNaming> {
 }
 
 impl<H: RunNaming> Model for LinkedNode<H> {
-    ghost use Rattle.std.specs.Prelude.{length};
-    ghost use Rattle.post.specs.Linked.{LinkedView};
+    ghost use Rattle.std.specs.Prelude.{◌≡◌, None, length};
+    ghost use Rattle.post.specs.Linked.{LinkedView, rows_of};
 
     ghost Value = { LinkedView };
 
     ghost view = { λ node. record { number = node.peer.number; rows = length node.rows.items } };
+
+    ghost invariant = { λ node.
+        (node.rows.items ≡ rows_of (length node.rows.items)) × (node.master ≡ None) };
 }
 
 impl<H: RunNaming> LinkedNode<H> {
@@ -62,11 +65,12 @@ impl<H: RunNaming> LinkedNode<H> {
         ensures { IfOk result (λ node. node ≡ record { number = number; rows = rows }) }
     {
         let rows = routes_of(alloc, rows, opening)?;
+        let master = Route::new(alloc, None, opening.again());
         Ok(LinkedNode {
             peer: Peer::new(alloc, number, config, opening.again()),
             links: Mutex::new(links),
             rows,
-            master: Route::new(alloc, opening.again()),
+            master,
             hurry: Mutex::new(Hurry::ended()),
         })
     }
@@ -87,13 +91,16 @@ impl<H: RunNaming> LinkedNode<H> {
 
     /// Returns the route to the node of a row, counted from 0.
     pub fn row(&self, index: usize) -> Option<&Route<H>>
-        ensures { is_some result ≡ nat_lt index self.now.rows }
+        ensures is { is_some result ≡ nat_lt index self.now.rows }
+        ensures its { IfSome result (λ route. route.now ≡ Some index) }
     {
         self.rows.get(index)
     }
 
     /// Returns the route to the master.
-    pub fn master(&self) -> &Route<H> {
+    pub fn master(&self) -> &Route<H>
+        ensures { result.now ≡ None }
+    {
         &self.master
     }
 
@@ -221,16 +228,17 @@ impl<H: RunNaming> LinkedNode<H> {
     }
 }
 
+// Returns the routes to the nodes of so many rows.
 fn routes_of<H: RunNaming>(
     alloc: Global,
     rows: usize,
     opening: &SeenRun<H>,
 ) -> Result<Vec<Route<H>>, Memory>
-    ensures { IfOk result (λ routes. length routes.items ≡ rows) }
+    ensures { IfOk result (λ routes. routes.items ≡ rows_of rows) }
 {
     let mut routes = Vec::with_capacity(alloc, rows)?;
-    for _ in 0..rows {
-        routes.push(Route::new(alloc, opening.again()))?;
+    for row in 0..rows {
+        routes.push(Route::new(alloc, Some(row), opening.again()))?;
     }
     Ok(routes)
 }

@@ -16,6 +16,7 @@ use broker_spec::Command;
 use links::link_queue::{LogName, Waiting};
 use run_history::{RunNaming, SeenRun};
 use std::alloc::Global;
+use std::marker::Model;
 use std::sync::{Mutex, Wait};
 use std::time::Duration;
 
@@ -23,17 +24,38 @@ use std::time::Duration;
 /// on a link. All of it is under locks, so no clause of a call says what waits.
 #[derive(Drop)]
 pub struct Route<H: RunNaming> {
+    // The row of the table, counted from 0; none for the master.
+    row: Option<usize>,
     queue: Mutex<RouteQueue<H>>,
     waker: Waker,
 }
 
+impl<H: RunNaming> Model for Route<H> {
+    ghost use Rattle.std.specs.Prelude.{ℕ, Option};
+
+    ghost Value = { Option ℕ };
+
+    ghost view = { λ route. route.row };
+}
+
 impl<H: RunNaming> Route<H> {
-    /// Returns the route of a link that never came up. `opening` is the run's log as it opened.
-    pub(crate) fn new(alloc: Global, opening: SeenRun<H>) -> Route<H> {
+    /// Returns the route of a link that never came up, to the node of this row, or to the master.
+    /// `opening` is the run's log as it opened.
+    pub(crate) fn new(alloc: Global, row: Option<usize>, opening: SeenRun<H>) -> Route<H>
+        ensures { result ≡ row }
+    {
         Route {
+            row,
             queue: Mutex::new(RouteQueue::new(alloc, opening)),
             waker: Waker::new(),
         }
+    }
+
+    /// Returns the row of the table to whose node it leads, counted from 0; none for the master.
+    pub fn row(&self) -> Option<usize>
+        ensures { result ≡ self.now }
+    {
+        self.row
     }
 
     /// Notes that the link came up with the node of this number; 0 is the master. If it is another
