@@ -1,5 +1,5 @@
 -- What waits for nodes of other programs, and for a master that is elsewhere.
-use Rattle.std.specs.Prelude.{◌≡◌, ℕ, zero, suc, Bool, true, List, [], ◌∷◌, ◌++◌, length, filter, Option, Some, None}
+use Rattle.std.specs.Prelude.{◌≡◌, ℕ, zero, suc, Bool, true, false, List, [], ◌∷◌, ◌++◌, length, filter, Option, Some, None}
 use Rattle.ballot_base.specs.declared.config.Config.{Config}
 use Rattle.ballot_base.specs.declared.message.Body.{Body}
 use Rattle.ballot_base.specs.declared.message.Body.TheVariants as bodies
@@ -28,14 +28,20 @@ abbrev pub rows_of : ℕ → List (Option ℕ)
 rows_of zero = []
 rows_of (suc rows) = rows_of rows ++ Some rows ∷ []
 
--- what waits for a link, and the number of the node to which the link leads now, if it ever came up
+-- what waits for a link, the number of the node to which the link leads now, if it ever came up, and
+-- whether the link's writer is to be woken for what waits
 pub record RouteView : Type 0 where
   pub leads : Option ℕ
   pub queue : QueueView Command
+  pub urgent : Bool
 
 -- nothing waits for the link, which never came up
 abbrev pub unused_route : RouteView
-unused_route = record { leads = None; queue = record { waiting = []; logs = []; dropped = 0 } }
+unused_route = record {
+  leads = None;
+  queue = record { waiting = []; logs = []; dropped = 0 };
+  urgent = false;
+}
 
 -- the link broke: the logs in transit are forgotten
 abbrev pub forgotten : QueueView Command → QueueView Command
@@ -49,7 +55,8 @@ emptied queue = record queue { waiting = []; logs = [] }
 -- the route after the link came up with the node of a number, which is the one that it led to or not
 abbrev pub met : Bool → ℕ → RouteView → RouteView
 met true number route = record route { queue = forgotten route.queue }
-met _ number route = record { leads = Some number; queue = emptied route.queue }
+met _ number route =
+    record { leads = Some number; queue = emptied route.queue; urgent = false }
 
 -- Each of these messages was sent to the node of this number. Where there is none, nothing waits.
 abbrev pub AreSentTo : List (ℕ × Message Command) → Option ℕ → List (Waiting Command) → Type 0

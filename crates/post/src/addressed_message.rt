@@ -1,6 +1,6 @@
 // A message from one node to another.
 
-ghost use Rattle.std.specs.Prelude.{◌≡◌, ◌≢◌, ◌++◌, ◌∷◌, [], Some, false, true};
+ghost use Rattle.std.specs.Prelude.{◌≡◌, ◌≢◌, ◌||◌, ◌++◌, ◌∷◌, [], Some, false, true};
 ghost use Rattle.links.specs.link_queue.Queues.{with_message, without_message};
 ghost use Rattle.lists.specs.Lists.{has_id};
 ghost use Rattle.world_base.specs.declared.node_core.item.Item.TheVariants.{Peer};
@@ -8,6 +8,7 @@ ghost use Rattle.post.specs.Linked.{body_payload};
 ghost use Rattle.post.specs.outbox.Given.{IsMasterNumber};
 ghost use Rattle.post.specs.outbox.MasterAnswers.{answer_to, master_after_outcome, message_if};
 ghost use Rattle.post.specs.outbox.Replacement.{still_waiting};
+ghost use Rattle.post.specs.outbox.Urgency.{wakes};
 
 use crate::cluster::Cluster;
 use crate::linked::{LinkedNode, RouteQueue};
@@ -90,6 +91,7 @@ impl<H: RunNaming> AddressedMessage<H> {
         requires { queue.old.leads ≡ Some self.receiver }
         ensures queued { result ≡ Fate.Queued → queue.new ≡ record queue.old {
           queue = with_message queue.old.queue self.message (body_payload self.message.body);
+          urgent = queue.old.urgent || wakes (Peer self.message);
         } }
         ensures lost { result ≢ Fate.Queued →
             queue.new ≡ record queue.old { queue = without_message queue.old.queue } }

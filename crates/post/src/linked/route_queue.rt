@@ -5,10 +5,12 @@
 // which the link leads. Whoever locks one compares that number. Messages are lost if there is no
 // room or memory; the protocol repeats them.
 
-ghost use Rattle.std.specs.Prelude.{◌≡◌, ◌≢◌, ◌↔◌, Some, [], false, filter, IsTrue};
+ghost use Rattle.std.specs.Prelude.{◌≡◌, ◌≢◌, ◌↔◌, ◌||◌, Some, [], false, filter, IsTrue};
 ghost use Rattle.lists.specs.Lists.{Each};
 ghost use Rattle.links.specs.link_queue.Queues.{stays, with_message, without_message};
+ghost use Rattle.world_base.specs.declared.node_core.item.Item.TheVariants.{Peer};
 ghost use Rattle.post.specs.Linked.{IsSentTo, body_payload, forgotten, met, unused_route};
+ghost use Rattle.post.specs.outbox.Urgency.{wakes};
 
 use crate::linked::payload::payload_of;
 use crate::outbox::is_urgent_message;
@@ -36,7 +38,11 @@ impl<H: RunNaming> Model for RouteQueue<H> {
 
     ghost Value = { RouteView };
 
-    ghost view = { λ route. record { leads = route.leads; queue = route.queue } };
+    ghost view = { λ route. record {
+      leads = route.leads;
+      queue = route.queue;
+      urgent = route.is_urgent;
+    } };
 
     ghost invariant = { λ route.
         AreSentTo (sent_in route.seen) route.leads route.queue.waiting };
@@ -63,9 +69,10 @@ impl<H: RunNaming> RouteQueue<H> {
         self.leads == Some(number)
     }
 
-    /// Returns true if a message waits for which the link's writer is to be woken. No clause says
-    /// when.
-    pub(crate) fn is_urgent(&self) -> bool {
+    /// Returns true if a message waits for which the link's writer is to be woken.
+    pub(crate) fn is_urgent(&self) -> bool
+        ensures { result ≡ self.now.urgent }
+    {
         self.is_urgent
     }
 
@@ -81,15 +88,18 @@ impl<H: RunNaming> RouteQueue<H> {
         requires { self.old.leads ≡ Some sent.receiver }
         ensures queued { result ≡ Fate.Queued → self.new ≡ record self.old {
           queue = with_message self.old.queue sent.message (body_payload sent.message.body);
+          urgent = self.old.urgent || wakes (Peer sent.message);
         } }
         ensures lost { result ≢ Fate.Queued →
             self.new ≡ record self.old { queue = without_message self.old.queue } }
     {
         let (_receiver, message, known) = sent.into_parts();
         self.seen.learn(&known);
-        self.is_urgent = self.is_urgent || is_urgent_message(&message);
+        let is_urgent = is_urgent_message(&message);
         let size = payload_of(&message.body);
-        self.queue.queue(message, size)
+        let fate = self.queue.queue(message, size);
+        self.is_urgent = self.is_urgent || (is_urgent && fate == Fate::Queued);
+        fate
     }
 
     /// Notes that the link came up with the node of this number. If it led to another one, nothing
@@ -134,6 +144,7 @@ impl<H: RunNaming> RouteQueue<H> {
         ensures sent { Each (IsSentTo H.linked H.nodes H.config number) result.items }
         ensures empty { self.new ≡ record self.old {
           queue = record self.old.queue { waiting = [] };
+          urgent = false;
         } }
     {
         self.seen.is_run();

@@ -10,8 +10,8 @@ invariant_of-self g c =
     let inside = c.self.inside in
     let parts = c.into_parts-receiver in
     let later = c.learn.new.self in
-    sent_after (sent_in later) inside.leads parts.result.0 inside.queue c.queue.new.self parts.result.1 c.payload_of-size.result c.queue.result
+    sent_after (sent_in later) inside.leads parts.result.0 inside.queue c.queue-fate.new.self parts.result.1 c.payload_of-size.result c.queue-fate.result
     (ap (λ (route : RouteView). route.leads) c.self.view_is ∙ (c.requires ∙ ap Some (sym parts.ensures.receiver)))
     (in_later (parts.result.0, parts.result.1) parts.result.2 later c.learn.ensures.that parts.ensures.sent)
-    c.queue.ensures.queued c.queue.ensures.lost
+    c.queue-fate.ensures.queued c.queue-fate.ensures.lost
     (sent_later inside.seen later inside.leads inside.queue.waiting c.learn.ensures.this c.self.invariant)
