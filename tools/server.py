@@ -1,12 +1,16 @@
-"""What the scripts of this folder start on loopback: a `serve`, and the load program."""
+"""What the scripts of this folder start on loopback: a `serve`, a cluster, the load program."""
 import os
 import queue
 import re
+import signal
 import socket
 import subprocess
 import sys
 import tempfile
 import threading
+import time
+
+from relay import Relay
 
 TOP = os.path.dirname(os.path.dirname(os.path.abspath(__file__)))
 PROVED = f"{TOP}/crates/vbroker/out/vbroker"
@@ -55,6 +59,100 @@ class Server:
     def __exit__(self, *_):
         self.process.kill()
         self.process.wait()
+
+
+class Cluster:
+    """A master and the nodes of three rows, in a folder. All that they send one another goes
+    through relays, by who dials and whom, and so do clients, unless it is said that nothing is
+    relayed. It ends with its block."""
+
+    def __init__(self, program, folder, is_relayed=True):
+        self.program, self.folder, self.processes = program, folder, {}
+        self.numbers, self.ballot, self.rows, self.wait = {}, 1, (1, 2, 3), 60
+        ports = free_ports(7)
+        self.listens = ports[1:4]
+        self.links = dict(zip((*self.rows, "master"), ports[4:] + ports[:1]))
+        self.relays = {(one, other): Relay(self.links[other])
+            for one in self.rows for other in self.links
+            if is_relayed and (other == "master" or other < one)}
+        self.doors = [Relay(it) for it in self.listens if is_relayed]
+        self.clients = [it.port for it in self.doors] or self.listens
+        assert self.run("key", "key", f"{folder}/key").wait() == 0
+        self.start_master()
+        for row in self.rows:
+            self.start(row)
+        self.assign(self.rows, 1)
+
+    def table(self, reader):
+        """Writes the table as this row, or the master, has to read it. Returns the file."""
+        seen = {it: self.relays[reader, it].port if (reader, it) in self.relays else port
+            for it, port in self.links.items()}
+        with open(f"{self.folder}/{reader}.toml", "w", encoding="utf-8") as it:
+            it.write(f'key = "{self.folder}/key"\nmaster = "127.0.0.1:{seen["master"]}"\n'
+                f'state = "{self.folder}/state"\norders = "{self.folder}/orders"\n')
+            for row, port in zip(self.rows, self.listens):
+                it.write(f'[[node]]\nlisten = "127.0.0.1:{port}"\nlink = "127.0.0.1:{seen[row]}"\n')
+        return it.name
+
+    def run(self, name, *words):
+        """Starts the program, which writes what it says into a file of this name."""
+        with open(f"{self.folder}/{name}.said", "a", encoding="utf-8") as said:
+            # (it has to meet a full disk as an error, so a signal that is ignored stays so)
+            self.processes[name] = subprocess.Popen([self.program, *words], stdin=subprocess.PIPE,
+                stdout=subprocess.DEVNULL, stderr=said, restore_signals=False)
+        return self.processes[name]
+
+    def start_master(self):
+        self.run("master", "master", "--config", self.table("master"))
+        self.wait_for("active ballot")
+
+    def start(self, row):
+        """Starts the node of a row, and waits until the master knows its number."""
+        known = max([0, *self.numbers.values()])
+        self.run(row, "node", "--config", self.table(row), "--row", str(row))
+        self.numbers[row] = known + 1
+        self.wait_for(rf"node {known + 1} (?!.*silent)")
+
+    def order(self, line):
+        """Gives an order on the socket of the master, and returns the answer."""
+        try:
+            with socket.socket(socket.AF_UNIX) as stream:
+                stream.connect(f"{self.folder}/orders")
+                stream.sendall(f"{line}\n".encode())
+                return stream.makefile().read()
+        except OSError:
+            return ""
+
+    def wait_for(self, pattern, line="status"):
+        """Repeats an order until its answer has this in it."""
+        end, answer = time.monotonic() + self.wait, ""
+        while time.monotonic() < end:
+            answer = self.order(line)
+            if re.search(pattern, answer):
+                return
+            time.sleep(0.05)
+        raise AssertionError(f"no {pattern!r} came, but {answer!r}")
+
+    def assign(self, rows, primary):
+        """Makes the nodes of these rows the members, and waits until they serve."""
+        members = sorted(self.numbers[it] for it in rows)
+        self.ballot += 1
+        words = f"assign {','.join(map(str, members))} {self.numbers[primary]}"
+        self.wait_for(rf"^ballot {self.ballot}$", words)
+        self.wait_for(rf"active ballot {self.ballot} ")
+        self.wait_for(rf"node {self.numbers[primary]} ballot {self.ballot} primary")
+
+    def kill(self, name):
+        self.processes[name].kill()
+        self.processes[name].wait()
+
+    def __enter__(self):
+        return self
+
+    def __exit__(self, *_):
+        for process in self.processes.values():
+            process.send_signal(signal.SIGCONT)
+            process.kill()
 
 
 class Lines:
