@@ -3,6 +3,7 @@ mod Namesakes
 mod SameNumbers
 mod NodesOpened
 mod NodesEnded
+mod LinkedRuns
 mod KeptEnds
 mod LanesCame
 mod ReportsTold

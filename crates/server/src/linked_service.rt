@@ -111,5 +111,6 @@ where
     let (answer, seen, ended) = serve_opened::<H, R, NoGate, AtLinks<'_, H, A>>(
         rt, alloc, &contexts, config, maker, log, None, attendant,
     )?;
-    Ok((answer, settle_linked(rt, &seen, ended)?))
+    let run = settle_linked(rt, &seen, ended)?;
+    Ok((answer, run))
 }
