@@ -1,5 +1,5 @@
 -- RowsPinned.antt: the route at an index is that of its row.
-use Rattle.std.proofs.Common.{◌≡◌, ℕ, zero, suc, ◌<◌, ◌≤◌, ◌⊎◌, inl, inr, List, [], ◌∷◌, ◌++◌, length, get_or, Option, None, Some, refl, ◌∙◌, ap, sym, arith}
+use Rattle.std.proofs.Common.{◌≡◌, ℕ, zero, suc, ◌<◌, ◌≤◌, ◌⊎◌, inl, inr, List, [], ◌∷◌, ◌++◌, length, get_or, ◌+◌, Option, None, Some, refl, ◌∙◌, ap, sym, arith}
 use Rattle.std.specs.List.{HoldsAt}
 use Rattle.std.specs.Option.{IfSome, MatchOption}
 use Rattle.std.proofs.Math.ListN.{get_or-append}
@@ -37,3 +37,11 @@ pub found_at : {A : Type 0} (row_of : A → Option ℕ) (rows : List (Option ℕ
 found_at row_of rows index None are is within = tt
 found_at row_of rows index (Some route) are is within =
     is ∙ (ap (λ (l : List (Option ℕ)). get_or l index (row_of route)) are ∙ row_at (length rows) index (row_of route) within.0)
+
+-- the route of the next row goes on a list of routes
+pub one_more : (row : ℕ) (routes : List (Option ℕ)) (next : Option ℕ) → routes ≡ rows_of row → next ≡ Some row
+    → routes ++ next ∷ [] ≡ rows_of (row + 1)
+one_more row routes next are is =
+    let more : suc row ≡ row + 1 = omega (arith) in
+    ap (λ (rows : List (Option ℕ)). rows ++ next ∷ []) are
+    ∙ (ap (λ (one : Option ℕ). rows_of row ++ one ∷ []) is ∙ ap rows_of more)
