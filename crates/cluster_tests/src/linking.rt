@@ -38,7 +38,7 @@ fn life(number: u8, row: usize) -> Life<'static> {
 // Waits until a node was told this, and nothing else.
 fn is_told<R: Wait + Clock>(rt: &R, node: &LoopNode, wanted: &[Told]) -> bool {
     for _ in 0..LOOKS {
-        if node.told.lock(rt).as_slice() == wanted {
+        if node.is_told(rt, wanted) {
             return true;
         }
         thread::sleep(rt, Duration::from_millis(5));
@@ -74,8 +74,8 @@ where
     D: Dials + Sync,
 {
     let (first, second) = (pair.first, pair.second);
-    let one = LinkHall::new(rt.alloc(), life(1, 0), 2, first, now).ok()?;
-    let two = LinkHall::new(rt.alloc(), life(2, 1), 2, second, now).ok()?;
+    let one = LinkHall::new(rt.alloc(), life(1, 0), 2, &first.desk, now).ok()?;
+    let two = LinkHall::new(rt.alloc(), life(2, 1), 2, &second.desk, now).ok()?;
     Some(thread::scope(thread::scope_env(), rt, |scope| {
         let (one, two) = (&one, &two);
         let doors = [pair.one, pair.two];
@@ -83,9 +83,9 @@ where
             & scope.spawn(move || keep(rt, two, pair, doors[1])).is_ok();
         let is_met = is_told(rt, first, &[Told::Met(2)]) && is_told(rt, second, &[Told::Met(1)]);
         for count in 1..=3 {
-            first.give(rt, count);
+            first.give(rt, 2, count);
         }
-        second.give(rt, 9);
+        second.give(rt, 1, 9);
         let wanted = [
             Told::Met(1),
             Told::Held(1, 1),
@@ -103,7 +103,7 @@ where
 // Keeps the links of one of them.
 fn keep<R, D>(
     rt: &R,
-    hall: &LinkHall<'_, LoopNode>,
+    hall: &LinkHall<'_>,
     pair: &Pair<'_, D>,
     listener: &TcpListener,
 ) -> LinksEnd
@@ -165,7 +165,7 @@ where
     R: AllocGlobal + Threads + Wait + Clock + RandomSource + Eprint + Sync,
     D: Dials + Sync,
 {
-    let hall = LinkHall::new(rt.alloc(), life(2, 1), 2, dialler.node, now).ok()?;
+    let hall = LinkHall::new(rt.alloc(), life(2, 1), 2, &dialler.node.desk, now).ok()?;
     Some(thread::scope(thread::scope_env(), rt, |scope| {
         let hall = &hall;
         let is_started = scope
@@ -228,19 +228,20 @@ where
     R: Net<Listener = TcpListener, Stream = TcpStream>,
     D: Dials + Sync,
 {
-    let (one, first) = listen(rt)?;
-    let (two, second) = listen(rt)?;
+    let (one, at_one) = listen(rt)?;
+    let (two, at_two) = listen(rt)?;
     one.set_nonblocking(true).ok()?;
     two.set_nonblocking(true).ok()?;
-    let rows = both(rt.alloc(), first, second)?;
-    let nodes = (LoopNode::new(rt.alloc(), 1), LoopNode::new(rt.alloc(), 2));
+    let rows = both(rt.alloc(), at_one, at_two)?;
+    let first = LoopNode::new(rt.alloc(), 1, 1)?;
+    let second = LoopNode::new(rt.alloc(), 2, 0)?;
     let pair = Pair {
         dials,
         rows: &rows,
         one: &one,
         two: &two,
-        first: &nodes.0,
-        second: &nodes.1,
+        first: &first,
+        second: &second,
     };
     exchange(rt, &pair, Instant::now(rt).ok()?)
 }
@@ -256,7 +257,7 @@ where
     let (own, second) = listen(rt)?;
     own.set_nonblocking(true).ok()?;
     let rows = both(rt.alloc(), first, second)?;
-    let node = LoopNode::new(rt.alloc(), 2);
+    let node = LoopNode::new(rt.alloc(), 2, 0)?;
     let dialler = Dialler {
         dials,
         rows: &rows,

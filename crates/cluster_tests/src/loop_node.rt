@@ -1,27 +1,24 @@
 // A node as links see it, which keeps what they bring.
 
-use ballot_base::{Body, Message, Role, Status};
+use ballot_base::{Body, Message};
 use broker_spec::Command;
-use link_threads::{FarEnd, LinkEnd};
-use links::link_queue::{LogName, Waiting};
-use packet_base::ClientId;
+use link_threads::{FarEnd, LinkDesk};
+use links::Parcel;
+use links::link_queue::Waiting;
 use std::alloc::Global;
-use std::mem;
 use std::sync::{Mutex, Wait};
-use std::thread::Parker;
-use std::time::Duration;
 
 /// A node with one other row.
 #[derive(Drop)]
 pub struct LoopNode {
     alloc: Global,
     number: u8,
-    waiting: Mutex<Vec<Waiting<Command>>>,
-    /// What its links told, oldest first.
-    pub told: Mutex<Vec<Told>>,
-    // The thread that writes to the other row, and the one that writes to the master.
-    row: Parker,
-    master: Parker,
+    // The other row.
+    far: FarEnd,
+    /// What lies between it and its links.
+    pub desk: LinkDesk,
+    // What its links told, oldest first.
+    told: Mutex<Vec<Told>>,
 }
 
 /// What a link told its node.
@@ -33,35 +30,62 @@ pub enum Told {
     Parted(u8),
     /// It brought a Held of this sender with this count.
     Held(u8, u64),
-    /// It brought another message.
+    /// It brought another parcel.
     Other,
 }
 
 impl LoopNode {
-    /// Returns a node of this number, for which nothing waits.
-    pub fn new(alloc: Global, number: u8) -> LoopNode {
-        LoopNode {
+    /// Returns a node of this number in a table of two rows, the other of which is this one.
+    pub fn new(alloc: Global, number: u8, other: usize) -> Option<LoopNode> {
+        Some(LoopNode {
             alloc,
             number,
-            waiting: Mutex::new(Vec::new(alloc)),
+            far: FarEnd::Row(other),
+            desk: LinkDesk::new(alloc, 2).ok()?,
             told: Mutex::new(Vec::new(alloc)),
-            row: Parker::new(),
-            master: Parker::new(),
-        }
+        })
     }
 
-    /// Gives it a Held for the other row.
-    pub fn give<R: Wait>(&self, rt: &R, count: u64) {
-        let waiting = Waiting {
+    /// Gives a Held to the node of this number at the other row.
+    pub fn give<R: Wait>(&self, rt: &R, to: u8, count: u64) {
+        let mut given = Vec::new(self.alloc);
+        let _ = given.push(Waiting {
             message: held(self.number, count),
             size: 0,
-        };
-        let _ = self.waiting.lock(rt).push(waiting);
-        self.row.unpark();
+        });
+        self.desk.put(rt, self.far, to, given);
     }
 
-    fn tell<R: Wait>(&self, rt: &R, told: Told) {
-        let _ = self.told.lock(rt).push(told);
+    /// Returns true if its links told this, and nothing else.
+    pub fn is_told<R: Wait>(&self, rt: &R, wanted: &[Told]) -> bool {
+        let (parcels, _) = self.desk.take_all(rt);
+        let news = self.desk.news(rt, self.far);
+        let mut told = self.told.lock(rt);
+        if let Some(news) = news {
+            if news.is_met {
+                let _ = told.push(Told::Met(news.number));
+            }
+        }
+        for parcel in parcels {
+            let _ = told.push(told_by(&parcel));
+        }
+        if let Some(news) = news {
+            if news.is_parted {
+                let _ = told.push(Told::Parted(news.number));
+            }
+        }
+        told.as_slice() == wanted
+    }
+}
+
+// Returns what a parcel tells.
+fn told_by(parcel: &Parcel) -> Told {
+    match parcel {
+        Parcel::Message(message) => match message.body {
+            Body::Held(_, count) => Told::Held(message.from, count),
+            _ => Told::Other,
+        },
+        _ => Told::Other,
     }
 }
 
@@ -70,69 +94,5 @@ pub fn held(from: u8, count: u64) -> Message<Command> {
     Message {
         from,
         body: Body::Held(1, count),
-    }
-}
-
-impl LinkEnd for LoopNode {
-    fn meet<R: Wait>(&self, rt: &R, _far: FarEnd, number: u8) {
-        self.tell(rt, Told::Met(number));
-    }
-
-    fn part<R: Wait>(&self, rt: &R, _far: FarEnd, number: u8) {
-        self.tell(rt, Told::Parted(number));
-    }
-
-    fn take<R: Wait>(
-        &self,
-        rt: &R,
-        _alloc: Global,
-        _far: FarEnd,
-        _number: u8,
-    ) -> Option<Vec<Waiting<Command>>> {
-        Some(mem::replace(&mut *self.waiting.lock(rt), Vec::new(self.alloc)))
-    }
-
-    fn sent<R: Wait>(&self, _rt: &R, _far: FarEnd, _number: u8, _name: LogName) {}
-
-    fn wait<R: Wait>(&self, rt: &R, far: FarEnd, time: Duration) {
-        match far {
-            FarEnd::Master => self.master.park_timeout(rt, time),
-            FarEnd::Row(_) => self.row.park_timeout(rt, time),
-        }
-    }
-
-    fn wake<R: Wait>(&self, _rt: &R, far: FarEnd) {
-        match far {
-            FarEnd::Master => self.master.unpark(),
-            FarEnd::Row(_) => self.row.unpark(),
-        }
-    }
-
-    fn bring<R: Wait>(&self, rt: &R, message: Message<Command>) {
-        self.tell(
-            rt,
-            match message.body {
-                Body::Held(_, count) => Told::Held(message.from, count),
-                _ => Told::Other,
-            },
-        );
-    }
-
-    fn expel<R: Wait>(&self, rt: &R, _client: &ClientId) {
-        self.tell(rt, Told::Other);
-    }
-
-    fn crash<R: Wait>(&self, rt: &R) {
-        self.tell(rt, Told::Other);
-    }
-
-    fn status<R: Wait>(&self, _rt: &R) -> Status {
-        Status {
-            ballot: 1,
-            role: Role::Backup,
-            held: 0,
-            committed: 0,
-            stopped: false,
-        }
     }
 }

@@ -1,9 +1,9 @@
 // The threads that take the links of the rows behind the own one.
 
 use crate::dialling::may_be;
+use crate::far_end::FarEnd;
 use crate::guests::Guest;
 use crate::hall::LinkHall;
-use crate::link_end::{FarEnd, LinkEnd};
 use crate::linking::serve_met;
 use crate::meeting::{BEAT_MILLIS, Introduction, meet};
 use crate::strangers::Stranger;
@@ -19,9 +19,8 @@ use std::time::{Clock, Duration};
 const PAUSE_MILLIS: u64 = 10;
 
 /// Accepts connections until the links end. The listener has to be non-blocking.
-pub(crate) fn accept<E, R>(rt: &R, hall: &LinkHall<'_, E>, listener: &TcpListener)
+pub(crate) fn accept<R>(rt: &R, hall: &LinkHall<'_>, listener: &TcpListener)
 where
-    E: LinkEnd,
     R: Wait + Clock,
 {
     for _ in rt.forever() {
@@ -36,9 +35,8 @@ where
 }
 
 /// Serves one connection after the other until the links end.
-pub(crate) fn serve_guests<E, R>(rt: &R, hall: &LinkHall<'_, E>)
+pub(crate) fn serve_guests<R>(rt: &R, hall: &LinkHall<'_>)
 where
-    E: LinkEnd + Sync,
     R: AllocGlobal + Threads + Wait + Clock + RandomSource + Eprint + Sync,
 {
     for _ in rt.forever() {
@@ -54,10 +52,9 @@ where
 }
 
 // Serves a connection to its end.
-fn serve_guest<E, R>(rt: &R, hall: &LinkHall<'_, E>, stream: &TcpStream) -> Result<(), Stranger>
+fn serve_guest<R>(rt: &R, hall: &LinkHall<'_>, stream: &TcpStream) -> Result<(), Stranger>
 where
-    E: LinkEnd + Sync,
-    R: AllocGlobal + Threads + Wait + Clock + RandomSource + Sync,
+    R: AllocGlobal + Threads + Wait + Clock + RandomSource + Eprint + Sync,
 {
     let life = hall.life;
     let own = Introduction::of_node(Side::Listener, life.key, life.cluster, life.number);
@@ -66,9 +63,7 @@ where
     if !may_be(FarEnd::Row(life.row), number, life.number) {
         return Err(Stranger::Number(number));
     }
-    let Some(row) = hall.seats.lock(rt).enter(number) else {
-        return Err(Stranger::Full);
-    };
+    let row = hall.seats.lock(rt).enter(number)?;
     serve_met(rt, hall, FarEnd::Row(row), stream, met);
     hall.seats.lock(rt).leave(row);
     Ok(())

@@ -3,8 +3,8 @@
 ghost use Rattle.std.specs.Prelude.{◌≡◌, false, IfOk};
 
 use crate::dials::Dials;
+use crate::far_end::FarEnd;
 use crate::hall::LinkHall;
-use crate::link_end::{FarEnd, LinkEnd};
 use crate::linking::serve_met;
 use crate::meeting::{BEAT_MILLIS, Introduction, meet};
 use crate::strangers::Stranger;
@@ -21,9 +21,8 @@ use std::time::{Clock, Duration};
 const PAUSES_MILLIS: (u64, u64) = (50, 1000);
 
 /// Keeps the link to another end at this address, until the links end.
-pub(crate) fn dial<E, R, D>(rt: &R, hall: &LinkHall<'_, E>, dials: &D, far: FarEnd, text: &str)
+pub(crate) fn dial<R, D>(rt: &R, hall: &LinkHall<'_>, dials: &D, far: FarEnd, text: &str)
 where
-    E: LinkEnd + Sync,
     R: AllocGlobal + Threads + Wait + Clock + RandomSource + Eprint + Sync,
     D: Dials,
 {
@@ -43,9 +42,8 @@ where
 }
 
 // Dials once, and serves the link to its end. Returns true if there was one.
-fn dial_once<E, R, D>(rt: &R, hall: &LinkHall<'_, E>, dials: &D, far: FarEnd, text: &str) -> bool
+fn dial_once<R, D>(rt: &R, hall: &LinkHall<'_>, dials: &D, far: FarEnd, text: &str) -> bool
 where
-    E: LinkEnd + Sync,
     R: AllocGlobal + Threads + Wait + Clock + RandomSource + Eprint + Sync,
     D: Dials,
 {
@@ -65,14 +63,8 @@ where
 }
 
 // Meets the other end, which has to be the master, or another node.
-fn greet<E, R>(
-    rt: &R,
-    hall: &LinkHall<'_, E>,
-    far: FarEnd,
-    stream: &TcpStream,
-) -> Result<Met, Stranger>
+fn greet<R>(rt: &R, hall: &LinkHall<'_>, far: FarEnd, stream: &TcpStream) -> Result<Met, Stranger>
 where
-    E: LinkEnd,
     R: Clock + RandomSource,
     ensures { IfOk result (λ met. met.opener.failed ≡ false) }
 {
@@ -96,9 +88,8 @@ pub(crate) fn may_be(far: FarEnd, number: u8, own: u8) -> bool {
 }
 
 // Waits before dialling again.
-fn rest<E, R>(rt: &R, hall: &LinkHall<'_, E>, pause: u64)
+fn rest<R>(rt: &R, hall: &LinkHall<'_>, pause: u64)
 where
-    E: LinkEnd,
     R: Wait + Clock,
 {
     let part = Duration::from_millis(pause.min(BEAT_MILLIS));

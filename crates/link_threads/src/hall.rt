@@ -1,18 +1,21 @@
 // What the threads of a node's links share.
 //
-// Each lock is held for one call. `closing` is set once. A thread looks at it at least each fifth
-// of a second, unless a connection that is opened, which ends within a second, a handshake, which
-// ends within three, or a write, which ends within five, holds it up.
+// Each lock is held for one call. Whether links end is kept by the desk. A thread looks at it at
+// least each fifth of a second, unless a connection that is opened, which ends within a second, a
+// handshake, which ends within three, or a write, which ends within five, holds it up.
 
+use crate::cause::Cause;
+use crate::far_end::FarEnd;
 use crate::guests::Guests;
-use crate::link_end::{FarEnd, LinkEnd};
+use crate::link_clock::LinkClock;
+use crate::link_desk::LinkDesk;
 use crate::seats::Seats;
 use crate::strangers::{Stranger, Strangers};
 use links::seal::CLUSTER_BYTES;
 use machine::Memory;
 use std::alloc::Global;
 use std::net::SocketAddr;
-use std::sync::atomic::{AtomicBool, AtomicU64, Ordering};
+use std::sync::atomic::{AtomicBool, Ordering};
 use std::sync::{Mutex, Wait};
 use std::time::{Clock, Instant};
 
@@ -31,62 +34,56 @@ pub struct Life<'a> {
 
 /// What the threads of a node's links share.
 #[derive(Drop)]
-pub struct LinkHall<'a, E: LinkEnd> {
+pub struct LinkHall<'a> {
     pub(crate) life: Life<'a>,
-    pub(crate) node: &'a E,
+    pub(crate) desk: &'a LinkDesk,
     /// Connections of other nodes that wait for a thread.
     pub(crate) guests: Guests,
-    /// Connections that are no links.
+    // Connections that are no links, and links that were given up.
     strangers: Strangers,
+    ends: Strangers,
     /// The rows that dial this node.
     pub(crate) seats: Mutex<Seats>,
-    // When the links began.
-    start: Instant,
-    // When a link was heard last, in milliseconds since then.
-    heard: AtomicU64,
-    // True once the links end.
-    closing: AtomicBool,
+    // The time since the links began.
+    clock: LinkClock,
+    // True if something came over a link since the last look.
+    heard: AtomicBool,
 }
 
-impl<'a, E: LinkEnd> LinkHall<'a, E> {
+impl<'a> LinkHall<'a> {
     /// Returns what is shared by the links of a node in a table of this many rows, which begin now.
     pub fn new(
         alloc: Global,
         life: Life<'a>,
         rows: usize,
-        node: &'a E,
+        desk: &'a LinkDesk,
         now: Instant,
-    ) -> Result<LinkHall<'a, E>, Memory> {
+    ) -> Result<LinkHall<'a>, Memory> {
         Ok(LinkHall {
             life,
-            node,
+            desk,
             guests: Guests::new(alloc),
             strangers: Strangers::new(),
+            ends: Strangers::new(),
             seats: Mutex::new(Seats::new(alloc, life.row.saturating_add(1), rows)?),
-            start: now,
-            heard: AtomicU64::new(0),
-            closing: AtomicBool::new(false),
+            clock: LinkClock::new(now),
+            heard: AtomicBool::new(false),
         })
     }
 
-    /// Returns the time in milliseconds since the links began; the greatest if the clock cannot be
-    /// read, so that all links are cut.
+    /// Returns the time in milliseconds since the links began.
     pub(crate) fn now<R: Clock>(&self, rt: &R) -> u64 {
-        match self.start.elapsed(rt) {
-            Ok(passed) => u64::try_from(passed.as_millis()).unwrap_or(u64::MAX),
-            Err(_) => u64::MAX,
-        }
+        self.clock.now(rt)
     }
 
     /// Notes that something came over a link.
-    pub(crate) fn hears(&self, now: u64) {
-        self.heard.store(now, Ordering::SeqCst);
+    pub(crate) fn hears(&self) {
+        self.heard.store(true, Ordering::SeqCst);
     }
 
-    /// Returns for how long nothing came over any link, in milliseconds.
-    pub fn silence<R: Clock>(&self, rt: &R) -> u64 {
-        self.now(rt)
-            .saturating_sub(self.heard.load(Ordering::SeqCst))
+    /// Returns true if something came over a link since the last look, which this is.
+    pub(crate) fn take_heard(&self) -> bool {
+        self.heard.swap(false, Ordering::SeqCst)
     }
 
     /// Names a stranger on standard error, if none was named for a minute.
@@ -99,6 +96,20 @@ impl<'a, E: LinkEnd> LinkHall<'a, E> {
         self.strangers.name(rt, self.now(rt), address, stranger);
     }
 
+    /// Names on standard error why a link ends, if the connection is not the reason, and none was
+    /// named for a minute.
+    pub(crate) fn name_end<R: Wait + Clock + Eprint>(
+        &self,
+        rt: &R,
+        far: FarEnd,
+        number: u8,
+        cause: Cause,
+    ) {
+        if cause != Cause::Over {
+            self.ends.name_end(rt, self.now(rt), far, number, cause);
+        }
+    }
+
     /// Returns true if the other end of a link dialled again, so that this link has to end.
     pub(crate) fn is_left<R: Wait>(&self, rt: &R, far: FarEnd) -> bool {
         match far {
@@ -109,11 +120,11 @@ impl<'a, E: LinkEnd> LinkHall<'a, E> {
 
     /// Ends all links.
     pub fn close(&self) {
-        self.closing.store(true, Ordering::SeqCst);
+        self.desk.close();
     }
 
     /// Returns true once the links end.
     pub fn is_closing(&self) -> bool {
-        self.closing.load(Ordering::SeqCst)
+        self.desk.is_closing()
     }
 }

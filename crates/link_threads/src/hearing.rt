@@ -1,27 +1,35 @@
 // The thread that reads a link.
 //
-// A read takes what has come, and what it spells is given to the node in its order, each message
-// with the number that the other end told in its hello as its sender (`read_link`). A link that is
-// silent for three seconds is cut.
+// A read takes what has come, and what it spells is put on the desk in its order, each message with
+// the number that the other end told in its hello as its sender (`read_link`). A link is cut once
+// fifteen reads in a row, each of which waits for a fifth of a second, brought nothing: reads are
+// counted and no time, so what came while the program was stopped is read.
 
+use crate::cause::Cause;
+use crate::far_end::FarEnd;
 use crate::hall::LinkHall;
 use crate::line::Line;
-use crate::link_end::{FarEnd, LinkEnd};
-use crate::meeting::SILENT_MILLIS;
+use crate::meeting::{BEAT_MILLIS, SILENT_MILLIS};
 use crate::parcels::Parcels;
 use crate::timed_stream::BeatReader;
-use links::{LinkReadError, LinkReader, Parcel, Way, read_link};
+use links::{LinkReadError, LinkReader, Way, read_link};
 use std::sync::Wait;
-use std::time::Clock;
+use std::thread;
+use std::time::{Clock, Duration};
 
 /// The most bytes of a read.
 const CHUNK: usize = 16_384;
 
+/// How many reads in a row may bring nothing.
+const MAX_IDLE: u64 = SILENT_MILLIS / BEAT_MILLIS;
+
+/// How long a link is not read while too much lies on the desk, in milliseconds.
+const CROWDED_MILLIS: u64 = 1;
+
 /// Reads a link until it ends, and ends it then for its other thread, too.
-pub(crate) fn hear<E, R>(rt: &R, hall: &LinkHall<'_, E>, line: &Line<'_>, reader: LinkReader)
+pub(crate) fn hear<R>(rt: &R, hall: &LinkHall<'_>, line: &Line<'_>, reader: LinkReader)
 where
-    E: LinkEnd,
-    R: AllocGlobal + Wait + Clock,
+    R: AllocGlobal + Wait + Clock + Eprint,
 {
     let mut hearer = Hearer {
         rt,
@@ -30,15 +38,16 @@ where
         input: BeatReader::new(line.stream),
         reader,
         parcels: Parcels::new(rt, rt.alloc()),
-        heard: hall.now(rt),
+        idle: 0,
     };
     for _ in rt.forever() {
-        if hearer.beat().is_none() {
+        if let Err(cause) = hearer.beat() {
+            hall.name_end(rt, line.far, line.number, cause);
             break;
         }
     }
     line.end();
-    hall.node.wake(rt, line.far);
+    hall.desk.wake(line.far);
 }
 
 /// Returns which way the parcels of a link come.
@@ -51,43 +60,51 @@ pub(crate) fn way(far: FarEnd, number: u8) -> Way {
 
 // What reads a link.
 #[derive(Drop)]
-struct Hearer<'a, 'b, 'c, E: LinkEnd, R: Wait> {
+struct Hearer<'a, 'b, 'c, R: Wait> {
     rt: &'a R,
-    hall: &'a LinkHall<'b, E>,
+    hall: &'a LinkHall<'b>,
     line: &'a Line<'c>,
     input: BeatReader<'a>,
     reader: LinkReader,
-    // What came and was not given to the node.
+    // What came and is not yet on the desk.
     parcels: Parcels<'a, R>,
-    // When bytes came last, in milliseconds since the links began.
-    heard: u64,
+    // How many reads in a row brought nothing.
+    idle: u64,
 }
 
-impl<'a, 'b, 'c, E, R> Hearer<'a, 'b, 'c, E, R>
+impl<'a, 'b, 'c, R> Hearer<'a, 'b, 'c, R>
 where
-    E: LinkEnd,
     R: AllocGlobal + Wait + Clock,
 {
-    // Reads once, and gives the node what came. Returns none if the link is to end.
-    fn beat(&mut self) -> Option<()> {
-        let read = self.read();
-        for parcel in self.parcels.take_all() {
-            self.bring(parcel);
+    // Reads once, and puts what came on the desk. Fails once the link is to end.
+    fn beat(&mut self) -> Result<(), Cause> {
+        if self.is_over() {
+            return Err(Cause::Over);
         }
-        let now = self.hall.now(self.rt);
+        if self.hall.desk.is_crowded(self.rt) {
+            thread::sleep(self.rt, Duration::from_millis(CROWDED_MILLIS));
+            return Ok(());
+        }
+        let read = self.read();
+        self.bring()?;
         match read {
             Ok(()) => {
-                self.heard = now;
-                self.hall.hears(now);
+                self.idle = 0;
+                self.hall.hears();
+                Ok(())
             }
-            Err(LinkReadError::Device(_)) if self.input.is_idle() => {}
-            Err(_) => return None,
+            Err(LinkReadError::Device(_)) => self.idle(),
+            Err(LinkReadError::Link(fault)) => Err(Cause::Fault(fault)),
         }
-        let is_silent = now.saturating_sub(self.heard) > SILENT_MILLIS;
-        if is_silent || self.is_over() {
-            None
+    }
+
+    // Notes that a read brought nothing. Fails if the connection has ended, or is silent.
+    fn idle(&mut self) -> Result<(), Cause> {
+        self.idle = self.idle.saturating_add(1);
+        if self.input.is_idle() && self.idle < MAX_IDLE {
+            Ok(())
         } else {
-            Some(())
+            Err(Cause::Over)
         }
     }
 
@@ -102,19 +119,17 @@ where
         )
     }
 
+    // Puts what came on the desk.
+    fn bring(&mut self) -> Result<(), Cause> {
+        let came = self.parcels.take_all();
+        if !came.is_empty() {
+            self.hall.desk.bring(self.rt, came)?;
+        }
+        Ok(())
+    }
+
     // Returns true if the link has ended, or is to end.
     fn is_over(&self) -> bool {
         self.hall.is_closing() || self.line.has_ended() || self.hall.is_left(self.rt, self.line.far)
-    }
-
-    // Gives the node a parcel. A Welcome says nothing new, and no other comes this way.
-    fn bring(&self, parcel: Parcel) {
-        let node = self.hall.node;
-        match parcel {
-            Parcel::Message(message) => node.bring(self.rt, message),
-            Parcel::Expel(client) => node.expel(self.rt, &client),
-            Parcel::Crash => node.crash(self.rt),
-            Parcel::Welcome(_) | Parcel::Report(_) => {}
-        }
     }
 }

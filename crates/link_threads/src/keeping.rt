@@ -8,8 +8,9 @@
 use crate::accepting::{accept, serve_guests};
 use crate::dialling::dial;
 use crate::dials::Dials;
+use crate::far_end::FarEnd;
 use crate::hall::LinkHall;
-use crate::link_end::{FarEnd, LinkEnd};
+use crate::looks::Looks;
 use crate::meeting::BEAT_MILLIS;
 use std::net::TcpListener;
 use std::random::RandomSource;
@@ -17,9 +18,6 @@ use std::sync::Wait;
 use std::thread;
 use std::thread::Threads;
 use std::time::{Clock, Duration};
-
-/// How long a node may hear of nobody, in milliseconds.
-const LONELY_MILLIS: u64 = 60_000;
 
 /// How many connections of strangers are served at once, beside those of the rows behind.
 const STRANGERS: usize = 2;
@@ -29,8 +27,8 @@ const STRANGERS: usize = 2;
 pub enum LinksEnd {
     /// They were closed.
     Closed,
-    /// For a minute nothing came over any of them, and the node is no active primary that all
-    /// members follow.
+    /// In a minute's looks nothing came over any of them, and the node is no active primary that
+    /// all members follow.
     Lonely,
     /// A thread could not be started.
     Threads,
@@ -51,9 +49,8 @@ pub struct Doors<'a, D: Dials> {
 
 /// Keeps the links of a node to the master and to the other rows, until they are closed, or it is
 /// lonely.
-pub fn keep_links<E, R, D>(rt: &R, hall: &LinkHall<'_, E>, doors: &Doors<'_, D>) -> LinksEnd
+pub fn keep_links<R, D>(rt: &R, hall: &LinkHall<'_>, doors: &Doors<'_, D>) -> LinksEnd
 where
-    E: LinkEnd + Sync,
     R: AllocGlobal + Threads + Wait + Clock + RandomSource + Eprint + Sync,
     D: Dials + Sync,
 {
@@ -82,19 +79,20 @@ where
 }
 
 // Waits until the links are closed, or the node is lonely, if all threads have started.
-fn watch<E, R>(rt: &R, hall: &LinkHall<'_, E>, all_started: bool) -> LinksEnd
+fn watch<R>(rt: &R, hall: &LinkHall<'_>, all_started: bool) -> LinksEnd
 where
-    E: LinkEnd,
     R: Wait + Clock,
 {
     if !all_started {
         return LinksEnd::Threads;
     }
+    let mut looks = Looks::new();
     for _ in rt.forever() {
         if hall.is_closing() {
             return LinksEnd::Closed;
         }
-        if hall.silence(rt) > LONELY_MILLIS && !serves_alone(rt, hall) {
+        looks.look(hall.take_heard());
+        if looks.is_alone() && !serves_alone(rt, hall) {
             return LinksEnd::Lonely;
         }
         thread::sleep(rt, Duration::from_millis(BEAT_MILLIS));
@@ -103,7 +101,9 @@ where
 }
 
 // Returns true if the node is an active primary and nothing waits for a member.
-fn serves_alone<E: LinkEnd, R: Wait>(rt: &R, hall: &LinkHall<'_, E>) -> bool {
-    let status = hall.node.status(rt);
-    status.serves() && status.committed == status.held
+fn serves_alone<R: Wait>(rt: &R, hall: &LinkHall<'_>) -> bool {
+    match hall.desk.status(rt) {
+        Some(status) => status.serves() && status.committed == status.held,
+        None => false,
+    }
 }

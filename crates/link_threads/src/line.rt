@@ -1,6 +1,6 @@
 // One link, as its two threads share it.
 
-use crate::link_end::FarEnd;
+use crate::far_end::FarEnd;
 use std::net::{Shutdown, TcpStream};
 use std::sync::atomic::{AtomicBool, Ordering};
 

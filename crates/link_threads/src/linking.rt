@@ -2,10 +2,11 @@
 
 ghost use Rattle.std.specs.Prelude.{◌≡◌, false};
 
+use crate::cause::Cause;
+use crate::far_end::FarEnd;
 use crate::hall::LinkHall;
 use crate::hearing::{hear, way};
 use crate::line::Line;
-use crate::link_end::{FarEnd, LinkEnd};
 use crate::speaking::speak;
 use links::{LinkReader, LinkWriter, Met};
 use std::net::TcpStream;
@@ -14,17 +15,11 @@ use std::thread;
 use std::thread::Threads;
 use std::time::Clock;
 
-/// Serves a link whose ends have met, to its end: one thread reads, another writes.
-pub(crate) fn serve_met<E, R>(
-    rt: &R,
-    hall: &LinkHall<'_, E>,
-    far: FarEnd,
-    stream: &TcpStream,
-    met: Met,
-)
+/// Serves a link whose ends have met, to its end: one thread reads, another writes. Names why it
+/// ended, if the connection was not the reason.
+pub(crate) fn serve_met<R>(rt: &R, hall: &LinkHall<'_>, far: FarEnd, stream: &TcpStream, met: Met)
 where
-    E: LinkEnd + Sync,
-    R: AllocGlobal + Threads + Wait + Clock + Sync,
+    R: AllocGlobal + Threads + Wait + Clock + Eprint + Sync,
     requires { met.opener.failed ≡ false }
 {
     let Met {
@@ -35,24 +30,20 @@ where
     let line = Line::new(stream, far, other.number);
     let reader = LinkReader::new(rt.alloc(), opener, way(far, other.number));
     let writer = LinkWriter::new(rt.alloc(), sealer);
-    hall.node.meet(rt, far, other.number);
-    hall.hears(hall.now(rt));
+    let Some(link) = hall.desk.meet(rt, far, other.number) else {
+        hall.name_end(rt, far, other.number, Cause::Spent);
+        return;
+    };
+    hall.hears();
     run(rt, hall, &line, reader, writer);
-    hall.node.part(rt, far, other.number);
+    hall.desk.part(rt, far, link);
 }
 
 // Reads and writes a link to its end. Where no thread can be started nothing is written, so the
 // other end cuts it.
-fn run<E, R>(
-    rt: &R,
-    hall: &LinkHall<'_, E>,
-    line: &Line<'_>,
-    reader: LinkReader,
-    writer: LinkWriter,
-)
+fn run<R>(rt: &R, hall: &LinkHall<'_>, line: &Line<'_>, reader: LinkReader, writer: LinkWriter)
 where
-    E: LinkEnd + Sync,
-    R: AllocGlobal + Threads + Wait + Clock + Sync,
+    R: AllocGlobal + Threads + Wait + Clock + Eprint + Sync,
 {
     thread::join(
         rt,

@@ -1,5 +1,7 @@
 // What came over a link and was not looked at.
 
+ghost use Rattle.std.specs.Prelude.{◌≡◌, []};
+
 use links::{Parcel, ParcelSink};
 use std::alloc::Global;
 use std::mem;
@@ -23,8 +25,11 @@ impl<'a, R: Wait> Parcels<'a, R> {
         }
     }
 
-    /// Takes all that came.
-    pub fn take_all(&mut self) -> Vec<Parcel> {
+    /// Takes all that came, oldest first.
+    pub fn take_all(&mut self) -> Vec<Parcel>
+        ensures taken { result.items ≡ self.old.parcels.items }
+        ensures none { self.new.parcels.items ≡ [] }
+    {
         mem::replace(&mut self.parcels, Vec::new(self.alloc))
     }
 }

@@ -7,18 +7,14 @@ use broker_spec::Command;
 use links::LinkWriter;
 use links::link_queue::Waiting;
 use links::message_form::WriteFault;
-use machine::Memory;
 
-/// Adds messages, in their order, to what is to be written. One that no link carries, since it has
-/// more than 1 GiB, is left out: it is lost. `Memory` comes if memory runs out for one.
-pub(crate) fn add_all(writer: &mut LinkWriter, taken: &[Waiting<Command>]) -> Result<(), Memory>
+/// Adds messages, in their order, to what is to be written. Fails at the first that no link
+/// carries, since it has more than 1 GiB, or for which memory runs out.
+pub(crate) fn add_all(writer: &mut LinkWriter, taken: &[Waiting<Command>]) -> Result<(), WriteFault>
     ensures { OnOk result (AddsAll writer.old taken.now writer.new) }
 {
     for waiting in taken {
-        match writer.add_message(&waiting.message) {
-            Ok(()) | Err(WriteFault::TooLarge) => {}
-            Err(WriteFault::Memory) => return Err(Memory),
-        }
+        writer.add_message(&waiting.message)?;
     }
     Ok(())
 }

@@ -4,6 +4,7 @@
 // else one whose link is down, that of the oldest life first: numbers rise with each start, so the
 // oldest is the likeliest to have ended.
 
+use crate::strangers::Stranger;
 use machine::Memory;
 use std::alloc::Global;
 
@@ -46,18 +47,23 @@ impl Seats {
         self.seats.len()
     }
 
-    /// Lets this life have a row, and returns it. Returns none if the link of each is up; then an
-    /// older link of this life is to end.
-    pub(crate) fn enter(&mut self, number: u8) -> Option<usize> {
+    /// Lets this life have a row, and returns it. `Linked` comes if an older link of this life is
+    /// up, which is to end then, and `Full` if the link of each row is up.
+    pub(crate) fn enter(&mut self, number: u8) -> Result<usize, Stranger> {
         if let Some(own) = self.seats.iter_mut().find(|seat| seat.number == number) {
             if own.is_linked {
                 own.is_left = true;
-                return None;
+                return Err(Stranger::Linked(number));
             }
-            return Some(own.take(number));
+            return Ok(own.take(number));
         }
-        let row = self.oldest_down()?;
-        Some(self.seat(row)?.take(number))
+        let Some(row) = self.oldest_down() else {
+            return Err(Stranger::Full);
+        };
+        match self.seat(row) {
+            Some(seat) => Ok(seat.take(number)),
+            None => Err(Stranger::Full),
+        }
     }
 
     // Returns the row with the oldest life, of those whose link is down.

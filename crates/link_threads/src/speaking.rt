@@ -3,22 +3,24 @@
 // It sleeps until something waits, takes all of it, and writes it in one go. Each fifth of a second
 // it writes at least an empty frame, and to the master what the node reports.
 
+use crate::cause::Cause;
+use crate::far_end::FarEnd;
 use crate::hall::LinkHall;
+use crate::incoming::LeftLog;
 use crate::line::Line;
-use crate::link_end::{FarEnd, LinkEnd};
 use crate::meeting::BEAT_MILLIS;
 use crate::saying::add_all;
 use crate::timed_stream::StreamWriter;
 use crate::transits::Transits;
-use links::{LinkWriter, Parcel};
+use links::message_form::WriteFault;
+use links::{LinkWriteError, LinkWriter, Parcel};
 use std::sync::Wait;
 use std::time::{Clock, Duration};
 
 /// Writes a link until it ends, and ends it then.
-pub(crate) fn speak<E, R>(rt: &R, hall: &LinkHall<'_, E>, line: &Line<'_>, writer: LinkWriter)
+pub(crate) fn speak<R>(rt: &R, hall: &LinkHall<'_>, line: &Line<'_>, writer: LinkWriter)
 where
-    E: LinkEnd,
-    R: AllocGlobal + Wait + Clock,
+    R: AllocGlobal + Wait + Clock + Eprint,
 {
     let mut speaker = Speaker {
         rt,
@@ -30,7 +32,8 @@ where
         written: hall.now(rt),
     };
     for _ in rt.forever() {
-        if speaker.beat().is_none() {
+        if let Err(cause) = speaker.beat() {
+            hall.name_end(rt, line.far, line.number, cause);
             break;
         }
     }
@@ -39,9 +42,9 @@ where
 
 // What writes a link.
 #[derive(Drop)]
-struct Speaker<'a, 'b, 'c, E: LinkEnd, R: Wait> {
+struct Speaker<'a, 'b, 'c, R: Wait> {
     rt: &'a R,
-    hall: &'a LinkHall<'b, E>,
+    hall: &'a LinkHall<'b>,
     line: &'a Line<'c>,
     output: StreamWriter<'a>,
     writer: LinkWriter,
@@ -50,29 +53,27 @@ struct Speaker<'a, 'b, 'c, E: LinkEnd, R: Wait> {
     written: u64,
 }
 
-impl<'a, 'b, 'c, E, R> Speaker<'a, 'b, 'c, E, R>
+impl<'a, 'b, 'c, R> Speaker<'a, 'b, 'c, R>
 where
-    E: LinkEnd,
     R: AllocGlobal + Wait + Clock,
 {
-    // Waits for a beat at most, and writes what waits then. Returns none if the link is to end.
-    fn beat(&mut self) -> Option<()> {
-        let far = self.line.far;
-        let beat = Duration::from_millis(BEAT_MILLIS);
-        self.hall.node.wait(self.rt, far, beat);
+    // Waits for a beat at most, and writes what waits then. Fails once the link is to end.
+    fn beat(&mut self) -> Result<(), Cause> {
+        let Line { far, number, .. } = *self.line;
+        let desk = self.hall.desk;
+        desk.wait(self.rt, far, number, Duration::from_millis(BEAT_MILLIS));
         if self.hall.is_closing() || self.line.has_ended() {
-            return None;
+            return Err(Cause::Over);
         }
-        let number = self.line.number;
-        let taken = self.hall.node.take(self.rt, self.rt.alloc(), far, number)?;
+        let taken = desk.take(self.rt, far, number)?;
         let now = self.hall.now(self.rt);
-        self.release(now);
+        self.release(now)?;
         let is_due = now.saturating_sub(self.written) >= BEAT_MILLIS;
         if taken.is_empty() && !is_due {
-            return Some(());
+            return Ok(());
         }
-        self.transits.note(&taken, now);
-        add_all(&mut self.writer, &taken).ok()?;
+        self.transits.note(&taken, now)?;
+        or_cause(add_all(&mut self.writer, &taken))?;
         if is_due {
             self.report()?;
         }
@@ -80,29 +81,46 @@ where
     }
 
     // Lets logs be given again that left long ago.
-    fn release(&mut self, now: u64) {
+    fn release(&mut self, now: u64) -> Result<(), Cause> {
         for _ in 0..u64::MAX {
             let Some(name) = self.transits.take_due(now) else {
-                return;
+                return Ok(());
             };
             let Line { far, number, .. } = *self.line;
-            self.hall.node.sent(self.rt, far, number, name);
+            self.hall.desk.sent(self.rt, LeftLog { far, number, name })?;
         }
+        Ok(())
     }
 
-    // Adds what the node reports to the master.
-    fn report(&mut self) -> Option<()> {
+    // Adds what the node reports to the master, once it has shown something.
+    fn report(&mut self) -> Result<(), Cause> {
         if self.line.far != FarEnd::Master {
-            return Some(());
+            return Ok(());
         }
-        let status = self.hall.node.status(self.rt);
-        self.writer.add(&Parcel::Report(status)).ok()
+        match self.hall.desk.status(self.rt) {
+            Some(status) => or_cause(self.writer.add(&Parcel::Report(status))),
+            None => Ok(()),
+        }
     }
 
     // Writes what was added, or an empty frame.
-    fn write(&mut self) -> Option<()> {
-        self.writer.write(&mut self.output).ok()?;
+    fn write(&mut self) -> Result<(), Cause> {
+        match self.writer.write(&mut self.output) {
+            Ok(()) => {}
+            Err(LinkWriteError::Memory) => return Err(Cause::Memory),
+            Err(LinkWriteError::Spent) => return Err(Cause::Spent),
+            Err(_) => return Err(Cause::Over),
+        }
         self.written = self.hall.now(self.rt);
-        Some(())
+        Ok(())
+    }
+}
+
+// Returns why a link ends of which a parcel could not be added.
+fn or_cause(added: Result<(), WriteFault>) -> Result<(), Cause> {
+    match added {
+        Ok(()) => Ok(()),
+        Err(WriteFault::TooLarge) => Err(Cause::TooLarge),
+        Err(WriteFault::Memory) => Err(Cause::Memory),
     }
 }

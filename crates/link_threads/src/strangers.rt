@@ -1,5 +1,8 @@
-// Connections that are no links: they are told of in at most one line a minute.
+// Connections that are no links: they are told of in at most one line a minute. So are the ends of
+// links that memory, a message too large or a fault brought.
 
+use crate::cause::Cause;
+use crate::far_end::FarEnd;
 use links::HandshakeFault;
 use std::fmt;
 use std::net::SocketAddr;
@@ -17,6 +20,11 @@ pub enum Stranger {
     Number(u8),
     /// All links of those that dial this node are up.
     Full,
+    /// An older link of this life is up, which ends now.
+    Linked(u8),
+    /// The master met the node, and gave it no number: it has none left, could not keep its state,
+    /// or ends.
+    Unwelcome,
     /// The connection, the random bytes or memory failed.
     Fault,
 }
@@ -27,6 +35,8 @@ impl fmt::Display for Stranger {
             Stranger::Handshake(fault) => write!(f, "{fault}"),
             Stranger::Number(number) => write!(f, "it has the number {number}"),
             Stranger::Full => write!(f, "all links are up"),
+            Stranger::Linked(number) => write!(f, "an older link of node {number} is up"),
+            Stranger::Unwelcome => write!(f, "it gave none: it has none left, or it ends"),
             Stranger::Fault => write!(f, "the connection failed"),
         }
     }
@@ -71,6 +81,21 @@ impl Strangers {
         if self.may_name(rt, now) {
             // There is nowhere else to print it.
             let _ = eprintln!(rt; "vcluster: no link to {address}: {stranger}");
+        }
+    }
+
+    /// Names on standard error why a link ends, if that may be named now.
+    pub(crate) fn name_end<R: Wait + Eprint>(
+        &self,
+        rt: &R,
+        now: u64,
+        far: FarEnd,
+        number: u8,
+        cause: Cause,
+    ) {
+        if self.may_name(rt, now) {
+            // There is nowhere else to print it.
+            let _ = eprintln!(rt; "vcluster: the link to {far}, number {number}, ended: {cause}");
         }
     }
 }

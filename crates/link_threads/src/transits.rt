@@ -5,6 +5,7 @@
 
 use broker_spec::Command;
 use links::link_queue::{LogName, Waiting, log_name};
+use machine::Memory;
 use std::alloc::Global;
 
 /// How long a log is not given again, in milliseconds.
@@ -31,14 +32,14 @@ impl Transits {
         }
     }
 
-    /// Notes that these messages leave now. Without memory a log of them is not given again as long
-    /// as the link is up.
-    pub(crate) fn note(&mut self, taken: &[Waiting<Command>], now: u64) {
+    /// Notes that these messages leave now. Fails if memory runs out for a log of them.
+    pub(crate) fn note(&mut self, taken: &[Waiting<Command>], now: u64) -> Result<(), Memory> {
         for waiting in taken {
             if let Some(name) = log_name(&waiting.message) {
-                let _ = self.transits.push(Transit { name, left: now });
+                self.transits.push(Transit { name, left: now })?;
             }
         }
+        Ok(())
     }
 
     /// Takes the name of a log that may be given again by now.

@@ -36,8 +36,8 @@ impl Welcome {
 /// The most bytes of a read.
 const CHUNK: usize = 4096;
 
-/// Asks the master at this address for a number. A connection that ends, or says nothing for three
-/// seconds, is a fault, as it is when the master has no number left.
+/// Asks the master at this address for a number. `Unwelcome` comes if it ends the connection
+/// without one, as it does when no number is left, or says nothing for three seconds.
 pub fn ask_number<R, D>(rt: &R, dials: &D, key: &[u8], text: &str) -> Result<Welcome, Stranger>
 where
     R: AllocGlobal + Wait + Clock + RandomSource,
@@ -76,10 +76,10 @@ where
             return Ok(Welcome { number, cluster });
         }
         if read.is_err() && !input.is_idle() {
-            return Err(Stranger::Fault);
+            return Err(Stranger::Unwelcome);
         }
     }
-    Err(Stranger::Fault)
+    Err(Stranger::Unwelcome)
 }
 
 // Returns the number of the first Welcome.

@@ -7,7 +7,7 @@
 
 use crate::desk::{Desk, Keeper};
 use crate::master::roster::Roster;
-use link_threads::{Guests, Strangers};
+use link_threads::{Guests, LinkClock, Strangers};
 use links::seal::CLUSTER_BYTES;
 use std::alloc::Global;
 use std::sync::Mutex;
@@ -28,8 +28,8 @@ pub struct Hall<'a, K: Keeper> {
     pub(crate) guests: Guests,
     /// Connections that are no links.
     pub(crate) strangers: Strangers,
-    // When the master began.
-    start: Instant,
+    // The time since the master began.
+    clock: LinkClock,
     // True once the master ends.
     closing: AtomicBool,
 }
@@ -43,7 +43,7 @@ impl<'a, K: Keeper> Drop for Hall<'a, K> {
             roster: _roster,
             guests: _guests,
             strangers: _strangers,
-            start: _,
+            clock: _clock,
             closing: _closing,
         } = self;
     }
@@ -60,18 +60,14 @@ impl<'a, K: Keeper> Hall<'a, K> {
             roster: Mutex::new(Roster::new(alloc)),
             guests: Guests::new(alloc),
             strangers: Strangers::new(),
-            start: now,
+            clock: LinkClock::new(now),
             closing: AtomicBool::new(false),
         }
     }
 
-    /// Returns the time in milliseconds since the master began; the greatest if the clock cannot be
-    /// read, so that all links are cut.
+    /// Returns the time in milliseconds since the master began.
     pub(crate) fn now<R: Clock>(&self, rt: &R) -> u64 {
-        match self.start.elapsed(rt) {
-            Ok(passed) => u64::try_from(passed.as_millis()).unwrap_or(u64::MAX),
-            Err(_) => u64::MAX,
-        }
+        self.clock.now(rt)
     }
 
     /// Ends the master's threads.
