@@ -1,3 +1,4 @@
 pub mod Added
 pub mod Plain
 pub mod Counted
+pub mod NodeAlone

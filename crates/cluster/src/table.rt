@@ -14,7 +14,7 @@ mod words;
 
 pub use cluster_table::{ClusterTable, NodeRow};
 pub use fault::{LineFault, TableFault};
-pub use job::{Job, MakeKey, RunMaster};
+pub use job::{Job, MakeKey, RunMaster, RunNode};
 pub use place::line_of;
 pub use table_text::{MAX_ROWS, table};
 pub use words::line;

@@ -4,9 +4,10 @@ use clap::error::ErrorKind;
 use cluster::table::{Job, LineFault, line};
 use std::alloc::Global;
 
-// What the words ask for: the subcommand and its one value, or the kind of a refusal.
+// What the words ask for: the subcommand and its values, or the kind of a refusal.
 #[derive(Clone, Copy, Debug, PartialEq, Eq)]
 enum Asked<'a> {
+    Node(&'a str, u32),
     Master(&'a str),
     Key(&'a str),
     Refused(ErrorKind),
@@ -41,7 +42,23 @@ const ROWS: &[(&[&str], Asked<'static>)] = &[
         Asked::Refused(ErrorKind::UnknownArgument),
     ),
     (
-        &["vcluster", "node"],
+        &["vcluster", "node", "--config", "a.toml", "--row", "15"],
+        Asked::Node("a.toml", 15),
+    ),
+    (
+        &["vcluster", "node", "--config", "a.toml"],
+        Asked::Refused(ErrorKind::MissingRequiredArgument),
+    ),
+    (
+        &["vcluster", "node", "--config", "a.toml", "--row", "0"],
+        Asked::Refused(ErrorKind::ValueValidation),
+    ),
+    (
+        &["vcluster", "node", "--config", "a.toml", "--row", "16"],
+        Asked::Refused(ErrorKind::ValueValidation),
+    ),
+    (
+        &["vcluster", "client"],
         Asked::Refused(ErrorKind::InvalidSubcommand),
     ),
     (
@@ -61,6 +78,7 @@ const ROWS: &[(&[&str], Asked<'static>)] = &[
 // Returns what words ask for.
 fn job_of<'a>(alloc: Global, words: &'a [&'a str]) -> Asked<'a> {
     match line(alloc, words) {
+        Ok(Job::Node(job)) => Asked::Node(job.config, job.row),
         Ok(Job::Master(job)) => Asked::Master(job.config),
         Ok(Job::Key(job)) => Asked::Key(job.file),
         Err(LineFault::Words(error)) => Asked::Refused(error.kind()),

@@ -1,8 +1,9 @@
 // The arguments of the subcommands.
 
-ghost use Rattle.cluster.specs.table.Program.{IsArgument, config_rule, file_rule};
+ghost use Rattle.cluster.specs.table.Program.{IsArgument, config_rule, file_rule, row_rule};
 
 use clap::Arg;
+use clap::builder::ValueParser;
 use std::alloc::Global;
 
 /// Returns `--config FILE`.
@@ -14,6 +15,18 @@ pub(crate) fn config<'a>(alloc: Global) -> Arg<'a>
         .value_name("FILE")
         .required(true)
         .help("The table of the cluster, in TOML")
+}
+
+/// Returns `--row N`.
+pub(crate) fn row<'a>(alloc: Global) -> Arg<'a>
+    ensures { IsArgument row_rule result }
+{
+    Arg::new(alloc, "row")
+        .long("row")
+        .value_name("N")
+        .required(true)
+        .value_parser(ValueParser::signed(1, 15))
+        .help("The row of this machine in the table, 1 to 15")
 }
 
 /// Returns `FILE`.

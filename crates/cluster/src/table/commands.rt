@@ -2,19 +2,26 @@
 
 ghost use Rattle.std.specs.Prelude.{◌≡◌, IfOk};
 ghost use Rattle.clap.specs.Words.{App, Rule, new_app, with_rule, with_subcommand};
-ghost use Rattle.cluster.specs.table.Program.{IsArgument, IsCommand, bare_program, key_app, master_app, program};
+ghost use Rattle.cluster.specs.table.Program.{IsArgument, IsCommand, bare_program, key_app, master_app, node_app, program};
 
 use crate::table::arguments;
 use clap::{Arg, Command};
 use std::alloc::{AllocError, Global};
 
 /// What `vcluster --help` prints at its end.
-const AFTER_HELP: &str = "Exit status: 0 done; 1 a fault of file, network, memory, clock or threads;
-2 a refused command line, or help; 3 a refused table, key or state.
+const AFTER_HELP: &str = "Exit status: 0 done; 1 a fault of file, network, memory, clock or threads,
+or a node that reaches nobody; 2 a refused command line, or help; 3 a refused table,
+row, key or state.
 
 Example:
   vcluster key /etc/vcluster/key
-  vcluster master --config /etc/vcluster/cluster.toml";
+  vcluster master --config /etc/vcluster/cluster.toml
+  vcluster node --config /etc/vcluster/cluster.toml --row 1";
+
+/// What `vcluster node --help` prints at its end.
+const AFTER_NODE: &str = "It runs until it is killed, and ends by itself with status 1 once it has
+reached neither another node nor the master for a minute. Each start is a new node to
+its cluster, with a number of its own; a master's order makes it a member.";
 
 /// What `vcluster master --help` prints at its end.
 const AFTER_MASTER: &str =
@@ -30,6 +37,7 @@ pub(crate) fn program<'a>(alloc: Global) -> Result<Command<'a>, AllocError>
     ensures { IfOk result (IsCommand program) }
 {
     let command = bare_program(alloc);
+    let command = enter(command, node(alloc)?)?;
     let command = enter(command, master(alloc)?)?;
     enter(command, key(alloc)?)
 }
@@ -69,6 +77,16 @@ fn enter<'a>(command: Command<'a>, subcommand: Command<'a>) -> Result<Command<'a
         → IfOk result (IsCommand (with_subcommand app sub_app.top)) }
 {
     command.subcommand(subcommand)
+}
+
+// Returns `node`.
+fn node<'a>(alloc: Global) -> Result<Command<'a>, AllocError>
+    ensures { IfOk result (IsCommand node_app) }
+{
+    let about = "Runs a node of a cluster: serves clients, and keeps its links";
+    let command = bare(alloc, "node", about, AFTER_NODE);
+    let command = add(command, arguments::config(alloc))?;
+    add(command, arguments::row(alloc))
 }
 
 // Returns `master`.
