@@ -4,11 +4,19 @@ use clap::Error;
 use clap::error::ErrorKind;
 use cluster::master::MasterError;
 use cluster::table::{LineFault, TableFault, line_of};
+use cluster_node::NodeError;
 use std::rt::Files;
 use std::{fs, str};
 
 /// Prints an error in one line, and returns its exit status.
 pub fn print_fault<R: Eprint>(rt: &R, error: &MasterError) -> u8 {
+    // There is nowhere else to print it.
+    let _ = eprintln!(rt; "vcluster: {error}");
+    error.status()
+}
+
+/// Prints an error of a node in one line, and returns its exit status.
+pub fn print_node_fault<R: Eprint>(rt: &R, error: &NodeError) -> u8 {
     // There is nowhere else to print it.
     let _ = eprintln!(rt; "vcluster: {error}");
     error.status()
