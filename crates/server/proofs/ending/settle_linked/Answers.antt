@@ -1,6 +1,7 @@
 use Rattle.std.proofs.Common.{List, ◌∷◌, refl, sym, subst, arith, ◌∙◌}
-use Rattle.std.specs.Prelude.{◌≡◌, into_iter_items}
+use Rattle.std.specs.Prelude.{◌≡◌}
 use Rattle.std.specs.List.{Contains}
+use Rattle.std.specs.Vec.Iter.{into_iter_items}
 use Rattle.server.specs.Ended.{EndedView}
 use Rattle.server.specs.Inside.{numbers_of}
 use Rattle.server.specs.declared.node_threads.served_node.NodeReport.{NodeReport}

@@ -8,5 +8,5 @@ returns-clause-run g c =
     linked_run g.H.RunNaming.nodes c.args.listener.now.number g.H.RunNaming.config
     (map (λ listener. listener.number) c.of_links-contexts.result.listeners.now) (numbers_of _) c.in_ok-run.run'
     c.requires.all c.requires.alone
-    (ap (map (λ listener. listener.number)) (c.of_links-contexts.ensures.listeners ∙ c.from_ref.ensures))
+    (ap (map (λ listener. listener.number)) (c.of_links-contexts.ensures.listeners ∙ c.from_ref.ensures.value))
     c.in_ok-run.ensures.run c.in_ok-run.ensures.report c.in_ok-answer.ensures.served c.in_ok-run.ensures.among
