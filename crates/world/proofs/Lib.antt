@@ -48,3 +48,5 @@ mod ConnackComes
 mod NewPrimary
 mod LeadsOut
 mod PairsWritten
+mod NoneFailed
+mod NoneFailedThere

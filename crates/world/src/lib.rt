@@ -19,7 +19,9 @@ pub use client_base::Accepted;
 pub use machine::Memory;
 pub use master::Idle;
 pub use session_base::Publication;
-pub use theorems::{an_open_past_the_last_changes_nothing, uncounted_is_exact};
+pub use theorems::{
+    a_step_leaves_no_failed_connection, an_open_past_the_last_changes_nothing, uncounted_is_exact,
+};
 pub use world::World;
 pub use world_base::node_connections::{Handed, Piece, Port};
 pub use world_base::node_core::{Item, NodeCore};
