@@ -101,12 +101,7 @@ where
 }
 
 // Keeps the links of one of them.
-fn keep<R, D>(
-    rt: &R,
-    hall: &LinkHall<'_>,
-    pair: &Pair<'_, D>,
-    listener: &TcpListener,
-) -> LinksEnd
+fn keep<R, D>(rt: &R, hall: &LinkHall<'_>, pair: &Pair<'_, D>, listener: &TcpListener) -> LinksEnd
 where
     R: AllocGlobal + Threads + Wait + Clock + RandomSource + Eprint + Sync,
     D: Dials + Sync,
