@@ -10,10 +10,12 @@ use Rattle.client.specs.Core.{Core}
 use Rattle.world_nodes.specs.recoveries.Answered.{CanAsk, begun_log}
 use Rattle.recovery.specs.replicas.CutDeliveries.Delivered.{all_came}
 use Rattle.recovery.specs.replicas.Deliveries.{NumbersAreApart, NodeIs}
-use Rattle.recovery.specs.replicas.LedStates.{Follows}
+use Rattle.recovery.specs.replicas.LedStates.{Follows, LeadsIn}
 use Rattle.world_nodes.proofs.of_recoveries.ClientAnswered.{AwaitsOthers, others_are_awaited, others_let_the_client_be_answered, sole_member_answers_the_client, waits_on}
 use Rattle.world_nodes.proofs.of_recoveries.NodesFollow.{deliveries_are_followed}
 use Rattle.agreement.specs.cut_logs.Moments.{Moment, Moments, whole_moment}
+use Rattle.agreement.specs.cut_logs.Whole.{whole}
+use Rattle.headline.specs.node_group.Group.{replica_of}
 use Rattle.headline.specs.node_moves.Moves.{NodeCall}
 use Rattle.headline.specs.node_moves.Moves.NodeCall.{takes}
 use Rattle.lists.specs.Lists.{In}
@@ -39,6 +41,7 @@ use Rattle.world.specs.World.{WorldState}
 use Rattle.world.proofs.ExactRuns.{in_two}
 use Rattle.world_pipes.proofs.of_clients.NodesGoOn.{acts_go}
 use Rattle.world.proofs.GroupGoes.{with_nodes}
+use Rattle.world.proofs.LedOn.{IsLedAt, RunOn, bytes_run_on, come_runs, led_bytes}
 use Rattle.world_pipes.proofs.of_clients.NodesGoOn.{nodes_go_join}
 use Rattle.world.proofs.PassesOn.{Passes, gathers_passes, passes_join}
 use Rattle.world.proofs.PutsFirst.{AnsweredTo, BeforeLast, IsAnswered, answers_last, numbers_before, put_first}
@@ -70,12 +73,19 @@ module _ (name : List ℕ) (i at number place : ℕ) (core : Core) (up : List �
   goes : NodesGo w.nodes taken
   goes = acts_go (let node_call : Option (ℕ × NodeCall) = Some (place, takes item) in node_call) w.nodes taken (acts w.nodes place node (takes item) stands (λ g t. tt))
 
+  runs : RunOn w.nodes taken
+  runs = bytes_run_on w.nodes place node (port_at_node number) piece 0 stands
+
+  led : LeadsIn ballot (whole a.world.archive (replica_of node.core)) → IsLedAt ballot place taken
+  led l = led_bytes ballot place w.nodes node (port_at_node number) piece 0 stands (record { runs = l.runs; joined = l.joined; role = l.role })
+
   -- a sole member answers at once
-  pub answers_alone : CanAsk a w.nodes ballot place node [] (port_at_node number) x list start piece connect → IsAnswered name i at number place core w.nodes after.nodes after
+  pub answers_alone : CanAsk a w.nodes ballot place node [] (port_at_node number) x list start piece connect → IsAnswered name i at number place core ballot w.nodes after.nodes after
   answers_alone possible =
       put_first name i at number place core up (with_nodes taken w) after turned positive (get_set w.nodes.nodes place node turned stands)
       (sole_member_answers_the_client config a moments came w.nodes ballot place node (port_at_node number) x list start 0 piece connect possible)
-      gathers housed s first w.nodes (nodes_go_join w.nodes taken after.nodes goes passes.nodes) refl
+      gathers housed s first ballot (led possible.serves.leads) w.nodes (nodes_go_join w.nodes taken after.nodes goes passes.nodes) refl
+      (λ m e. come_runs taken after.nodes [] passes.come m (runs m e))
 
   -- ---- with others
 
@@ -97,7 +107,7 @@ module _ (name : List ℕ) (i at number place : ℕ) (core : Core) (up : List �
 
     -- all but the last answer
     others_answer : EventsHappen (map events.Deliver ks ++ events.Deliver index ∷ more) after new → WorldLosesNothing after new →
-        BeforeLast ks i at number place core up index more (with_nodes taken w) new
+        BeforeLast ks i at number place core up index ballot more (with_nodes taken w) new
     others_answer run none =
         let t = in_two (map events.Deliver ks) (events.Deliver index ∷ more) after new run none in
         let f = deliveries_are_followed ballot awaits.moment awaits.moment [] all_came taken after.nodes passes.come awaits.seen awaits.calm in
@@ -107,14 +117,16 @@ module _ (name : List ℕ) (i at number place : ℕ) (core : Core) (up : List �
           mid = t.mid;
           passes = passes_join [] ks (with_nodes taken w) after t.mid passes v.passes;
           newest = v.newest;
+          led = record { node = v.waits.node; stands = v.waits.stands; leads = record { runs = v.waits.leads.runs; joined = v.waits.leads.joined; role = v.waits.leads.role } };
           rest = t.last;
           whole = t.whole_last;
         }
 
-    pub answers_with_others : EventsHappen (map events.Deliver ks ++ events.Deliver index ∷ more) after new → WorldLosesNothing after new → AnsweredTo name i at number place core w.nodes more new
+    pub answers_with_others : EventsHappen (map events.Deliver ks ++ events.Deliver index ∷ more) after new → WorldLosesNothing after new → AnsweredTo name i at number place core ballot w.nodes more new
     answers_with_others run none =
         let b = others_answer run none in
         let f = deliveries_are_followed ballot awaits.moment awaits.before ks awaits.delivered taken b.mid.nodes b.passes.come awaits.seen awaits.calm in
         answers_last name ks i at number place core up index last ballot (begun_log list start) more (with_nodes taken w) new positive b
         (others_let_the_client_be_answered config a moments came w.nodes b.mid.nodes ballot place node front last (port_at_node number) x list start 0 piece connect possible apart out each b.passes.come)
         first w.nodes (nodes_go_join w.nodes taken b.mid.nodes goes b.passes.nodes) (sym f.seen.master ∙ awaits.master)
+        (λ m e. come_runs taken b.mid.nodes ks b.passes.come m (runs m e))

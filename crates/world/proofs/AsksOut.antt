@@ -101,7 +101,7 @@ module _ (name : List ℕ) (v : WorldState) (i at number place : ℕ) (core : Co
   w_first = position_kept name w.clients v.clients (emptied_names i at number place core up v newest positive o.node o.stands count many) ∙ first
 
   answered : (f : First (events.CarryUp number count) asked v new) → Gathers true (suc place) (with_nodes taken w) f.after → (os ≡ []) ⊎ EndsWith os →
-      AnsweredTo name i at number place core v.nodes more new
+      AnsweredTo name i at number place core ballot v.nodes more new
   answered f gathers (inl none) =
       record {
         after = f.after;
@@ -136,7 +136,7 @@ module _ (name : List ℕ) (v : WorldState) (i at number place : ℕ) (core : Co
           ∙ ap (λ (es : List Event). es ++ more) (map-append events.Deliver before (index ∷ []))
           ∙ append_assoc (map events.Deliver before) (events.Deliver index ∷ []) more
 
-  pub answers_out : EventsHappen (events.CarryUp number count ∷ asked) v new → WorldLosesNothing v new → AnsweredTo name i at number place core v.nodes more new
+  pub answers_out : EventsHappen (events.CarryUp number count ∷ asked) v new → WorldLosesNothing v new → AnsweredTo name i at number place core ballot v.nodes more new
   answers_out run none =
       let f = first_done (events.CarryUp number count) asked v new run none
       (can_come_up i at number place core up v newest positive o.node o.stands count many o.serves.leads.runs some) in

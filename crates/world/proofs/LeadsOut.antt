@@ -1,5 +1,6 @@
 -- The events of a way out lead out: to the next ballot, and to the client online with its session present.
-use Rattle.std.proofs.Common.{◌≡◌, ◌-◌, ◌+◌, ℕ, suc, Bool, List, [], ◌∷◌, ◌++◌, length, map, refl, sym, ap, ◌∙◌, subst, append_assoc, arith}
+use Rattle.std.proofs.Common.{◌≡◌, ◌-◌, ◌+◌, ℕ, suc, Bool, true, List, [], ◌∷◌, ◌++◌, length, map, refl, sym, ap, ◌∙◌, subst, append_assoc, arith}
+use Rattle.std.specs.List.{list_all}
 use Rattle.std.proofs.lemmas.Option.{none-some}
 use Rattle.agreement.specs.MasterState.{MasterState}
 use Rattle.agreement.specs.MasterState.AssignRefusal.{bad_members}
@@ -17,18 +18,20 @@ use Rattle.recovery.specs.replicas.Deliveries.{asked_and_answered}
 use Rattle.headline.specs.node_group.Group.{Group, moment_of_nodes}
 use Rattle.agreement.specs.cut_logs.Moments.{Moment, Moments}
 use Rattle.headline.specs.byte_world.Carried.{trace_of}
-use Rattle.lists.specs.Lists.{IsPrefixOf}
+use Rattle.lists.specs.Lists.{In, IsPrefixOf}
+use Rattle.lists.specs.Lists.In.{here, there}
 use Rattle.packet.specs.declared.packet.Packet.TheVariants as packets
 use Rattle.world_base.specs.node_core.Core.{rules}
 use Rattle.world_nodes.specs.Agreed.{AgreeOn}
 use Rattle.world_nodes.specs.RecoveryChecks.{whole_log_of}
 use Rattle.world_nodes.specs.Nodes.{NodesState}
+use Rattle.world_nodes.specs.RunningNodes.{is_running, numbered_node}
 use Rattle.world_pipes.specs.StandsFor.{CanGoOut}
 use Rattle.world_pipes.specs.declared.events.event.Event.{Event}
 use Rattle.world_pipes.specs.declared.events.event.Event.TheVariants as events
 use Rattle.world_pipes.specs.declared.clients.connection_slot.ConnectionSlot.{ConnectionSlot}
 use Rattle.world.specs.Opening.{next_connection_number}
-use Rattle.world.specs.Recovery.{CanEscape, HasEscaped, LeadsClientOut}
+use Rattle.world.specs.Recovery.{CanEscape, HasEscaped, LeadsClientOut, ServesIn}
 use Rattle.world.specs.Found.{port_at_node}
 use Rattle.world.specs.Trace.{AreReached, WorldLosesNothing}
 use Rattle.world_pipes.specs.clients.NodesGoOn.{NodesGo}
@@ -45,6 +48,7 @@ use Rattle.world.proofs.ClientsStand.{client_at}
 use Rattle.world.proofs.ConnackComes.{IsOnline, connack_comes}
 use Rattle.world.proofs.ConnectSpelled.{connect_spelled, keeps}
 use Rattle.world.proofs.LeavesOut.{HasLeft, leaves}
+use Rattle.world.proofs.LedOn.{IsLedAt, all_pass, follower_runs, led_runs, led_serves}
 use Rattle.world.proofs.LedWorld.{LedTo, lawful, led_to}
 use Rattle.world.proofs.NamesKept.{core_seen, named_there}
 use Rattle.world.proofs.NewPrimary.{IsNewPrimary, new_primary}
@@ -137,36 +141,58 @@ module _ (name : Client) (w : WorldState) (housed : SlotsAreValid (targets_of_cl
       written : AppendsAll [] h.up (packets.Connect (keeps possible.core.state.client left.before.state.keep_alive) ∷ [])
       written = subst (λ (c : List ℕ). AppendsAll [] h.up (packets.Connect (keeps c left.before.state.keep_alive) ∷ [])) left.client h.written
 
-      answered : AnsweredTo name h.i h.at number p.index h.core v.nodes last_event new
+      answered : AnsweredTo name h.i h.at number p.index h.core ballot v.nodes last_event new
       answered =
           let c = connect_spelled possible.core.state.client fits.client left.before.state.keep_alive h.up (left.keep_alive ∙ fits.keep_alive) written in
           answers_out name v h.i h.at number p.index h.core h.up (omega arith) h.newest h.housed h.first config b (l.pair.goes.between ++ moment_of_nodes g ∷ moments) l.pair.goes.came ballot os
           list h.awaits (long config g moments came w r.stands.nodes (first ∷ os) name possible) (keeps possible.core.state.client left.before.state.keep_alive) possible.session c.0 refl
           bytes c.1 (omega arith) p.apart p.out p.each last_event new (subst (λ (k : ℕ). EventsHappen (asking k) v new) sent_is run) none
 
-      served : (a : AnsweredTo name h.i h.at number p.index h.core v.nodes last_event new) → IsOnline name a.after new
+      served : (a : AnsweredTo name h.i h.at number p.index h.core ballot v.nodes last_event new) → IsOnline name a.after new
       served a =
           connack_comes name h.i h.at number (suc p.index) h.core a.is.up a.is.down a.is.is_open a.after a.is.newest (omega arith) h.stage h.unread a.is.begins a.is.first new
           (ap is_open h.stage) a.rest a.whole
 
-      goes : (a : AnsweredTo name h.i h.at number p.index h.core v.nodes last_event new) → NodesGo w.nodes new.nodes
+      goes : (a : AnsweredTo name h.i h.at number p.index h.core ballot v.nodes last_event new) → NodesGo w.nodes new.nodes
       goes a =
           let one : NodesGo w.nodes left.after.nodes = subst (λ (n : NodesState). NodesGo w.nodes n) (sym left.nodes) l.nodes in
           let two : NodesGo w.nodes v.nodes = nodes_go_join w.nodes left.after.nodes v.nodes one h.nodes in
           subst (λ (n : NodesState). NodesGo w.nodes n) (sym (served a).nodes) (nodes_go_join w.nodes v.nodes a.after.nodes two a.is.nodes)
 
-      active : (a : AnsweredTo name h.i h.at number p.index h.core v.nodes last_event new) → new.nodes.master.active ≡ w.nodes.master.given + 1
+      active : (a : AnsweredTo name h.i h.at number p.index h.core ballot v.nodes last_event new) → new.nodes.master.active ≡ w.nodes.master.given + 1
       active a =
           ap (λ (n : NodesState). n.master.active) (served a).nodes
           ∙ ap (λ (x : MasterState). x.active) (a.is.master ∙ sym h.awaits.seen.master)
           ∙ l.pair.led.active
           ∙ ap (λ (x : MasterState). x.given + 1) r.stands.nodes.master
 
-      members_are : (a : AnsweredTo name h.i h.at number p.index h.core v.nodes last_event new) → new.nodes.master.members ≡ first ∷ os
+      members_are : (a : AnsweredTo name h.i h.at number p.index h.core ballot v.nodes last_event new) → new.nodes.master.members ≡ first ∷ os
       members_are a =
           ap (λ (n : NodesState). n.master.members) (served a).nodes
           ∙ ap (λ (x : MasterState). x.members) (a.is.master ∙ sym h.awaits.seen.master)
           ∙ l.pair.led.members
+
+      led : (a : AnsweredTo name h.i h.at number p.index h.core ballot v.nodes last_event new) → IsLedAt ballot p.index new.nodes
+      led a = subst (IsLedAt ballot p.index) (sym (served a).nodes) a.is.led
+
+      live : (a : AnsweredTo name h.i h.at number p.index h.core ballot v.nodes last_event new) → list_all (is_running new.nodes.nodes) (first ∷ os) ≡ true
+      live a = all_pass (is_running new.nodes.nodes) (first ∷ os) by
+        where
+          by : (m : ℕ) → In m (first ∷ os) → is_running new.nodes.nodes m ≡ true
+          by m here = subst (λ (k : ℕ). is_running new.nodes.nodes k ≡ true) (sym p.number) (led_runs ballot p.index new.nodes (led a))
+          by m (there i) =
+              subst (λ (n : NodesState). is_running n.nodes m ≡ true) (sym (served a).nodes)
+              (a.is.run m (follower_runs b v.nodes h.awaits.seen ballot log m (p.each m i)))
+
+      primary : (a : AnsweredTo name h.i h.at number p.index h.core ballot v.nodes last_event new) → ServesIn (w.nodes.master.given + 1) first new.nodes
+      primary a =
+          let l_end = led a in
+          record {
+            node = l_end.node;
+            numbered = ap (numbered_node new.nodes.nodes) p.number ∙ l_end.stands;
+            joined = l_end.leads.joined ∙ ap (λ (x : MasterState). x.given + 1) r.stands.nodes.master;
+            active = led_serves ballot p.index new.nodes l_end;
+          }
 
       agreed : NodesGo w.nodes new.nodes → (before after : List Command) → AgreeOn w.nodes before → AgreeOn new.nodes after → IsPrefixOf before after
       agreed go before after x y =
@@ -179,7 +205,17 @@ module _ (name : Client) (w : WorldState) (housed : SlotsAreValid (targets_of_cl
       escaped =
           let a = answered in
           let z = served a in
-          record { active = active a; formed = members_are a; agreed = agreed (goes a); core = z.core; client = z.client; online = z.online; present = z.present }
+          record {
+            active = active a;
+            formed = members_are a;
+            live = live a;
+            primary = primary a;
+            agreed = agreed (goes a);
+            core = z.core;
+            client = z.client;
+            online = z.online;
+            present = z.present;
+          }
 
     opened : HasEscaped (first ∷ os) name w new
     opened =

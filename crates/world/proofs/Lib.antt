@@ -41,6 +41,8 @@ mod ConnectSpelled
 mod NewestFound
 mod LeavesOut
 mod OpensOut
+mod RunsOn
+mod LedOn
 mod PutsFirst
 mod AnswersOut
 mod AsksOut

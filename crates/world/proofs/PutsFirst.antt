@@ -1,6 +1,6 @@
 -- The primary puts the CONNACK out first, and it is in transit down: at once, or with the last
 -- answer of the others.
-use Rattle.std.proofs.Common.{◌≡◌, ◌<◌, ◌+◌, ◌*◌, ℕ, zero, suc, Bool, true, List, [], ◌∷◌, ◌++◌, Option, Some, None, slice_get, refl, sym, ap, ◌∙◌, subst, append_assoc, arith}
+use Rattle.std.proofs.Common.{◌≡◌, ◌<◌, ◌+◌, ◌*◌, ℕ, zero, suc, Bool, true, List, [], ◌∷◌, ◌++◌, Option, Some, None, length, slice_get, refl, sym, ap, ◌∙◌, subst, append_assoc, arith}
 use Rattle.std.specs.List.{position}
 use Rattle.std.proofs.lemmas.Option.{none-some, same_Some}
 use Rattle.ballot_base.specs.declared.message.Message.{Message}
@@ -36,6 +36,7 @@ use Rattle.world.specs.World.{WorldState}
 use Rattle.world.proofs.DeliversOn.{AtNode, at_node}
 use Rattle.world.proofs.ExactRuns.{first_done}
 use Rattle.world.proofs.GroupGoes.{with_nodes}
+use Rattle.world.proofs.LedOn.{IsLedAt, RunOn, come_runs, led_handed, led_held}
 use Rattle.world.proofs.NamesKept.{names_seen, position_kept}
 use Rattle.world.proofs.NewestFound.{running_at}
 use Rattle.world_pipes.proofs.of_clients.NodesGoOn.{nodes_go_join}
@@ -44,7 +45,7 @@ use Rattle.world.proofs.StandsOn.{IsNewest, own_gathered}
 use Rattle.world.proofs.WaitsOn.{newest_with}
 
 -- the CONNACK comes first of what is in transit down on a client's newest connection
-pub record IsAnswered (name : List ℕ) (i at number place : ℕ) (core : Core) (old after : NodesState) (w : WorldState) : Type 0 where
+pub record IsAnswered (name : List ℕ) (i at number place : ℕ) (core : Core) (ballot : ℕ) (old after : NodesState) (w : WorldState) : Type 0 where
   pub up : List ℕ
   pub down : List ℕ
   pub is_open : Bool
@@ -53,11 +54,13 @@ pub record IsAnswered (name : List ℕ) (i at number place : ℕ) (core : Core) 
   pub first : position (is_named name) w.clients ≡ Some i
   pub nodes : NodesGo old after
   pub master : after.master ≡ old.master
+  pub run : RunOn old after
+  pub led : IsLedAt ballot place after
 
 -- .. in a world from which a run continues
-pub record AnsweredTo (name : List ℕ) (i at number place : ℕ) (core : Core) (old : NodesState) (more : List Event) (new : WorldState) : Type 0 where
+pub record AnsweredTo (name : List ℕ) (i at number place : ℕ) (core : Core) (ballot : ℕ) (old : NodesState) (more : List Event) (new : WorldState) : Type 0 where
   pub after : WorldState
-  pub is : IsAnswered name i at number place core old after.nodes after
+  pub is : IsAnswered name i at number place core ballot old after.nodes after
   pub rest : EventsHappen more after new
   pub whole : WorldLosesNothing after new
 
@@ -69,12 +72,12 @@ master_stays n new (hands at node port there more) = master_stays _ new more
 module _ (name : List ℕ) (i at number place : ℕ) (core : Core) (up : List ℕ) (w after : WorldState) (node : CountedCore) (positive : 0 < number)
     (stands : slice_get w.nodes.nodes place ≡ Some node) (puts : PutsOutFirst (port_at_node number) (spelling session_present) node.core)
     (gathers : Gathers true (suc place) w after) (housed : SlotsAreValid (targets_of_clients w.clients) w.connections) (s : IsNewest i at number (suc place) core up [] true w)
-    (first : position (is_named name) w.clients ≡ Some i) where
+    (first : position (is_named name) w.clients ≡ Some i) (ballot : ℕ) (led : IsLedAt ballot place w.nodes) where
   passes : Passes [] w after
   passes = gathers_passes (suc place) w after gathers housed
 
-  pub put_first : (old : NodesState) → NodesGo old after.nodes → w.nodes.master ≡ old.master → IsAnswered name i at number place core old after.nodes after
-  put_first old goes same =
+  pub put_first : (old : NodesState) → NodesGo old after.nodes → w.nodes.master ≡ old.master → RunOn old after.nodes → IsAnswered name i at number place core ballot old after.nodes after
+  put_first old goes same run =
       record {
         up = up;
         down = bytes_put_out (port_at_node number) (numbered_node w.nodes.nodes (suc place));
@@ -85,6 +88,8 @@ module _ (name : List ℕ) (i at number place : ℕ) (core : Core) (up : List �
         first = position_kept name after.clients w.clients (names_seen after.clients w.clients passes.clients) ∙ first;
         nodes = goes;
         master = master_stays w.nodes after.nodes passes.come ∙ same;
+        run = run;
+        led = led_handed ballot place w.nodes after.nodes passes.come led;
       }
 
 -- ---- the numbers of the messages, the last one apart
@@ -108,15 +113,16 @@ last_apart sent front others one =
 -- ---- the last answer comes
 
 -- all messages but the last came, and the connection waits still
-pub record BeforeLast (ks : List ℕ) (i at number place : ℕ) (core : Core) (up : List ℕ) (index : ℕ) (more : List Event) (old new : WorldState) : Type 0 where
+pub record BeforeLast (ks : List ℕ) (i at number place : ℕ) (core : Core) (up : List ℕ) (index ballot : ℕ) (more : List Event) (old new : WorldState) : Type 0 where
   pub mid : WorldState
   pub passes : Passes ks old mid
   pub newest : IsNewest i at number (suc place) core up [] true mid
+  pub led : IsLedAt ballot place mid.nodes
   pub rest : EventsHappen (events.Deliver index ∷ more) mid new
   pub whole : WorldLosesNothing mid new
 
 module _ (name : List ℕ) (ks : List ℕ) (i at number place : ℕ) (core : Core) (up : List ℕ) (index last ballot : ℕ) (log : List Command) (more : List Event) (w new : WorldState)
-    (positive : 0 < number) (b : BeforeLast ks i at number place core up index more w new) (p : PutsOutAtLast place index (port_at_node number) (last_answer last ballot log) b.mid.nodes)
+    (positive : 0 < number) (b : BeforeLast ks i at number place core up index ballot more w new) (p : PutsOutAtLast place index (port_at_node number) (last_answer last ballot log) b.mid.nodes)
     (first : position (is_named name) w.clients ≡ Some i) where
   abbrev message : Message Command
   message = last_answer last ballot log
@@ -128,9 +134,9 @@ module _ (name : List ℕ) (ks : List ℕ) (i at number place : ℕ) (core : Cor
       let nobody : running b.mid.nodes.nodes (suc place) ≡ None = subst (λ (o : Option (ℕ × Message Command)). ComesToNobody o b.mid.nodes) here none in
       none-some p.node (sym nobody ∙ running_at place b.mid.nodes.nodes p.node p.stands p.runs)
 
-  by_node : (after : WorldState) → AtNode index place message b.mid after → (old : NodesState) → NodesGo old b.mid.nodes → b.mid.nodes.master ≡ old.master →
-      IsAnswered name i at number place core old after.nodes after
-  by_node after n old goes same =
+  by_node : (after : WorldState) → AtNode index place message b.mid after → (old : NodesState) → NodesGo old b.mid.nodes → b.mid.nodes.master ≡ old.master → RunOn old b.mid.nodes →
+      IsAnswered name i at number place core ballot old after.nodes after
+  by_node after n old goes same run =
       let turned : CountedCore = record n.node { core = (node_step (Peer message) n.node.core).core } in
       let acted : NodesState = after_node_call place n.node (takes (Peer message)) b.mid.nodes in
       put_first name i at number place core up (with_nodes acted b.mid) after turned positive (get_set b.mid.nodes.nodes place n.node turned n.there)
@@ -138,14 +144,16 @@ module _ (name : List ℕ) (ks : List ℕ) (i at number place : ℕ) (core : Cor
       (same_Some p.node n.node (sym p.stands ∙ n.there)) p.puts)
       n.gathers b.passes.housed (newest_with i at number (suc place) core up [] true b.mid acted b.newest)
       (position_kept name b.mid.clients w.clients (names_seen b.mid.clients w.clients b.passes.clients) ∙ first)
+      ballot (led_held ballot place b.mid.nodes n.node last ballot (length log + 1) n.there b.led)
       old (nodes_go_join old b.mid.nodes after.nodes goes n.passes.nodes) same
+      (λ m e. come_runs b.mid.nodes after.nodes (index ∷ []) n.passes.come m (run m e))
 
-  pub answers_last : (old : NodesState) → NodesGo old b.mid.nodes → b.mid.nodes.master ≡ old.master → AnsweredTo name i at number place core old more new
-  answers_last old goes same =
+  pub answers_last : (old : NodesState) → NodesGo old b.mid.nodes → b.mid.nodes.master ≡ old.master → RunOn old b.mid.nodes → AnsweredTo name i at number place core ballot old more new
+  answers_last old goes same run =
       let f = first_done (events.Deliver index) more b.mid new b.rest b.whole cannot in
       record {
         after = f.after;
-        is = by_node f.after (at_node index place message b.mid f.after p.comes f.does b.passes.housed) old goes same;
+        is = by_node f.after (at_node index place message b.mid f.after p.comes f.does b.passes.housed) old goes same run;
         rest = f.rest;
         whole = f.whole;
       }

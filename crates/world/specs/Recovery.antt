@@ -12,8 +12,9 @@ use Rattle.broker_spec.specs.Sessions.{clean_session_of}
 use Rattle.broker_spec.specs.Place.{Client}
 use Rattle.client.specs.Core.{Core}
 use Rattle.client_base.specs.State.{is_online}
-use Rattle.world_base.specs.node_core.Core.{CountedCore}
+use Rattle.world_base.specs.node_core.Core.{CountedCore, serves}
 use Rattle.world_nodes.specs.Agreed.{AgreeOn}
+use Rattle.world_nodes.specs.Nodes.{NodesState}
 use Rattle.world_nodes.specs.RecoveryChecks.{whole_log_of}
 use Rattle.world_nodes.specs.RunningNodes.{is_running, numbered_node}
 use Rattle.world_pipes.specs.declared.events.event.Event.{Event}
@@ -54,12 +55,21 @@ pub record CanEscape (members : List ℕ) (name : Client) (world : WorldState) :
 
 -- ---- what it leads to
 
--- The ballot that was to be assigned next is active, and has these members. What was agreed before
--- is a prefix of what is agreed now. The client is online, and its last CONNACK said that its
--- session is present.
+-- the node of this number has joined this ballot, and serves clients as its active primary
+pub record ServesIn (ballot number : ℕ) (nodes : NodesState) : Type 0 where
+  pub node : CountedCore
+  pub numbered : numbered_node nodes.nodes number ≡ Some node
+  pub joined : node.core.replica.state.joined ≡ ballot
+  pub active : serves node.core ≡ true
+
+-- The ballot that was to be assigned next is active, and has these members. Each of them runs, and
+-- the first of them serves clients as its primary. What was agreed before is a prefix of what is
+-- agreed now. The client is online, and its last CONNACK said that its session is present.
 pub record HasEscaped (members : List ℕ) (name : Client) (old new : WorldState) : Type 0 where
   pub active : new.nodes.master.active ≡ old.nodes.master.given + 1
   pub formed : new.nodes.master.members ≡ members
+  pub live : list_all (is_running new.nodes.nodes) members ≡ true
+  pub primary : ServesIn (old.nodes.master.given + 1) (configuration_of members).primary new.nodes
   pub agreed : (before after : List Command) → AgreeOn old.nodes before → AgreeOn new.nodes after →
       IsPrefixOf before after
   pub core : Core

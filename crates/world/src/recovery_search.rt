@@ -30,8 +30,8 @@ impl World {
     /// online with its session present. Changes nothing.
     ///
     /// After [`World::run`] with these events, if no loss is counted, the ballot that is assigned
-    /// next is active and has these members, and what was agreed before is a prefix of what is
-    /// agreed. That its primary serves is in no clause.
+    /// next is active and has these members. Each of them runs, and the first serves clients as the
+    /// ballot's primary. What was agreed before is a prefix of what is agreed.
     ///
     /// Fails with [`EscapeError::Idle`] if there is no recovery:
     ///
