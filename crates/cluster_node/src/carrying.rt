@@ -3,8 +3,8 @@
 // The attendant of the node is the one thread that knows the node and the desk. It brings to the
 // node what came, and takes for each link what the node's steps gave, once nothing urgent lies on
 // the desk for that link: so what waits is bounded as at the node's routes. What links do wakes it
-// at once. What the node gives does not, so it looks for that after a tenth of a millisecond, and
-// at longest every two once nothing has been there for a while.
+// at once, and so does what the node gives for them, but for a Commit. That comes after something
+// was carried, so the thread rests only briefly for a while then.
 
 ghost use Rattle.std.specs.Prelude.{◌≡◌, IfSome};
 ghost use Rattle.lists.specs.Lists.{Each};
@@ -18,11 +18,19 @@ use links::link_queue::Waiting;
 use post::{LinkedNode, Route};
 use run_history::{RunNaming, SeenRun};
 use server::LinkAttendant;
-use std::sync::Wait;
+use std::alloc::Global;
+use std::sync::{Arc, Wait};
+use std::thread::Parker;
 use std::time::Duration;
 
-/// How long it rests, in microseconds: after something was carried, and at most.
-const RESTS_MICROS: (u64, u64) = (100, 2000);
+/// How long it rests at most after something was carried, in milliseconds.
+const BRIEF_MILLIS: u64 = 2;
+
+/// How many such rests follow, if nothing more is carried.
+const BRIEF_RESTS: u32 = 10;
+
+/// How long it rests at most then, in milliseconds: so old the status may be that links report.
+const LONG_MILLIS: u64 = 50;
 
 /// Carries for a node while it is served.
 #[derive(Drop)]
@@ -40,6 +48,10 @@ impl<'a, R: AllocGlobal + Wait + Eprint> LinkAttendant for Carrier<'a, R> {
     // reader and the writer of each link.
     ghost attends = { λ _ _ _ _. Unit {0} };
 
+    fn parker(&self) -> &Arc<Parker, Global> {
+        self.desk.carrier()
+    }
+
     fn attend<H: RunNaming + Send + Sync>(self, node: &LinkedNode<H>, _seen: &mut SeenRun<H>) {
         let Carrier { rt, desk } = self;
         carry_all(rt, desk, node);
@@ -52,18 +64,17 @@ fn carry_all<H: RunNaming, R: AllocGlobal + Wait + Eprint>(
     desk: &LinkDesk,
     node: &LinkedNode<H>,
 ) {
-    let (first, most) = RESTS_MICROS;
-    let mut rest = first;
+    let mut brief = BRIEF_RESTS;
     for _ in rt.forever() {
         if desk.is_closing() {
             return;
         }
-        rest = if carry(rt, desk, node) {
-            first
-        } else {
-            rest.saturating_mul(2).min(most)
-        };
-        desk.rest(rt, Duration::from_micros(rest));
+        if carry(rt, desk, node) {
+            brief = BRIEF_RESTS;
+        }
+        let millis = if brief > 0 { BRIEF_MILLIS } else { LONG_MILLIS };
+        brief = brief.saturating_sub(1);
+        desk.rest(rt, Duration::from_millis(millis));
     }
 }
 

@@ -17,7 +17,7 @@ use links::link_queue::Waiting;
 use machine::Memory;
 use std::alloc::Global;
 use std::sync::atomic::{AtomicBool, Ordering};
-use std::sync::{Mutex, Wait};
+use std::sync::{Arc, Mutex, Wait};
 use std::thread::Parker;
 use std::time::Duration;
 
@@ -56,8 +56,8 @@ pub struct LinkDesk {
     incoming: Mutex<Incoming>,
     // The status that the node showed last; none before the first.
     status: Mutex<Option<Status>>,
-    // Wakes the thread that carries for the node.
-    carrier: Parker,
+    // Wakes the thread that carries for the node. The node wakes it, too.
+    carrier: Arc<Parker, Global>,
     // True once the links end.
     closing: AtomicBool,
 }
@@ -71,7 +71,7 @@ impl LinkDesk {
             master: Tray::new(alloc),
             incoming: Mutex::new(Incoming::new(alloc)),
             status: Mutex::new(None),
-            carrier: Parker::new(),
+            carrier: Arc::new(alloc, Parker::new())?,
             closing: AtomicBool::new(false),
         })
     }
@@ -187,6 +187,11 @@ impl LinkDesk {
 
     // ---- for the thread that carries for the node
 
+    /// Returns what ends [`LinkDesk::rest`] at once, or the next one if none lasts.
+    pub fn carrier(&self) -> &Arc<Parker, Global> {
+        &self.carrier
+    }
+
     /// Returns what the node is to be told of a link, if there is anything. It is told once.
     pub fn news<R: Wait>(&self, rt: &R, far: FarEnd) -> Option<News> {
         self.tray(far)?.standing.lock(rt).news()
@@ -228,7 +233,7 @@ impl LinkDesk {
     }
 
     /// Sleeps until a link brought something, came up, broke or took what was here, until the links
-    /// end, or until `time` has passed.
+    /// end or [`LinkDesk::carrier`] is unparked, or until `time` has passed.
     pub fn rest<R: Wait>(&self, rt: &R, time: Duration) {
         self.carrier.park_timeout(rt, time);
     }

@@ -28,12 +28,13 @@ abbrev pub rows_of : ℕ → List (Option ℕ)
 rows_of zero = []
 rows_of (suc rows) = rows_of rows ++ Some rows ∷ []
 
--- what waits for a link, the number of the node to which the link leads now, if it ever came up, and
--- whether the link's writer is to be woken for what waits
+-- what waits for a link, the number of the node to which the link leads now, if it ever came up,
+-- whether who takes is to be woken for what waits, and whether it was told so
 pub record RouteView : Type 0 where
   pub leads : Option ℕ
   pub queue : QueueView Command
   pub urgent : Bool
+  pub told : Bool
 
 -- nothing waits for the link, which never came up
 abbrev pub unused_route : RouteView
@@ -41,6 +42,7 @@ unused_route = record {
   leads = None;
   queue = record { waiting = []; logs = []; dropped = 0 };
   urgent = false;
+  told = false;
 }
 
 -- the link broke: the logs in transit are forgotten
@@ -56,7 +58,7 @@ emptied queue = record queue { waiting = []; logs = [] }
 abbrev pub met : Bool → ℕ → RouteView → RouteView
 met true number route = record route { queue = forgotten route.queue }
 met _ number route =
-    record { leads = Some number; queue = emptied route.queue; urgent = false }
+    record { leads = Some number; queue = emptied route.queue; urgent = false; told = false }
 
 -- Each of these messages was sent to the node of this number. Where there is none, nothing waits.
 abbrev pub AreSentTo : List (ℕ × Message Command) → Option ℕ → List (Waiting Command) → Type 0

@@ -81,7 +81,8 @@ impl<'a, H: RunNaming> Neighbours<'a, H> {
         }
     }
 
-    /// Wakes the threads that write on links, where something urgent waits.
+    /// Wakes the thread that carries to the links, if something urgent waits of which it was not
+    /// told.
     pub fn wake_links<R: Wait>(&self, rt: &R) {
         match self {
             Neighbours::InProgram(_) => {}

@@ -2,6 +2,9 @@
 
 use post::{Cluster, LinkedNode};
 use run_history::{RunNaming, SeenRun};
+use std::alloc::Global;
+use std::sync::Arc;
+use std::thread::Parker;
 
 /// What runs while nodes are served, and gives them orders.
 pub trait Attendant: Drop {
@@ -36,6 +39,9 @@ pub trait LinkAttendant: Drop {
 
     // What it may return, and have seen of the run's log, if it ran with the node of this number.
     ghost attends: { Self → ℕ → List RunEvent → Self.Answer → Type 0 };
+
+    /// Returns where its thread sleeps. It is woken once something urgent waits for a link.
+    fn parker(&self) -> &Arc<Parker, Global>;
 
     /// Runs with this node. When it returns, the node ends. `seen` is the log of the run as it
     /// opened; the run that is returned at the end begins with what it is extended to.

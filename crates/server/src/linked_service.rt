@@ -1,7 +1,7 @@
 // Serving one node whose other nodes and master are in other programs.
 //
-// It serves as the nodes of `serve_while` do; what its steps give for others waits at routes, and
-// what links bring is on record as events of its run. The numbers below its own are opened with it:
+// It serves as the nodes of `serve_while` do; what its steps give for others waits at routes, for
+// which the attendant is woken, and what links bring is on record as events of its run. The numbers below its own are opened with it:
 // their nodes only stand there.
 
 ghost use Rattle.std.specs.Prelude.{◌≡◌, ◌≤◌, true, IfOk, OnOk};
@@ -101,7 +101,8 @@ where
     ensures run { IfOk result (λ served. IsLinkedRun listener.now.number served.1) }
 {
     let (links, maker, log) = opened.named_linked::<H>();
-    let node = LinkedNode::new(alloc, listener.number, config, rows, links, &log)?;
+    let carrier = attendant.parker();
+    let node = LinkedNode::new(alloc, listener.number, config, rows, links, &log, carrier)?;
     let start = begin(rt, 1)?;
     let contexts = NodeContexts::of_links(&node, slice::from_ref(listener), start);
     let attendant = AtLinks {

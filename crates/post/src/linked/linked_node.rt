@@ -3,7 +3,9 @@
 // The order of locks is that of `Cluster`, with a route in place of an outbox of another node, and
 // what links bring in place of the master: it is locked while no other lock is held. What the
 // node's steps gave is queued while its state is locked, so messages keep the order of the steps.
-// Nothing is written there, and nobody is woken.
+// Nothing is written there, and nobody is woken. The thread that carries to the links is woken once
+// that lock is released. It looks at all routes before it sleeps, and a wake-up that comes before
+// the sleep ends that at once, so none is lost.
 
 ghost use Rattle.std.specs.Prelude.{◌≡◌, IfOk, IfSome, None, Some, is_some, nat_lt};
 ghost use Rattle.post.specs.Linked.{LinkedView, rows_of};
@@ -21,7 +23,8 @@ use packet_base::ClientId;
 use run_history::{LinksOnRecord, RunNaming, SeenRun, SentMessage};
 use std::alloc::Global;
 use std::marker::Model;
-use std::sync::{Mutex, Wait};
+use std::sync::{Arc, Mutex, Wait};
+use std::thread::Parker;
 
 /// A node whose other nodes and master are in other programs: the node as its links see it, a route
 /// to the node of each row of the cluster's table, and one to the master. What waits is under
@@ -34,6 +37,8 @@ pub struct LinkedNode<H: RunNaming> {
     // In the order of the table.
     rows: Vec<Route<H>>,
     master: Route<H>,
+    // Wakes the thread that carries to the links.
+    carrier: Arc<Parker, Global>,
     // How much longer it hurries.
     hurry: Mutex<Hurry>,
 }
@@ -52,8 +57,8 @@ impl<H: RunNaming> Model for LinkedNode<H> {
 
 impl<H: RunNaming> LinkedNode<H> {
     /// Returns the node of this number, which opens in ballot 1 of this configuration, with a route
-    /// to each of so many rows. No link has come up. `opening` is the run's log as it opened. The
-    /// only error is that memory ran out.
+    /// to each of so many rows. No link has come up. `opening` is the run's log as it opened, and
+    /// `carrier` wakes the thread that carries to the links. The only error is that memory ran out.
     pub fn new(
         alloc: Global,
         number: u8,
@@ -61,6 +66,7 @@ impl<H: RunNaming> LinkedNode<H> {
         rows: usize,
         links: LinksOnRecord<H>,
         opening: &SeenRun<H>,
+        carrier: &Arc<Parker, Global>,
     ) -> Result<LinkedNode<H>, Memory>
         ensures { IfOk result (λ node. node ≡ record { number = number; rows = rows }) }
     {
@@ -71,6 +77,7 @@ impl<H: RunNaming> LinkedNode<H> {
             links: Mutex::new(links),
             rows,
             master,
+            carrier: Arc::try_clone(carrier)?,
             hurry: Mutex::new(Hurry::ended()),
         })
     }
@@ -177,18 +184,22 @@ impl<H: RunNaming> LinkedNode<H> {
         queue_all(rt, &mut NodeAndRoutes { node: self }, given);
     }
 
-    /// Wakes the node's own thread and the threads that write on links, where something urgent
-    /// waits.
+    /// Wakes the node's own thread and the thread that carries to the links, if something urgent
+    /// waits for them.
     pub fn wake_urgent<R: Wait>(&self, rt: &R) {
         self.peer.wake_if_urgent(rt);
         self.wake_links(rt);
     }
 
-    /// Wakes the threads that write on links, where something urgent waits.
+    /// Wakes the thread that carries to the links, if something urgent waits of which it was not
+    /// told. No lock may be held, since that may be a call of the system.
     pub(crate) fn wake_links<R: Wait>(&self, rt: &R) {
-        self.master.wake_if_urgent(rt);
+        let mut is_new = self.master.tell(rt);
         for route in &self.rows {
-            route.wake_if_urgent(rt);
+            is_new |= route.tell(rt);
+        }
+        if is_new {
+            self.carrier.unpark();
         }
     }
 

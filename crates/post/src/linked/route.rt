@@ -1,9 +1,10 @@
 // The way to a node of another program, or to the master.
 //
 // All that waits there is under one lock, held for one call: the thread that does the node's step
-// only pushes, and waits for no socket. The thread that writes takes all at once. It says the
-// number that its connection was made with, so what was sent to one life of a node is never written
-// to another.
+// only pushes, and waits for no socket. The thread that carries to the links takes all at once. It
+// says the number that the connection was made with, so what was sent to one life of a node is never
+// written to another. It is told once that something urgent waits, and not again before it takes:
+// while a link is down or slow, nobody is woken for what cannot leave.
 
 ghost use Rattle.std.specs.Prelude.{◌≡◌, IfSome};
 ghost use Rattle.lists.specs.Lists.{Each};
@@ -11,23 +12,20 @@ ghost use Rattle.post.specs.Linked.{IsSentTo};
 
 use crate::addressed_message::AddressedMessage;
 use crate::linked::route_queue::RouteQueue;
-use crate::outbox::Waker;
 use broker_spec::Command;
 use links::link_queue::{LogName, Waiting};
 use run_history::{RunNaming, SeenRun};
 use std::alloc::Global;
 use std::marker::Model;
 use std::sync::{Mutex, Wait};
-use std::time::Duration;
 
-/// What waits for the node of a row, or for the master, and the waker of the thread that writes it
-/// on a link. All of it is under locks, so no clause of a call says what waits.
+/// What waits for the node of a row, or for the master. It is under a lock, so no clause of a call
+/// says what waits.
 #[derive(Drop)]
 pub struct Route<H: RunNaming> {
     // The row of the table, counted from 0; none for the master.
     row: Option<usize>,
     queue: Mutex<RouteQueue<H>>,
-    waker: Waker,
 }
 
 impl<H: RunNaming> Model for Route<H> {
@@ -47,7 +45,6 @@ impl<H: RunNaming> Route<H> {
         Route {
             row,
             queue: Mutex::new(RouteQueue::new(alloc, opening)),
-            waker: Waker::new(),
         }
     }
 
@@ -96,32 +93,15 @@ impl<H: RunNaming> Route<H> {
         }
     }
 
-    /// Sleeps until a message waits for which the thread is to be woken, which all are but a
-    /// Commit, until [`Route::wake`] is called, or until `time` has passed. One thread at a time
-    /// sleeps here.
-    pub fn wait<R: Wait>(&self, rt: &R, time: Duration) {
-        self.waker.doze(rt);
-        if self.queue.lock(rt).is_urgent() {
-            return;
-        }
-        self.waker.sleep(rt, time);
-    }
-
-    /// Wakes the thread that sleeps in [`Route::wait`].
-    pub fn wake<R: Wait>(&self, rt: &R) {
-        self.waker.wake(rt);
-    }
-
     /// Returns how many messages were dropped (saturates at 2^64 - 1).
     pub fn dropped<R: Wait>(&self, rt: &R) -> u64 {
         self.queue.lock(rt).dropped()
     }
 
-    /// Wakes the thread that sleeps in [`Route::wait`], if an urgent message waits.
-    pub(crate) fn wake_if_urgent<R: Wait>(&self, rt: &R) {
-        if self.queue.lock(rt).is_urgent() {
-            self.waker.wake(rt);
-        }
+    /// Returns true if a message waits for which the thread that takes is to be woken, which all are
+    /// but a Commit, and no call told so since it took last.
+    pub(crate) fn tell<R: Wait>(&self, rt: &R) -> bool {
+        self.queue.lock(rt).tell()
     }
 
     /// Queues a message, if the link leads to its receiver; without room or memory it is lost, as

@@ -5,7 +5,7 @@
 // which the link leads. Whoever locks one compares that number. Messages are lost if there is no
 // room or memory; the protocol repeats them.
 
-ghost use Rattle.std.specs.Prelude.{◌≡◌, ◌≢◌, ◌↔◌, ◌||◌, Some, [], false, filter, IsTrue};
+ghost use Rattle.std.specs.Prelude.{◌≡◌, ◌≢◌, ◌↔◌, ◌&&◌, ◌||◌, Some, [], false, filter, not, IsTrue};
 ghost use Rattle.lists.specs.Lists.{Each};
 ghost use Rattle.links.specs.link_queue.Queues.{stays, with_message, without_message};
 ghost use Rattle.world_base.specs.declared.node_core.item.Item.TheVariants.{Peer};
@@ -28,8 +28,10 @@ pub(crate) struct RouteQueue<H: RunNaming> {
     queue: LinkQueue<Command>,
     // A prefix of the run's log, in which each message that waits was sent to that node.
     seen: SeenRun<H>,
-    // True if a message waits for which the link's writer is to be woken.
+    // True if a message waits for which the thread that takes is to be woken.
     is_urgent: bool,
+    // True if that was told since it took last.
+    is_told: bool,
 }
 
 impl<H: RunNaming> Model for RouteQueue<H> {
@@ -42,6 +44,7 @@ impl<H: RunNaming> Model for RouteQueue<H> {
       leads = route.leads;
       queue = route.queue;
       urgent = route.is_urgent;
+      told = route.is_told;
     } };
 
     ghost invariant = { λ route.
@@ -59,6 +62,7 @@ impl<H: RunNaming> RouteQueue<H> {
             queue: LinkQueue::new(alloc),
             seen: opening,
             is_urgent: false,
+            is_told: false,
         }
     }
 
@@ -69,11 +73,15 @@ impl<H: RunNaming> RouteQueue<H> {
         self.leads == Some(number)
     }
 
-    /// Returns true if a message waits for which the link's writer is to be woken.
-    pub(crate) fn is_urgent(&self) -> bool
-        ensures { result ≡ self.now.urgent }
+    /// Returns true if a message waits for which the thread that takes is to be woken, and no call
+    /// told so since it took last.
+    pub(crate) fn tell(&mut self) -> bool
+        ensures once { result ≡ (self.old.urgent && not self.old.told) }
+        ensures told { self.new ≡ record self.old { told = self.old.urgent || self.old.told } }
     {
-        self.is_urgent
+        let is_new = self.is_urgent && !self.is_told;
+        self.is_told = self.is_urgent || self.is_told;
+        is_new
     }
 
     /// Returns how many messages were dropped (saturates at 2^64 - 1).
@@ -116,6 +124,7 @@ impl<H: RunNaming> RouteQueue<H> {
             self.queue.clear();
             self.leads = Some(number);
             self.is_urgent = false;
+            self.is_told = false;
         }
     }
 
@@ -145,10 +154,12 @@ impl<H: RunNaming> RouteQueue<H> {
         ensures empty { self.new ≡ record self.old {
           queue = record self.old.queue { waiting = [] };
           urgent = false;
+          told = false;
         } }
     {
         self.seen.is_run();
         self.is_urgent = false;
+        self.is_told = false;
         self.queue.take(alloc)
     }
 }
