@@ -1,8 +1,8 @@
 // Serving one node whose other nodes and master are in other programs.
 //
 // It serves as the nodes of `serve_while` do; what its steps give for others waits at routes, for
-// which the attendant is woken, and what links bring is on record as events of its run. The numbers below its own are opened with it:
-// their nodes only stand there.
+// which the attendant is woken, and what links bring is on record as events of its run. The numbers
+// below its own are opened with it: their nodes only stand there.
 
 ghost use Rattle.std.specs.Prelude.{◌≡◌, ◌≤◌, true, IfOk, OnOk};
 ghost use Rattle.server.specs.Linked.{HasAttendedLinks, IsLinkedRun, alone};
