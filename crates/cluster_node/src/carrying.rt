@@ -4,13 +4,16 @@
 // node what came, and takes for each link what the node's steps gave, once nothing urgent lies on
 // the desk for that link: so what waits is bounded as at the node's routes. What links do wakes it
 // at once, and so does what the node gives for them, but for a Commit. That comes after something
-// was carried, so the thread rests only briefly for a while then.
+// was carried, so the thread rests only briefly for a while then. A command that came before its
+// turn, as after a link broke, is brought once those before it were.
 
 ghost use Rattle.std.specs.Prelude.{◌≡◌, IfSome};
 ghost use Rattle.lists.specs.Lists.{Each};
 ghost use Rattle.post.specs.Linked.{IsSentTo};
 ghost use Rattle.cluster_node.specs.Carrying.{row_of};
 
+use crate::early_appends::EarlyAppends;
+use ballot_base::{Message, Status};
 use broker_spec::Command;
 use link_threads::{FarEnd, LeftLog, LinkDesk};
 use links::Parcel;
@@ -64,12 +67,13 @@ fn carry_all<H: RunNaming, R: AllocGlobal + Wait + Eprint>(
     desk: &LinkDesk,
     node: &LinkedNode<H>,
 ) {
+    let mut early = EarlyAppends::new(rt.alloc());
     let mut brief = BRIEF_RESTS;
     for _ in rt.forever() {
         if desk.is_closing() {
             return;
         }
-        if carry(rt, desk, node) {
+        if carry(rt, desk, node, &mut early) {
             brief = BRIEF_RESTS;
         }
         let millis = if brief > 0 { BRIEF_MILLIS } else { LONG_MILLIS };
@@ -84,14 +88,15 @@ fn carry<H: RunNaming, R: AllocGlobal + Wait + Eprint>(
     rt: &R,
     desk: &LinkDesk,
     node: &LinkedNode<H>,
+    early: &mut EarlyAppends,
 ) -> bool {
-    desk.show(rt, node.status(rt));
+    let status = node.status(rt);
+    desk.show(rt, status);
     let (parcels, left) = desk.take_all(rt);
     let mut is_some = !parcels.is_empty() || !left.is_empty();
     is_some |= tell_all(rt, desk, node);
-    for parcel in parcels {
-        bring(rt, node, parcel);
-    }
+    bring_all(rt, node, early, status, parcels);
+    bring_due(rt, node, early, status);
     for log in left {
         release(rt, node, log);
     }
@@ -138,11 +143,58 @@ fn tell<H: RunNaming, R: Wait>(
     true
 }
 
+// Brings what came to the node, in order, but for what came too early.
+fn bring_all<H: RunNaming, R: Wait + Eprint>(
+    rt: &R,
+    node: &LinkedNode<H>,
+    early: &mut EarlyAppends,
+    status: Status,
+    parcels: Vec<Parcel>,
+) {
+    for parcel in parcels {
+        bring(rt, node, early, status, parcel);
+    }
+}
+
+// Brings to the node what came too early, and whose turn has come.
+fn bring_due<H: RunNaming, R: Wait>(
+    rt: &R,
+    node: &LinkedNode<H>,
+    early: &mut EarlyAppends,
+    status: Status,
+) {
+    for _ in 0..u64::MAX {
+        let Some(message) = early.take_due(status) else {
+            return;
+        };
+        node.bring(rt, message);
+    }
+}
+
+// Brings a message to the node, unless it came too early.
+fn bring_in_turn<H: RunNaming, R: Wait>(
+    rt: &R,
+    node: &LinkedNode<H>,
+    early: &mut EarlyAppends,
+    status: Status,
+    message: Message<Command>,
+) {
+    if let Some(message) = early.admit(status, message) {
+        node.bring(rt, message);
+    }
+}
+
 // Brings a parcel to the node. A Welcome says nothing new, and no Report comes this way. An order
 // for which there is no memory is lost, and said to be.
-fn bring<H: RunNaming, R: Wait + Eprint>(rt: &R, node: &LinkedNode<H>, parcel: Parcel) {
+fn bring<H: RunNaming, R: Wait + Eprint>(
+    rt: &R,
+    node: &LinkedNode<H>,
+    early: &mut EarlyAppends,
+    status: Status,
+    parcel: Parcel,
+) {
     match parcel {
-        Parcel::Message(message) => node.bring(rt, message),
+        Parcel::Message(message) => bring_in_turn(rt, node, early, status, message),
         Parcel::Expel(client) => {
             if node.expel(rt, &client).is_err() {
                 name_lost(rt, "expel");

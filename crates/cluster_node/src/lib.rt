@@ -3,6 +3,7 @@
 #![tactic(auto)]
 
 mod carrying;
+mod early_appends;
 mod node_error;
 mod node_runs;
 
